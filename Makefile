@@ -15,7 +15,7 @@ PYTHONDIR ?= $(shell packaging/pythondir.sh '$(PREFIX)')
 INSTALL ?= install
 LDCONFIG ?= /sbin/ldconfig
 
-# Rattle's command: the one on PATH, or `make RT=FILE`. Recipes run it in other folders.
+# Rattle's command: the one on PATH, or `make RT=FILE`. Recipes run it in other directories.
 RT ?= rt
 override RT := $(if $(findstring /,$(RT)),$(shell realpath -ms -- '$(RT)'),$(RT))
 
@@ -35,7 +35,7 @@ MODULE := $(addprefix lib/python/unifdef/,__init__.py __main__.py _library.py py
 PAGES := docs/PROVED.md
 
 .DELETE_ON_ERROR:
-# No file has the name of a target, but for the programs and what is in a folder.
+# No file has the name of a target, but for the programs and what is in a directory.
 .PHONY: $(filter-out unifdef unifdef-tree,$(shell sed -n 's/^\([a-z-]*\):.*/\1/p' Makefile))
 
 #= To use it
@@ -58,7 +58,7 @@ help:
 # Says clearly what isn't there. What is built is older than its sources in a copy that doesn't keep
 # their times.
 NO_KIT = Rattle's command $(RT) is not there: put it on PATH, or run make RT=FILE
-OLD_COPY = a copy of a built folder needs none if it keeps times (cp -a), nor does \
+OLD_COPY = a copy of a built directory needs none if it keeps times (cp -a), nor does \
 	make -o unifdef -o unifdef-tree install
 READ_ONLY = $(CURDIR) cannot be written: build in a copy of it
 FAIL = { printf 'make: %s\n' $(1) >&2; exit 1; }
@@ -86,8 +86,8 @@ native: $(SOURCES)
 	@RT='$(RT)' UNIFDEF_CPU='$(CPU)' tools/prove.py
 	cp $(CRATE)/out/unifdef_cli unifdef-native
 
-# The library for C. `rt doc` prints a page in the folder of the kit, which has the C functions that
-# allocate memory.
+# The library for C. `rt doc` prints a page in the directory of the kit, which has the C functions
+# that allocate memory.
 ## proves and builds lib/libunifdef.a and lib/libunifdef.so
 lib: lib/libunifdef.a
 
@@ -96,7 +96,7 @@ lib/libunifdef.a: $(SOURCES) lib/build.sh lib/unifdef.map CHANGELOG.md
 	@RT='$(RT)' tools/prove.py unifdef_c
 	lib/build.sh crates/unifdef_c/out/libunifdef_c.a "$$(dirname "$$($(RT) doc)")/c/liblibc_c.a"
 
-# into MODE FOLDER FILES: installs files into a folder.
+# into MODE DIRECTORY FILES: installs files into a directory.
 into = $(INSTALL) -d "$(DESTDIR)$(2)" && $(INSTALL) -m $(1) $(3) "$(DESTDIR)$(2)"
 COMPLETIONS := packaging/completions
 
@@ -115,9 +115,9 @@ install: unifdef unifdef-tree
 	done
 	@test -n "$(DESTDIR)" || packaging/warn.sh "$(BINDIR)"
 
-# gone FOLDER: removes a folder if nothing is in it.
+# gone DIRECTORY: removes a directory if nothing is in it.
 gone = [ ! -d "$(DESTDIR)$(1)" ] || rmdir "$(DESTDIR)$(1)" 2> /dev/null || true
-# rm FOLDER FILES: removes files of a folder.
+# rm DIRECTORY FILES: removes files of a directory.
 rm = rm -f $(foreach file,$(2),"$(DESTDIR)$(1)/$(file)")
 
 ## removes what make install installed
@@ -285,7 +285,7 @@ packages-test: unifdef unifdef-tree
 dist:
 	@packaging/dist.sh
 
-## makes the folder release with all that its page needs
+## makes the directory release with all that its page needs
 release: unifdef unifdef-tree lib
 	@$(TRIED) packaging/release.sh
 
@@ -298,7 +298,7 @@ pictures: unifdef
 #= To measure it
 
 ## measures speed (bench/README.md): the next four
-bench: bench-text bench-library bench-conditions bench-folders
+bench: bench-text bench-library bench-conditions bench-directories
 
 ## measures ./unifdef beside the released program
 bench-text: unifdef
@@ -314,8 +314,8 @@ bench-conditions: kit
 	bench/conditions.sh
 
 ## measures ./unifdef-tree over copies of the headers
-bench-folders: unifdef-tree
-	bench/folders.sh
+bench-directories: unifdef-tree
+	bench/directories.sh
 
 ## compares output over trees with the released program
 trees: unifdef

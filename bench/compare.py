@@ -1,9 +1,9 @@
 """Measures unifdef programs and `cat` in turns, and prints tables.
 
-README.md in this folder describes it.
+README.md in this directory describes it.
 
-compare.py WORK NAME=PROGRAM..: keeps texts and outputs in the folder WORK, and compares the others
-with the first program. The status is 1 if its memory isn't below MOST_KIB, on DEEP below
+compare.py WORK NAME=PROGRAM..: keeps texts and outputs in the directory WORK, and compares the
+others with the first program. The status is 1 if its memory isn't below MOST_KIB, on DEEP below
 MOST_DEEP_KIB.
 """
 

@@ -1,10 +1,10 @@
 #!/usr/bin/env bash
-# Measures the speed of conditions, beside a search of the same bytes. README.md in this folder
+# Measures the speed of conditions, beside a search of the same bytes. README.md in this directory
 # describes it.
 #
 # BENCH_LINES: the number of lines. BENCH_PASSES: the number of passes over them. BENCH_RUNS: the
-# number of runs of each program. BENCH_HEADERS: the folder of the headers. BENCH_SYMBOLS: numbers
-# of defined symbols, with a row for each.
+# number of runs of each program. BENCH_HEADERS: the directory of the headers. BENCH_SYMBOLS:
+# numbers of defined symbols, with a row for each.
 set -eu -o pipefail
 export LC_ALL=C
 here=$(cd "$(dirname "$0")" && pwd)

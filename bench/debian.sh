@@ -1,9 +1,9 @@
 #!/usr/bin/env bash
 # Package lists and sources of Debian, for the scripts that read this file.
-# shellcheck disable=SC2154 # They set `work`, a temporary folder.
+# shellcheck disable=SC2154 # They set `work`, a temporary directory.
 
 # lists_of KIND RELEASE: sets `apt` to an apt-get with package lists of its own, in the temporary
-# folder: those of packages (deb) or of sources (deb-src) of a release of Debian.
+# directory: those of packages (deb) or of sources (deb-src) of a release of Debian.
 lists_of() {
   local key=/usr/share/keyrings/debian-archive-keyring.gpg own=$work/$2-$1
   apt="apt-get -o Dir::Etc::SourceList=$own/list -o Dir::Etc::SourceParts=/dev/null -o Dir::State::Lists=$own/lists"
@@ -13,7 +13,7 @@ lists_of() {
     $apt update && touch "$own/updated"; }
 }
 
-# source_of PACKAGE [OPTION..]: fetches the source of a Debian package into the temporary folder.
+# source_of PACKAGE [OPTION..]: fetches the source of a Debian package into the temporary directory.
 source_of() {
   local apt
   lists_of deb-src "$(sed -n 's/^VERSION_CODENAME=//p' /etc/os-release)" &&

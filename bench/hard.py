@@ -1,6 +1,6 @@
 """Counts the instructions of a program on texts and options that are hard to take quickly.
 
-README.md in this folder describes it.
+README.md in this directory describes it.
 
 hard.py PROGRAM: prints a table, by callgrind. Nothing may take more than in proportion to its size,
 so the status is 1 if one of the things of a row takes more than its limit.

@@ -1,5 +1,5 @@
 #!/usr/bin/env bash
-# Compares the tool with the reference on hostile texts. README.md in this folder describes it.
+# Compares the tool with the reference on hostile texts. README.md in this directory describes it.
 #
 # N: the number of cases. SEED: the first seed. JOBS: the number of processes. CHECKS: `options` to
 # check what users of options may rely on, in place of the reference.

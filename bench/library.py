@@ -1,6 +1,6 @@
 """Measures the library's calls on a text in memory beside the program on the same text in a file.
 
-README.md in this folder describes it.
+README.md in this directory describes it.
 
 library.py PROGRAM LIBRARY: prints a table of processor time, user and system together. The text is
 whole headers of the machine, again and again.

@@ -70,14 +70,14 @@ def settings(rng):
     return options, [f"-D{n}={rng.randrange(4)}" for n in OTHERS if rng.randrange(2)]
 
 
-def selected(cc, arguments, folder):
-    command = [cc, "-E", "-P", "-undef", "-nostdinc", "-w", *arguments, f"{folder}/main.c"]
+def selected(cc, arguments, directory):
+    command = [cc, "-E", "-P", "-undef", "-nostdinc", "-w", *arguments, f"{directory}/main.c"]
     run = subprocess.run(command, capture_output=True)
     return run.stdout.split() if run.returncode == 0 else None
 
 
-def run(tree, arguments, folder):
-    return subprocess.run([tree, "-q", *arguments, "--", folder], capture_output=True).returncode
+def run(tree, arguments, directory):
+    return subprocess.run([tree, "-q", *arguments, "--", directory], capture_output=True).returncode
 
 
 def compare(job):
@@ -89,17 +89,17 @@ def compare(job):
     options, others = settings(rng)
     gone = 0
     for prune in ([], ["-p"]):
-        with tempfile.TemporaryDirectory() as folder:
+        with tempfile.TemporaryDirectory() as directory:
             for name, text in files.items():
-                Path(folder, name).write_text(text, encoding="ascii")
-            before = selected(cc, options + others, folder)
-            if run(tree, prune + options, folder) == 2:
+                Path(directory, name).write_text(text, encoding="ascii")
+            before = selected(cc, options + others, directory)
+            if run(tree, prune + options, directory) == 2:
                 return f"seed {seed}: {prune} {options}: a fault", gone
-            if selected(cc, options + others, folder) != before:
+            if selected(cc, options + others, directory) != before:
                 return f"seed {seed}: {prune} {options}: selected in another way", gone
-            if run(tree, prune + options, folder) != 0:
+            if run(tree, prune + options, directory) != 0:
                 return f"seed {seed}: {prune} {options}: changed by a second run", gone
-            texts = "".join(it.read_text(encoding="ascii") for it in Path(folder).iterdir())
+            texts = "".join(it.read_text(encoding="ascii") for it in Path(directory).iterdir())
             named = " ".join(CONDITION.findall(texts))
             for i, name in enumerate(DECIDED):
                 if re.search(rf"\b{name}\b", named):
@@ -107,7 +107,7 @@ def compare(job):
                 gone += 1
                 rest = options[:i] + options[i + 1 :] + others
                 for other in ([], [f"-D{name}=0"], [f"-D{name}=3"]):
-                    if selected(cc, rest + other, folder) != before:
+                    if selected(cc, rest + other, directory) != before:
                         return f"seed {seed}: {prune} {options}: {name} isn't gone", gone
     return None, gone
 

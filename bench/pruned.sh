@@ -1,6 +1,6 @@
 #!/usr/bin/env bash
 # Counts the conditions of real sources that still name a removed symbol, after a run of
-# ./unifdef-tree without -p and with it. README.md in this folder describes it.
+# ./unifdef-tree without -p and with it. README.md in this directory describes it.
 set -eu -o pipefail
 export LC_ALL=C
 here=$(cd "$(dirname "$0")" && pwd)
@@ -11,23 +11,23 @@ trap 'rm -rf "$work"' EXIT
 # shellcheck source=bench/debian.sh
 source "$here/debian.sh"
 
-# run WORD..: runs the program in the folder of a source.
-run() { (cd "$folder" && "$program" -x2 "$@" -- .) > "$work/listed" 2> "$work/said"; }
+# run WORD..: runs the program in the directory of a source.
+run() { (cd "$directory" && "$program" -x2 "$@" -- .) > "$work/listed" 2> "$work/said"; }
 
 # counted WORDS: prints the number in the last line of a run that has these words, or 0.
 counted() { awk -v words="$1" 'index($0, words) { n = $2 } END { print n + 0 }' "$work/said"; }
 
-# unpacked PACKAGE: sets `folder` to the released source of a Debian package, unpacked anew.
+# unpacked PACKAGE: sets `directory` to the released source of a Debian package, unpacked anew.
 unpacked() {
   [ -d "$work/source/$1" ] || (source_of "$1" --tar-only) > "$work/log" 2>&1 || return
   rm -rf "$work/tree" && mkdir "$work/tree" &&
     tar -C "$work/tree" -xf "$work/source/$1"/*.orig.tar.*[z2] 2>> "$work/log" &&
-    folder=$(find "$work/tree" -mindepth 1 -maxdepth 1 -type d)
+    directory=$(find "$work/tree" -mindepth 1 -maxdepth 1 -type d)
 }
 
 # pruned PACKAGE OPTION..: prints a row of the table.
 pruned() {
-  local package=$1 folder without
+  local package=$1 directory without
   shift
   unpacked "$package" ||
     { echo "pruned: left out: $package: $(tail -n 1 "$work/log")" >&2; return 0; }
@@ -35,7 +35,7 @@ pruned() {
   without=$(counted 'still name')
   run -p -r "$@" || { cat "$work/said" >&2; exit 1; }
   # shellcheck disable=SC2016 # These are quotes of Markdown.
-  printf '| %s | `%s` | %s | %s | %s |\n' "${folder##*/}" "$*" "$without" "$(counted 'edited')" "$(counted 'still name')"
+  printf '| %s | `%s` | %s | %s | %s |\n' "${directory##*/}" "$*" "$without" "$(counted 'edited')" "$(counted 'still name')"
   cut -d: -f3 "$work/listed" | sort | uniq -c >> "$work/reasons"
   run -p "$@" || { cat "$work/said" >&2; exit 1; }
   grep -q '^unifdef-tree: 0 changed' "$work/said" || { echo "pruned: a second run changes $package" >&2; exit 1; }

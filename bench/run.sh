@@ -1,9 +1,10 @@
 #!/usr/bin/env bash
-# Measures ./unifdef beside the released program and `cat`. README.md in this folder describes it.
+# Measures ./unifdef beside the released program and `cat`. README.md in this directory describes
+# it.
 #
 # BENCH_BYTES: the size of each text. BENCH_RUNS: the number of rounds. BENCH_FILES: the number of
-# small files. BENCH_HEADERS, BENCH_SOURCES: the folders of headers and C sources. BENCH_NEWER: a newer
-# unifdef.
+# small files. BENCH_HEADERS, BENCH_SOURCES: the directories of headers and C sources. BENCH_NEWER:
+# a newer unifdef.
 set -eu -o pipefail
 export LC_ALL=C
 here=$(cd "$(dirname "$0")" && pwd)

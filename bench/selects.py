@@ -110,8 +110,8 @@ def selected(cc, arguments, text):
 def pruned(tree, options, text):
     """Returns the text that `unifdef-tree -p` makes of a text, how many conditions it edits, and
     whether a second run changes nothing."""
-    with tempfile.TemporaryDirectory() as folder:
-        path = Path(folder, "text.c")
+    with tempfile.TemporaryDirectory() as directory:
+        path = Path(directory, "text.c")
         path.write_bytes(text)
         command = [tree, "-p", *options, "--", path]
         runs = [subprocess.run(command, capture_output=True) for _ in range(2)]
@@ -151,8 +151,9 @@ def files(paths):
     for path in paths:
         if not os.path.isdir(path):
             yield path
-        for folder, _, names in os.walk(path):
-            yield from (os.path.join(folder, n) for n in sorted(names) if n.endswith((".c", ".h")))
+        for directory, _, names in os.walk(path):
+            found = [it for it in sorted(names) if it.endswith((".c", ".h"))]
+            yield from (os.path.join(directory, it) for it in found)
 
 
 def parser_of(description):

@@ -41,9 +41,9 @@ def right_body(path, programs):
     return path.read_bytes() + b"\n"
 
 
-def files(folder, pattern, limit, programs):
+def files(directory, pattern, limit, programs):
     """Returns at least `limit` bytes of whole files in a fixed random order, repeated as needed."""
-    paths = sorted(path for path in Path(folder).rglob(pattern) if path.is_file())
+    paths = sorted(path for path in Path(directory).rglob(pattern) if path.is_file())
     random.Random(1).shuffle(paths)
     text = bytearray()
     with ThreadPoolExecutor(os.cpu_count()) as pool:
@@ -51,7 +51,7 @@ def files(folder, pattern, limit, programs):
             text += b"".join(pool.map(lambda path: right_body(path, programs), paths[:64]))
             del paths[:64]
     if not text:
-        raise SystemExit(f"bench: no {pattern} in {folder}")
+        raise SystemExit(f"bench: no {pattern} in {directory}")
     return bytes(text) * -(-limit // len(text))
 
 

@@ -1,9 +1,9 @@
 #!/usr/bin/env bash
 # Runs ./unifdef over the C files of real trees, beside the released unifdef. README.md in this
-# folder describes it.
+# directory describes it.
 #
-# TREES_WORDS: the options. TREES_INCLUDE: the folder of the headers. TREES_SOURCE: a source tree,
-# instead of Debian's kernel.
+# TREES_WORDS: the options. TREES_INCLUDE: the directory of the headers. TREES_SOURCE: a source
+# tree, instead of Debian's kernel.
 set -eu -o pipefail
 export LC_ALL=C
 here=$(cd "$(dirname "$0")" && pwd)

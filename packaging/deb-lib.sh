@@ -53,7 +53,7 @@ END
 
 module=usr/lib/python3/dist-packages/unifdef
 take python3-unifdef "$module"/{__init__,__main__,_library}.py "$module/py.typed"
-# Python compiles the module into a folder that no package has.
+# Python compiles the module into a directory that no package has.
 cat > "$stage/python3-unifdef/DEBIAN/prerm" << END
 #!/bin/sh
 set -e

@@ -12,7 +12,7 @@ version=$(packaging/version.sh)
 # shellcheck disable=SC2034 # It is for the scripts that read this file.
 architecture=$(dpkg --print-architecture)
 
-# commit FORMAT: prints what the last commit has. A repository around this folder has its own.
+# commit FORMAT: prints what the last commit has. A repository around this directory has its own.
 commit() { [ -e .git ] && git log -1 --format="$1" 2> /dev/null; }
 
 maintainer=${DEBFULLNAME:-$(commit %an || echo 'unifdef maintainers')}
@@ -22,7 +22,7 @@ export SOURCE_DATE_EPOCH
 stage=$(mktemp -d)
 trap 'rm -rf "$stage"' EXIT
 
-# All files, in the folders of Debian. Each package takes its own.
+# All files, in the directories of Debian. Each package takes its own.
 all=$stage/all
 
 # take PACKAGE FILE..: moves files to a package, which gets the license and what changed.
@@ -40,7 +40,7 @@ $1 ($version) unstable; urgency=medium
 END
 }
 
-# kibibytes FOLDER: the size of its files, which isn't that of their blocks on some disk.
+# kibibytes DIRECTORY: the size of its files, which isn't that of their blocks on some disk.
 kibibytes() {
   find "$1" -type f -printf '%s\n' | awk '{ n += int(($1 + 1023) / 1024) } END { print n }'
 }

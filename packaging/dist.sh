@@ -1,10 +1,10 @@
 #!/bin/sh
-# Makes unifdef-VERSION.tar.gz of the last commit: a folder that builds by itself.
+# Makes unifdef-VERSION.tar.gz of the last commit: a directory that builds by itself.
 set -eu
 cd "$(dirname "$0")/.."
 version=$(packaging/version.sh)
 if ! [ -e .git ] || ! command -v git > /dev/null; then
-  echo 'dist: a tarball is made of a commit, and this folder is not under version control' >&2
+  echo 'dist: a tarball is made of a commit, and this directory is not under version control' >&2
   exit 1
 fi
 committed=$(git show HEAD:CHANGELOG.md | sed -n 's/^## \([0-9][0-9.]*\).*/\1/p' | head -n 1)

@@ -1,7 +1,7 @@
 #!/bin/sh
 # Prints unifdef.pc, by which pkg-config finds the library: pkgconfig.sh PREFIX LIBDIR INCLUDEDIR.
 #
-# Folders below the prefix are named by it, so `pkg-config --define-prefix` finds a moved copy.
+# Directories below the prefix are named by it, so `pkg-config --define-prefix` finds a moved copy.
 set -eu
 cd "$(dirname "$0")/.."
 

@@ -1,10 +1,11 @@
 #!/bin/sh
-# Prints the folder below a prefix in which python3 looks for modules: pythondir.sh PREFIX.
+# Prints the directory below a prefix in which python3 looks for modules: pythondir.sh PREFIX.
 #
-# Below ~/.local that is the user's folder, in which python3 doesn't look in a virtual environment.
-# If it looks in none there, prints PREFIX/lib/python3/dist-packages, which PYTHONPATH can name.
+# Below ~/.local that is the user's directory, in which python3 doesn't look in a virtual
+# environment. If it looks in none there, prints PREFIX/lib/python3/dist-packages, which PYTHONPATH
+# can name.
 prefix=${1%/}
-folder=$(python3 -c 'import site, sys
-folders = site.getsitepackages() + [site.getusersitepackages()] * bool(site.ENABLE_USER_SITE)
-print(next((it for it in folders if it.startswith(sys.argv[1] + "/lib/")), ""))' "$prefix" 2> /dev/null)
-printf '%s\n' "${folder:-$prefix/lib/python3/dist-packages}"
+directory=$(python3 -c 'import site, sys
+paths = site.getsitepackages() + [site.getusersitepackages()] * bool(site.ENABLE_USER_SITE)
+print(next((it for it in paths if it.startswith(sys.argv[1] + "/lib/")), ""))' "$prefix" 2> /dev/null)
+printf '%s\n' "${directory:-$prefix/lib/python3/dist-packages}"

@@ -1,5 +1,5 @@
 #!/usr/bin/env bash
-# Makes the folder release/ with everything that a release page needs, of the last commit: the
+# Makes the directory release/ with everything that a release page needs, of the last commit: the
 # programs and the library for Linux on x86-64, the Debian packages, the source, what changed, and
 # the checksums. The same commit gives the same files, byte by byte.
 set -eu -o pipefail
@@ -20,8 +20,9 @@ name=unifdef-$version-linux-x86_64
 rm -rf release
 mkdir release
 
-# What `make install` and `make install-lib` install under /usr/local, as a folder of this name. The
-# module for Python is beside the other data, since each version of Python has a folder of its own.
+# What `make install` and `make install-lib` install under /usr/local, as a directory of this name.
+# The module for Python is beside the other data, since each version of Python has a directory of
+# its own.
 "$make" -s -o unifdef -o unifdef-tree -o lib/libunifdef.a install install-lib \
   DESTDIR="$work/all" PREFIX=/usr/local PYTHONDIR=/usr/local/share/unifdef/python
 mv "$work/all/usr/local" "$work/$name"

@@ -3,8 +3,8 @@
 
     tests/cases.py [PROGRAM] [--case NAME ..]
 
-PROGRAM is ./unifdef by default. NAME is a case file or a folder of them; without it, all cases of
-crates/test_runner/data are run, whose README.md describes the files. A case with lines about its
+PROGRAM is ./unifdef by default. NAME is a case file or a directory of them; without it, all cases
+of crates/test_runner/data are run, whose README.md describes the files. A case with lines about its
 streams is left out, since these need a reader and a writer over memory.
 """
 
@@ -172,10 +172,10 @@ class Reader:
 
 
 def cases_in(names: Iterable[Path] = (DATA,)) -> Iterator[Case]:
-    """Yields the cases of these files, and of the files below these folders."""
+    """Yields the cases of these files, and of the files below these directories."""
     for name in names:
         if not name.exists():
-            raise CaseError(f"{name}: there is no such file or folder")
+            raise CaseError(f"{name}: there is no such file or directory")
         for path in sorted(name.rglob("*.case")) if name.is_dir() else [name]:
             yield Reader(Path(os.path.relpath(path))).read()
 
@@ -196,13 +196,14 @@ def operand_of(arguments: list[str]) -> Optional[str]:
 def run(program: Path, case: Case) -> Answer:
     """Runs a program on the input of a case: its standard input, or the file of its operand."""
     operand = operand_of(case.arguments)
-    with tempfile.TemporaryDirectory() as folder:
+    with tempfile.TemporaryDirectory() as directory:
         given = case.input
         if operand not in (None, "", "-"):
-            (Path(folder) / operand).write_bytes(case.input)
+            (Path(directory) / operand).write_bytes(case.input)
             given = b""
         command = [str(program), *case.arguments]
-        done = subprocess.run(command, input=given, capture_output=True, cwd=folder, timeout=HANG)
+        how = {"capture_output": True, "cwd": directory, "timeout": HANG}
+        done = subprocess.run(command, input=given, **how)
     return Answer(done.stdout, done.stderr, done.returncode)
 
 

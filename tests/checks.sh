@@ -1,6 +1,6 @@
 #!/usr/bin/env bash
 # What the tests of packages, completions and hooks share. They read this file, and are then at the
-# top of the repository, with a folder of their own in $work.
+# top of the repository, with a directory of their own in $work.
 # shellcheck disable=SC2034 # Some of these are for the scripts that read this file.
 set -u -o pipefail
 export LC_ALL=C
@@ -52,7 +52,7 @@ shows() {
   fi
 }
 
-# A folder with a list of packages of its own, and what is tried of each package.
+# A directory with a list of packages of its own, and what is tried of each package.
 root=$work/root
 new_root() {
   mkdir -p "$root"/var/lib/dpkg/{info,updates,triggers}

@@ -104,10 +104,10 @@ def check_manual(cases: list[Case]) -> Iterator[bool]:
 
 def check_file(program: Path, name: bytes) -> bool:
     """Returns whether `-n` over a file inserts a #line that names the file as `name` does."""
-    with tempfile.TemporaryDirectory() as folder:
-        (Path(folder) / "in.c").write_bytes(b"#ifdef A\nx\n#endif\n")
+    with tempfile.TemporaryDirectory() as directory:
+        (Path(directory) / "in.c").write_bytes(b"#ifdef A\nx\n#endif\n")
         command = [str(program), "-n", "-DA", "in.c"]
-        done = subprocess.run(command, capture_output=True, cwd=folder, check=False)
+        done = subprocess.run(command, capture_output=True, cwd=directory, check=False)
     right = done.returncode == 1 and done.stdout == b"#line 2" + name + b"\nx\n"
     if not right:
         print(f"differences: {program}, a file and -n: {done.returncode} {as_literal(done.stdout)}")
@@ -117,16 +117,16 @@ def check_file(program: Path, name: bytes) -> bool:
 def run_command(command: str, program: Path) -> tuple[bytes, Optional[int], dict[str, bytes]]:
     """Returns what a command writes, its status if it is no pipe, and the files then."""
     with tempfile.TemporaryDirectory() as top:
-        folder = Path(top, "folder")
-        folder.mkdir()
+        directory = Path(top, "directory")
+        directory.mkdir()
         for name, text in FILES.items():
-            (folder / name).write_bytes(text)
+            (directory / name).write_bytes(text)
         for name, there in (("unifdef", program), ("unifdef-tree", TOP / "unifdef-tree")):
             Path(top, name).symlink_to(there)
-        how = {"cwd": folder, "env": {**os.environ, "PATH": f"{top}:{os.environ['PATH']}"}}
+        how = {"cwd": directory, "env": {**os.environ, "PATH": f"{top}:{os.environ['PATH']}"}}
         how |= {"stdin": subprocess.DEVNULL, "capture_output": True, "check": False}
         done = subprocess.run(["bash", "-c", command], **how)
-        files = {it.name: it.read_bytes() for it in folder.iterdir()}
+        files = {it.name: it.read_bytes() for it in directory.iterdir()}
     return done.stdout, None if "|" in command else done.returncode, files
 
 
@@ -201,7 +201,7 @@ def main() -> int:
         if not is_released(name, OLD) and not is_released(name, NEW):
             print(f"differences: {name} is no unifdef {OLD} or {NEW}", file=sys.stderr)
             return 1
-    programs = programs or [Path(folder) / "unifdef" for folder in os.get_exec_path()]
+    programs = programs or [Path(directory) / "unifdef" for directory in os.get_exec_path()]
     released, new = released_in(programs, OLD), released_in(programs, NEW)
     for version, there in ((OLD, released), (NEW, new)):
         if not there:

@@ -7,7 +7,7 @@
 An example of a page is a block that begins with ```console. A line that begins with "$ " is a
 command, and the lines up to the next command are its output, on either stream. Further lines of a
 command begin with "> ". The commands of a block run in order, each where the one before it left
-off, in a folder of their own with ./unifdef and ./unifdef-tree, which is on PATH. The rest of a
+off, in a directory of their own with ./unifdef and ./unifdef-tree, which is on PATH. The rest of a
 block is left out if a command needs a tool that isn't there, or if the block begins with a header
 of the machine that is another one here.
 
@@ -92,7 +92,7 @@ def commands_in(block):
 
 
 def linked(top):
-    """Puts the programs into a folder."""
+    """Puts the programs into a directory."""
     for it in ("unifdef", "unifdef-tree"):
         os.symlink(TOP / it, f"{top}/{it}")
 
@@ -100,7 +100,7 @@ def linked(top):
 def run_block(examples, block):
     """Runs the commands of a block."""
     with tempfile.TemporaryDirectory() as work:
-        top = place = f"{work}/folder"
+        top = place = f"{work}/directory"
         os.mkdir(top)
         linked(top)
         for number, (command, wanted) in enumerate(commands_in(block)):

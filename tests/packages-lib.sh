@@ -1,6 +1,6 @@
 #!/usr/bin/env bash
-# Installs and uninstalls the library in folders of its own, makes its Debian packages twice, and
-# builds and runs programs with what is there.
+# Installs and uninstalls the library in directories of its own, makes its Debian packages twice,
+# and builds and runs programs with what is there.
 # shellcheck source=tests/checks.sh
 source "$(dirname "$0")/checks.sh"
 needs lib/libunifdef.a "${cc[0]}"
@@ -23,7 +23,7 @@ filtered() { LD_LIBRARY_PATH=$1 "$work/filter" -DA <<< "$text"; }
 # installed library. It gets nothing from the network, so setuptools has to be there.
 in_an_environment() {
   local python=$work/environment/bin/python site
-  # pip writes to the folder that it installs.
+  # pip writes to the directory that it installs.
   cp -R lib/python "$work/module"
   if ! python3 -m venv --system-site-packages "$work/environment" > /dev/null 2>&1 ||
     ! "$python" -c '
@@ -85,7 +85,7 @@ if has python3; then
   for it in "$python_prefix" "$python_prefix/"; do
     check 'install-lib: where Python looks' in_path "$(packaging/pythondir.sh "$it")"
   done
-  # python3 looks in the folder of a user if it is there.
+  # python3 looks in the directory of a user if it is there.
   export PYTHONUSERBASE=$work/user
   mkdir -p "$(python3 -c 'import site; print(site.getusersitepackages())')"
   if [ "$(python3 -c 'import site; print(site.ENABLE_USER_SITE)')" = True ]; then
@@ -112,7 +112,7 @@ if ! has dpkg-deb || ! has objdump; then
   exit
 fi
 
-folder=usr/lib/$("${cc[@]}" -print-multiarch) architecture=$(dpkg --print-architecture)
+directory=usr/lib/$("${cc[@]}" -print-multiarch) architecture=$(dpkg --print-architecture)
 packages=({libunifdef1,libunifdef-dev}"_${version}_$architecture.deb"
   "python3-unifdef_${version}_all.deb")
 check deb-lib same "$(make_lib deb-lib)" "$(printf '%s\n' "${packages[@]}")"
@@ -148,11 +148,11 @@ check 'a maintainer: the maintainer' same "$(maintainer)" 'A Name <name@example.
 check 'CC of two words' env CC="env ${cc[*]}" "$copy/lib/build.sh" lib/libunifdef.a lib/libunifdef.a
 check 'CC of two words: the same bytes' cmp lib/libunifdef.so "$copy/lib/libunifdef.so"
 
-# A folder that nobody else can read gives packages that everybody can read.
+# A directory that nobody else can read gives packages that everybody can read.
 chmod -R go= "$copy"
-check 'a private folder' package_in_copy DEBFULLNAME='A Name'
+check 'a private directory' package_in_copy DEBFULLNAME='A Name'
 modes() { for it in "${packages[@]}"; do dpkg-deb -c "$copy/$it"; done | sed 's/ .*//' | sort -u; }
-check 'a private folder: modes' same "$(modes)" $'-rw-r--r--\ndrwxr-xr-x\nlrwxrwxrwx'
+check 'a private directory: modes' same "$(modes)" $'-rw-r--r--\ndrwxr-xr-x\nlrwxrwxrwx'
 
 # What is installed.
 new_root
@@ -160,10 +160,10 @@ check 'installs' in_root -i "${packages[@]/#/$here/}"
 check 'installs: files' same "$(cd "$root/usr" && find . ! -type d | grep -v /doc/ | sort)" \
   "$(sort << END
 ./include/unifdef.h
-./${folder#usr/}/libunifdef.a
-./${folder#usr/}/libunifdef.so
-./${folder#usr/}/libunifdef.so.1
-./${folder#usr/}/pkgconfig/unifdef.pc
+./${directory#usr/}/libunifdef.a
+./${directory#usr/}/libunifdef.so
+./${directory#usr/}/libunifdef.so.1
+./${directory#usr/}/pkgconfig/unifdef.pc
 ./lib/python3/dist-packages/unifdef/__init__.py
 ./lib/python3/dist-packages/unifdef/__main__.py
 ./lib/python3/dist-packages/unifdef/_library.py
@@ -182,14 +182,14 @@ check 'symbols: the rest' same "$(grep -v ' unifdef_' <<< "$symbols")" \
 example=$root/usr/share/doc/libunifdef-dev/examples/filter.c
 check 'installs: the examples' test -e "$example"
 if has pkg-config; then
-  export PKG_CONFIG_SYSROOT_DIR=$root PKG_CONFIG_PATH=$root/$folder/pkgconfig
+  export PKG_CONFIG_SYSROOT_DIR=$root PKG_CONFIG_PATH=$root/$directory/pkgconfig
   export PKG_CONFIG_ALLOW_SYSTEM_CFLAGS=1 PKG_CONFIG_ALLOW_SYSTEM_LIBS=1
   check 'C: builds' built_by "$example"
-  check 'C: runs' same "$(filtered "$root/$folder")" x
+  check 'C: runs' same "$(filtered "$root/$directory")" x
 fi
 if has python3; then
   module=$root/usr/lib/python3/dist-packages
-  check 'Python: runs' same "[b'A', b'B']" "$(LD_LIBRARY_PATH=$root/$folder PYTHONPATH=$module \
+  check 'Python: runs' same "[b'A', b'B']" "$(LD_LIBRARY_PATH=$root/$directory PYTHONPATH=$module \
     PYTHONDONTWRITEBYTECODE='' PYTHONPYCACHEPREFIX='' python3 -c "$names_in")"
   check 'Python: is compiled' test -e "$module/unifdef/__pycache__"
 fi

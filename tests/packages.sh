@@ -1,10 +1,11 @@
 #!/usr/bin/env bash
-# Installs and uninstalls the programs in folders of its own, and tries packages and tarball.
+# Installs and uninstalls the programs in directories of its own, and tries packages and tarball.
 # shellcheck source=tests/checks.sh
 source "$(dirname "$0")/checks.sh"
 text='#ifdef A\nx\n#endif\n'
 
-# works_in WHAT FOLDER: checks that the installed programs run, and that the manuals can be shown.
+# works_in WHAT DIRECTORY: checks that the installed programs run, and that the manuals can be
+# shown.
 works_in() {
   local manual file=$work/a.c
   printf '%b' "$text" > "$file"
@@ -24,8 +25,8 @@ works_in() {
 # make_with TARGET WORD..: runs make over what is built.
 make_with() { "$make" -s -o unifdef -o unifdef-tree "$@"; }
 
-# Installs into a folder with spaces, and uninstalls.
-target="$work/a folder/with spaces" prefix='/opt/my tools'
+# Installs into a directory with spaces, and uninstalls.
+target="$work/a directory/with spaces" prefix='/opt/my tools'
 check install make_with install DESTDIR="$target" PREFIX="$prefix"
 works_in install "$target$prefix"
 check 'install: files' same "$(cd "$target$prefix" && find . -type f | sort)" \
@@ -44,14 +45,14 @@ check 'install: files' same "$(cd "$target$prefix" && find . -type f | sort)" \
 ./share/zsh/site-functions/_unifdef
 ./share/zsh/site-functions/_unifdef-tree"
 
-# A file of somebody else stays, and so does a folder that others use.
+# A file of somebody else stays, and so does a directory that others use.
 documents="$target$prefix/share/doc/unifdef"
 touch "$documents/theirs"
 check uninstall make_with uninstall DESTDIR="$target" PREFIX="$prefix"
 check 'uninstall: files' same "$(find "$target" ! -type d)" "$documents/theirs"
 rm "$documents/theirs"
 check 'uninstall: again' make_with uninstall DESTDIR="$target" PREFIX="$prefix"
-check 'uninstall: the folder' test ! -e "$documents"
+check 'uninstall: the directory' test ! -e "$documents"
 
 # What is built is installed without the kit.
 absent=no-such-command
@@ -59,7 +60,7 @@ check 'install: without the kit' "$make" -s install DESTDIR="$target" PREFIX=/us
 check 'install: the kit that is not there' same $'make: Rattle\'s command no-such-command\ncp -a' \
   "$("$make" -s kit RT=$absent 2>&1 | grep -o "^make: .*$absent\|cp -a")"
 
-# What make says of a kit that is named from here, of a folder that can't be written, and without
+# What make says of a kit that is named from here, of a directory that can't be written, and without
 # /proc.
 kit=$work/kit
 ln -s "$(type -P true)" "$kit"
@@ -67,7 +68,7 @@ named() { "$make" -n -W HANDLES unifdef RT="$1" | sed -n "s/^RT='\(.*\)' tools.*
 said_after() { unshare -m sh -c "$1 && cd '$here' && $2" 2>&1 | head -n 1; }
 check 'RT by a relative path' same "$(named "$(realpath -s --relative-to=. "$kit")")" "$kit"
 if unshare -m true 2> /dev/null && has python3; then
-  check 'a read-only folder' same "make: $here cannot be written: build in a copy of it" \
+  check 'a read-only directory' same "make: $here cannot be written: build in a copy of it" \
     "$(said_after 'mount --bind -o ro . .' "$make -s kit RT=$kit")"
   check 'no /proc' same 'unproved: /proc is not mounted, where the program is found while it runs' \
     "$(said_after 'umount -l /proc' 'tools/unproved.py unifdef_cli none')"

@@ -50,14 +50,14 @@ def bytes_of(path):
 COMMANDS = Commands()
 
 
-def run(words, folder, out, given=b""):
+def run(words, directory, out, given=b""):
     """Runs a command to its end, and returns its status."""
     leave_out = ("MAKEFLAGS", "MAKELEVEL")
     env = {key: it for key, it in os.environ.items() if key not in leave_out}
     with tempfile.TemporaryFile() as source:
         source.write(given)
         source.seek(0)
-        how = {"cwd": folder, "env": env, "stdin": source, "stdout": out[0], "stderr": out[1]}
+        how = {"cwd": directory, "env": env, "stdin": source, "stdout": out[0], "stderr": out[1]}
         return COMMANDS.start(words, **how).wait()
 
 
@@ -118,16 +118,16 @@ def tests(task, out, err):
 
 def stored_run(task, out, err):
     """Runs a program with a file `stdout`. The runner of cases has some as its arguments."""
-    folder = f"{HERE}/crates/{task.name}"
-    arguments = [os.path.relpath(it.path.resolve(), folder) for it in task.cases]
-    arguments = arguments or bytes_of(f"{folder}/args").decode().splitlines()
+    directory = f"{HERE}/crates/{task.name}"
+    arguments = [os.path.relpath(it.path.resolve(), directory) for it in task.cases]
+    arguments = arguments or bytes_of(f"{directory}/args").decode().splitlines()
     words = [RT, "try", "--seconds", HANG, "--", *arguments]
-    status = run(words, folder, (out, err), bytes_of(f"{folder}/stdin"))
-    wanted = int(bytes_of(f"{folder}/status") or b"0")
+    status = run(words, directory, (out, err), bytes_of(f"{directory}/stdin"))
+    wanted = int(bytes_of(f"{directory}/status") or b"0")
     out.seek(0)
     if status != wanted:
         return f"status {status}, and {wanted} is wanted"
-    if out.read() != bytes_of(f"{folder}/stdout"):
+    if out.read() != bytes_of(f"{directory}/stdout"):
         return "the output isn't the stored one"
     # It runs those without streams too, which count as the program's.
     task.right = sum(bool(it.streams) for it in task.cases)
@@ -139,12 +139,12 @@ def tasks(every_case, is_all):
     streams = [it for it in every_case if it.streams]
     found = [Task("cases", "program", program_cases, (it for it in every_case if not it.streams))]
     found.append(Task(RUNNER, "program", stored_run, every_case if is_all else streams))
-    for folder in sorted(glob.glob(f"{HERE}/crates/*")) if is_all else []:
-        name = os.path.basename(folder)
-        texts = (bytes_of(it) for it in glob.glob(f"{folder}/src/**/*.rt", recursive=True))
+    for directory in sorted(glob.glob(f"{HERE}/crates/*")) if is_all else []:
+        name = os.path.basename(directory)
+        texts = (bytes_of(it) for it in glob.glob(f"{directory}/src/**/*.rt", recursive=True))
         if any(re.search(rb"^\s*#\[test\]", it, re.M) for it in texts):
             found.append(Task(name, "tests", tests))
-        if os.path.exists(f"{folder}/stdout") and name != RUNNER:
+        if os.path.exists(f"{directory}/stdout") and name != RUNNER:
             found.append(Task(name, "program", stored_run))
     return sorted(found, key=lambda it: FIRST.index(it.name) if it.name in FIRST else len(FIRST))
 

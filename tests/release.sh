@@ -2,16 +2,16 @@
 # Makes the files of a release in two clones of the last commit, and runs what is in the tarball of
 # the programs. The heading of CHANGELOG.md has a date there.
 #
-# The clones get the programs and the library of this folder. They are in folders of other lengths,
-# and the second one has another umask and another time zone.
+# The clones get the programs and the library of this directory. They are in directories of other
+# lengths, and the second one has another umask and another time zone.
 # shellcheck source=tests/checks.sh
 source "$(dirname "$0")/checks.sh"
 needs git dpkg-deb objdump lib/libunifdef.a .git
 [ -z "$(git status --porcelain)" ] || echo 'release: what is not committed is left out'
 text=$'#ifdef A\nx\n#endif'
-first=$work/first second="$work/another folder/second"
+first=$work/first second="$work/another directory/second"
 
-# clone_to FOLDER FROM: clones the last commit, with what is built here.
+# clone_to DIRECTORY FROM: clones the last commit, with what is built here.
 clone_to() {
   git clone -qs "$2" "$1" && cp -p unifdef unifdef-tree "$1" && cp -Pp lib/libunifdef.* "$1/lib"
 }
@@ -22,7 +22,7 @@ head_with() {
   git -C "$first" -c user.name=They -c user.email=they@localhost commit -qa --allow-empty -m it
 }
 
-# make_elsewhere FOLDER: makes the release in a clone, for another user and another time zone.
+# make_elsewhere DIRECTORY: makes the release in a clone, for another user and another time zone.
 make_elsewhere() { (umask 077 && TZ=Asia/Tokyo "$1/packaging/release.sh"); }
 
 check 'a clone' clone_to "$first" .
@@ -30,7 +30,7 @@ check 'a version without a date' head_with 'not released yet'
 check 'a version without a date: release' same "$("$first/packaging/release.sh" 2>&1; echo $?)" \
 "version: $version isn't released yet: its heading in CHANGELOG.md has no date, as (2026-12-01)
 1"
-check 'a version without a date: no folder' test ! -e "$first/release"
+check 'a version without a date: no directory' test ! -e "$first/release"
 check 'a date' head_with 2026-12-01
 check 'release' "$first/packaging/release.sh"
 check 'another clone' clone_to "$second" "$first"
@@ -55,28 +55,29 @@ check 'a change that is not committed' same "$("$second/packaging/release.sh" 2>
 "release: commit first: what is not committed would be in some of the files alone
 1"
 
-folder=$work/unpacked/unifdef-$version-linux-x86_64
+directory=$work/unpacked/unifdef-$version-linux-x86_64
 mkdir "$work/unpacked"
 check 'unpacks' tar -C "$work/unpacked" -xzf "unifdef-$version-linux-x86_64.tar.gz"
 echo "$text" > "$work/a.c"
-check 'unifdef' same "$("$folder/bin/unifdef" -DA "$work/a.c"; echo $?)" $'x\n1'
-check 'unifdef-tree' same "$("$folder/bin/unifdef-tree" -q -DA "$work/a.c"; cat "$work/a.c")" x
+check 'unifdef' same "$("$directory/bin/unifdef" -DA "$work/a.c"; echo $?)" $'x\n1'
+check 'unifdef-tree' same "$("$directory/bin/unifdef-tree" -q -DA "$work/a.c"; cat "$work/a.c")" x
 if has python3; then
-  check 'Python' same "$version" "$(PYTHONPATH=$folder/share/unifdef/python \
-    LD_LIBRARY_PATH=$folder/lib python3 -Bc 'import unifdef; print(*unifdef.version(), sep=".")')"
+  check 'Python' same "$version" "$(PYTHONPATH=$directory/share/unifdef/python \
+    LD_LIBRARY_PATH=$directory/lib python3 -Bc \
+    'import unifdef; print(*unifdef.version(), sep=".")')"
 fi
 
 # built WORD..: builds a C program by these words, and runs it.
 built() {
   "${cc[@]}" -o "$work/filter" "$first/lib/examples/filter.c" "$@" &&
-    same "$(LD_LIBRARY_PATH=$folder/lib "$work/filter" -DA <<< "$text")" x
+    same "$(LD_LIBRARY_PATH=$directory/lib "$work/filter" -DA <<< "$text")" x
 }
 if has "${cc[0]}"; then
-  check 'C, with the archive' built -I "$folder/include" "$folder/lib/libunifdef.a"
+  check 'C, with the archive' built -I "$directory/include" "$directory/lib/libunifdef.a"
   if has pkg-config; then
-    export PKG_CONFIG_PATH=$folder/lib/pkgconfig
+    export PKG_CONFIG_PATH=$directory/lib/pkgconfig
     read -ra flags <<< "$(pkg-config --define-prefix --cflags --libs unifdef)"
-    check 'C, by pkg-config' same "${flags[*]}" "-I$folder/include -L$folder/lib -lunifdef"
+    check 'C, by pkg-config' same "${flags[*]}" "-I$directory/include -L$directory/lib -lunifdef"
     check 'C, with the shared library' built "${flags[@]}"
   fi
 fi

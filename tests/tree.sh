@@ -102,7 +102,7 @@ is() {
 none_left() { check same "$(find -L "$work/run" -name '.unifdef-tree*')" ''; }
 
 # fresh FILE..: makes a new tree, whose files are changed by -DA. small_tree: one with files that
-# are changed, unchanged, faulty, and in a folder.
+# are changed, unchanged, faulty, and in a directory.
 fresh() {
   rm -rf "$work/run"
   mkdir -p "$work/run/src"
@@ -111,8 +111,8 @@ fresh() {
 }
 small_tree() {
   fresh src/a.c
-  mkdir src/folder
-  put src/folder/b.c "$text"
+  mkdir src/directory
+  put src/directory/b.c "$text"
   put src/bad.c '#endif\n'
   put src/same.c 'int a;\n'
 }
@@ -120,7 +120,7 @@ small_tree() {
 # each_old_or_new: checks that each file of the small tree is old or new.
 each_old_or_new() {
   local name
-  for name in src/a.c src/folder/b.c; do
+  for name in src/a.c src/directory/b.c; do
     holds "$name" "$text" || is "$name" 'yes\n'
   done
   is src/bad.c '#endif\n'
@@ -139,8 +139,8 @@ injected() {
 by_default=(env --default-signal)
 "${by_default[@]}" true 2> /dev/null || by_default=()
 
-# in_folder FOLDER: runs the tests in a folder of its own below a folder.
-in_folder() {
+# in_directory DIRECTORY: runs the tests in a directory of its own below a directory.
+in_directory() {
   local test
   work=$(mktemp -d "$1/tree-test.XXXXXX")
   chmod 755 "$work"
@@ -159,7 +159,7 @@ in_image() {
   mkdir "$mounted/top"
   if "mkfs.$1" -q "$mounted/image" 2> /dev/null &&
     mount -o loop "$mounted/image" "$mounted/top" 2> /dev/null; then
-    in_folder "$mounted/top"
+    in_directory "$mounted/top"
     umount "$mounted/top"
   else
     left_out "$1 cannot be mounted here"
@@ -191,8 +191,8 @@ for name in "${@:-${subjects[@]}}"; do
   fi
 done
 trap leave EXIT
-in_folder "${TMPDIR:-/tmp}"
-[ ! -w /dev/shm ] || in_folder /dev/shm
+in_directory "${TMPDIR:-/tmp}"
+[ ! -w /dev/shm ] || in_directory /dev/shm
 in_image ext3 32M
 in_image xfs 400M
 echo "unifdef-tree: $passed checks hold, $failed don't"

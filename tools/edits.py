@@ -11,7 +11,7 @@ many crates at once as tools/gate.py proves.
 
 Edits of different functions are checked together. Callers rest on a contract and never on a body,
 so the goals of a function fail only for its own edit. An edit is refused if such a goal fails: an
-obligation inside the function, or an answer in its folder of `proofs`. A call of a function that
+obligation inside the function, or an answer in its directory of `proofs`. A call of a function that
 isn't proved doesn't count. The other edits are checked again without those that are refused. If
 none is refused, they are checked in halves, and at last each alone. An edit outside a body is
 checked alone, and so is each with --alone.
@@ -51,9 +51,9 @@ REFUSED, OPEN, PROVED, BAD = "refused", "not decided", "PROVED", "BAD EDIT"
 # The line on which a function begins. `const fn` is left out: a type may rest on the body.
 FUNCTION = re.compile(r'( *)(?:pub(?:\([a-z: ]+\))? )?(?:unsafe )?(?:extern "C" )?fn (\w+)')
 
-# The folders of edits of a crate: those that `.ci/run` tries, by the gate or by this tool, and
+# The directories of edits of a crate: those that `.ci/run` tries, by the gate or by this tool, and
 # further ones.
-FOLDERS = ["must-fail", "must-fail-second"]
+DIRECTORIES = ["must-fail", "must-fail-second"]
 
 # A file that an edit may change: one of the crate itself, or definitions of a crate below.
 EDITABLE = re.compile(r"(?:(?:src|specs|proofs)|\.\./(\w+)/specs)/(?!.*\.\.)")
@@ -157,9 +157,9 @@ class Edit:
 COMMANDS = Commands()
 
 
-def run_check(folder):
+def run_check(directory):
     """Returns the status of a check, and what it prints."""
-    how = {"cwd": folder, "errors": "replace", "stdin": subprocess.DEVNULL}
+    how = {"cwd": directory, "errors": "replace", "stdin": subprocess.DEVNULL}
     how |= {"stdout": subprocess.PIPE, "stderr": subprocess.STDOUT}
     check = COMMANDS.start([RT, "check", "--jobs", "1"], **how)
     said, _ = check.communicate()
@@ -178,7 +178,7 @@ class Room:
     """A copy of a crate, with what earlier checks kept of it, beside links to those below it."""
 
     def __init__(self, place, top, crate, below, edited):
-        self.folder, self.checks = f"{place}/crates/{crate}", 0
+        self.directory, self.checks = f"{place}/crates/{crate}", 0
         # Those below from the first one that is edited, which are all checked again.
         first = min([below.index(it) for it in edited], default=len(below))
         self.below = below[first:]
@@ -188,23 +188,23 @@ class Room:
             how = {"ignore": shutil.ignore_patterns("incremental"), "copy_function": link}
             how = {"copy_function": link_kept} if it in self.below else how
             shutil.copytree(f"{top}/crates/{it}", f"{place}/crates/{it}", **how)
-        shutil.copytree(f"{top}/crates/{crate}", self.folder, copy_function=link_kept)
+        shutil.copytree(f"{top}/crates/{crate}", self.directory, copy_function=link_kept)
 
     def sources(self):
         """Yields the paths of the crate's files of code."""
-        for at, _, names in sorted(os.walk(f"{self.folder}/src")):
+        for at, _, names in sorted(os.walk(f"{self.directory}/src")):
             for it in sorted(names):
                 if it.endswith(".rt"):
-                    yield os.path.relpath(f"{at}/{it}", self.folder)
+                    yield os.path.relpath(f"{at}/{it}", self.directory)
 
     def read(self, path):
         """Returns the text of a file, which is empty if there is no file."""
-        return text_of(f"{self.folder}/{path}")
+        return text_of(f"{self.directory}/{path}")
 
     def write(self, texts):
         """Writes texts by path."""
         for path, text in texts.items():
-            with open(f"{self.folder}/{path}", "w", encoding="utf-8") as it:
+            with open(f"{self.directory}/{path}", "w", encoding="utf-8") as it:
                 it.write(text)
 
     def check(self, texts):
@@ -213,8 +213,8 @@ class Room:
         edited = any(path.startswith("../") for path in texts)
         self.write(texts)
         try:
-            for crate in [*(self.below if edited else []), os.path.basename(self.folder)]:
-                status, said = run_check(os.path.join(os.path.dirname(self.folder), crate))
+            for crate in [*(self.below if edited else []), os.path.basename(self.directory)]:
+                status, said = run_check(os.path.join(os.path.dirname(self.directory), crate))
                 self.checks += 1
                 if status:
                     break
@@ -231,7 +231,7 @@ class Batch:
 
     def add(self, edit, read, alone):
         """Adds an edit, and returns whether it fits beside the others. Functions of the same name
-        are never together, because their folders of proofs may be alike."""
+        are never together, because their directories of proofs may be alike."""
         applied = edit.apply(self.texts, read)
         names = {name for _, name in applied[1]} if applied else set()
         if self.edits and (alone or not names or not self.names or names & self.names):
@@ -375,12 +375,14 @@ def try_batches(room, edits, alone):
         left += batches_of(again[half:], room.read, alone or not status)
 
 
-def edits_of(top, crate, folders):
-    """Returns the edits in some folders of a crate, and a message for each that can't be tried."""
+def edits_of(top, crate, directories):
+    """Returns the edits in some directories of a crate, and a message for each that can't be
+    tried."""
     at, good, bad, names = f"{top}/crates/{crate}", [], [], set()
-    for folder in folders:
-        found = os.listdir(f"{at}/{folder}") if os.path.isdir(f"{at}/{folder}") else []
-        for edit in [Edit(f"{at}/{folder}/{it}") for it in sorted(found) if it.endswith(".edit")]:
+    for directory in directories:
+        found = os.listdir(f"{at}/{directory}") if os.path.isdir(f"{at}/{directory}") else []
+        files = [it for it in sorted(found) if it.endswith(".edit")]
+        for edit in [Edit(f"{at}/{directory}/{it}") for it in files]:
             if edit.name in names:
                 bad.append(f"{BAD} {crate}/{edit.name}: another edit has this name")
             elif not edit.apply({}, lambda path: text_of(f"{at}/{path}")):
@@ -397,10 +399,10 @@ def say(*lines):
     sys.stdout.flush()
 
 
-def run(top, crate, below, folders, alone):
+def run(top, crate, below, directories, alone):
     """Tries the edits of a crate that is proved, and returns their names by verdict."""
     found, begin = {REFUSED: [], OPEN: [], PROVED: [], BAD: []}, time.monotonic()
-    edits, bad = edits_of(top, crate, folders)
+    edits, bad = edits_of(top, crate, directories)
     edits = [it for it in edits if not it.is_of_gate]
     with tempfile.TemporaryDirectory(prefix=".edits-", dir=top) as place:
         room = Room(place, top, crate, below, {name for it in edits for name in it.below()})
@@ -415,14 +417,14 @@ def run(top, crate, below, folders, alone):
     return found
 
 
-def run_all(crates, used, folders, alone):
+def run_all(crates, used, directories, alone):
     """Tries the edits of crates side by side, and returns how many there are of each verdict."""
-    order = sorted(crates, key=lambda it: -len(edits_of(HERE, it, folders)[0]))
+    order = sorted(crates, key=lambda it: -len(edits_of(HERE, it, directories)[0]))
     count = dict.fromkeys((REFUSED, OPEN, PROVED, BAD), 0)
     with concurrent.futures.ThreadPoolExecutor(jobs()) as pool:
         try:
             below = {it: at_or_below(it, used)[:-1] for it in order}
-            runs = [pool.submit(run, HERE, it, below[it], folders, alone) for it in order]
+            runs = [pool.submit(run, HERE, it, below[it], directories, alone) for it in order]
             for it in concurrent.futures.as_completed(runs):
                 count = {verdict: count[verdict] + len(it.result()[verdict]) for verdict in count}
         except BaseException:
@@ -434,7 +436,7 @@ def run_all(crates, used, folders, alone):
 
 def read_all(used):
     """Reads the edits of all crates. Returns 1 if some can't be tried."""
-    edits = [edits_of(HERE, crate, FOLDERS) for crate in used]
+    edits = [edits_of(HERE, crate, DIRECTORIES) for crate in used]
     bad = [it for _, messages in edits for it in messages]
     print(*bad, sep="\n", end="\n" if bad else "")
     print(f"edits: {sum(len(good) for good, _ in edits)} can be tried, {len(bad)} can't")
@@ -454,11 +456,11 @@ def main():
     unknown = [it for it in options.crates if it not in used]
     if unknown:
         return f"edits: crates.txt has no crate {unknown[0]}"
-    folders = FOLDERS if options.all else FOLDERS[:1]
-    crates = [it for it in options.crates or used if sum(map(len, edits_of(HERE, it, folders)))]
+    directories = DIRECTORIES if options.all else DIRECTORIES[:1]
+    crates = [it for it in options.crates or used if sum(map(len, edits_of(HERE, it, directories)))]
     if not Build(crates, split={}).run():
         return 1
-    count = run_all(crates, used, folders, options.alone)
+    count = run_all(crates, used, directories, options.alone)
     bad = f", {count[BAD]} can't be tried" if count[BAD] else ""
     print(f"{count[REFUSED]} refused, {count[OPEN]} not decided, {count[PROVED]} proved{bad}")
     return 1 if count[PROVED] or count[BAD] else 0

@@ -8,7 +8,7 @@ sys.dont_write_bytecode = True
 
 TOP = os.path.dirname(os.path.dirname(os.path.realpath(__file__)))
 
-# Folders of which no file belongs to it.
+# Directories of which no file belongs to it.
 OTHERS = (".git", "out", "__pycache__", "build", "release")
 
 
@@ -21,8 +21,8 @@ def tracked():
         )
         return [it for it in listed.stdout.split() if os.path.exists(f"{TOP}/{it}")]
     found = []
-    for folder, folders, names in os.walk(TOP):
-        folders[:] = [it for it in folders if it not in OTHERS and not it.startswith(".prove-")]
+    for directory, below, names in os.walk(TOP):
+        below[:] = [it for it in below if it not in OTHERS and not it.startswith(".prove-")]
         own = [it for it in names if not it.startswith("libunifdef.")]
-        found += [os.path.relpath(os.path.join(folder, it), TOP) for it in own]
+        found += [os.path.relpath(os.path.join(directory, it), TOP) for it in own]
     return sorted(found)

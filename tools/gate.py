@@ -51,8 +51,8 @@ def edits_of_gate(crate):
 
 
 def copy_crates(top):
-    """Copies the crates to a folder, with the edits that the gate tries. `rt ci` takes the folder
-    as the top of a repository, since it has one of the name `.git`."""
+    """Copies the crates to a directory, with the edits that the gate tries. `rt ci` takes it as the
+    top of a repository, since it contains one of the name `.git`."""
     os.mkdir(f"{top}/.git")
     for it in ("HANDLES", "crates.txt"):
         shutil.copy2(f"{HERE}/{it}", top)
@@ -65,7 +65,7 @@ def copy_crates(top):
 
 
 def take_programs(top, status):
-    """Copies the programs that the gate built in a folder."""
+    """Copies the programs that the gate built in a directory."""
     for crate in libraries():
         made = f"{top}/crates/{crate}/out/{crate}"
         if os.path.exists(made):
@@ -104,7 +104,7 @@ def jobs():
 
 
 def run(top, lanes):
-    """Runs `rt ci` in a folder, and returns its status."""
+    """Runs `rt ci` in a directory, and returns its status."""
     say("gate", f"{lanes} checks side by side; all lines go to gate.log")
     how = {"cwd": top, "env": {**os.environ, "RT_JOBS": str(lanes)}, "errors": "replace"}
     how |= {"stdout": subprocess.PIPE, "stderr": subprocess.STDOUT}

@@ -7,7 +7,7 @@
 Prints each name that isn't there as PAGE:LINE: NAME, and exits with 1 if there is one. Names are
 looked for in backquotes, outside of code blocks:
 
-    docs/DESIGN.md, Answer.antt        a file or folder of the tree, or the end of its path
+    docs/DESIGN.md, Answer.antt        a file or directory of the tree, or the end of its path
     make faults                        a target of the Makefile
     Type::method                       both in one source file
     Module.definition                  in the file Module.antt
@@ -91,7 +91,7 @@ class Tree:
     def missing(self, cited):
         """Yields the names in a citation that don't exist."""
         if cited in EXCEPTED or re.match(r"[-#$/\"'~.]", cited):
-            return  # An option, C text, a shell's variable, a folder of the machine, an ending.
+            return  # An option, C text, a shell's variable, a directory of the machine, an ending.
         if PATH.fullmatch(cited) and ("/" in cited or ENDING.search(cited)):
             if cited.rstrip("/") not in self.ends:
                 yield cited

@@ -7,9 +7,9 @@
 A crate is proved as soon as the libraries that it uses are. Those with the longest chain above them
 come first. What a crate prints is shown only if it fails, and then the others are stopped.
 
-Rattle's command locks the folder of a crate, and those of the crates below it, while it proves it.
-So each crate is proved in a folder of its own, with links to its files and to what the crates below
-have become, and what it becomes is moved back.
+Rattle's command locks the directory of a crate, and those of the crates below it, while it proves
+it. So each crate is proved in a directory of its own, with links to its files and to what the
+crates below have become, and what it becomes is moved back.
 
 Says on the error stream what begins, and what has ended after how long.
 """
@@ -26,7 +26,7 @@ import time
 sys.dont_write_bytecode = True
 
 HERE = os.path.dirname(os.path.dirname(os.path.realpath(__file__)))
-# Rattle's command, which is run in other folders.
+# Rattle's command, which is run in other directories.
 RT = os.environ.get("RT", "rt")
 RT = os.path.abspath(RT) if "/" in RT else RT
 CPU = os.environ.get("UNIFDEF_CPU", "")
@@ -75,10 +75,10 @@ def at_or_below(crate, used):
     return [*found, crate]
 
 
-def words_of(folder):
+def words_of(directory):
     """Returns the arguments of a program's stored run."""
     try:
-        with open(f"{folder}/args", encoding="utf-8") as lines:
+        with open(f"{directory}/args", encoding="utf-8") as lines:
             return lines.read().splitlines()
     except FileNotFoundError:
         return []
@@ -126,7 +126,7 @@ def take(made, target):
 
 
 def found_repository(source, target, crates):
-    """Makes a folder the top of a repository with some of the crates of another one."""
+    """Makes a directory the top of a repository with some of the crates of another one."""
     shutil.copy2(f"{source}/HANDLES", target)
     with open(f"{source}/crates.txt", encoding="utf-8") as lines:
         kept = [it for it in lines if re.match(r"\w*", it)[0] in crates]
@@ -159,12 +159,12 @@ class Commands:
 
 
 class Room:
-    """A folder with a crate and those below it, where nothing else is proved."""
+    """A directory with a crate and those below it, where nothing else is proved."""
 
     def __init__(self, crate, below):
         self.crate = crate
         self.top = tempfile.mkdtemp(prefix=".prove-", dir=HERE)
-        self.folder = f"{self.top}/crates/{crate}"
+        self.directory = f"{self.top}/crates/{crate}"
         found_repository(HERE, self.top, (*below, crate))
         for it in (*below, crate):
             source, target = f"{HERE}/crates/{it}", f"{self.top}/crates/{it}"
@@ -182,7 +182,7 @@ class Room:
             os.rename(made, place)
 
     def leave(self):
-        """Moves what was made of the crate back, and removes the folder."""
+        """Moves what was made of the crate back, and removes the directory."""
         self.move_out(self.top, HERE)
         shutil.rmtree(self.top, ignore_errors=True)
 
@@ -194,14 +194,14 @@ class Run:
         self.crate, self.jobs, self.begin = crate, jobs, time.monotonic()
         self.log = tempfile.TemporaryFile()
         self.room = Room(crate, below)
-        folder = self.room.folder
+        directory = self.room.directory
         # `rt run` proves and builds before it runs. The words of the stored run give status 0.
-        is_program = os.path.exists(f"{folder}/src/main.rt")
+        is_program = os.path.exists(f"{directory}/src/main.rt")
         split, cpu = ["--jobs", str(jobs)], ["--cpu", CPU] if CPU else []
-        program = ["run", *split, *cpu, "--", *words_of(folder)]
+        program = ["run", *split, *cpu, "--", *words_of(directory)]
         verb = program if is_program else ["lib", *split]
         how = {"stdin": subprocess.DEVNULL, "stdout": self.log, "stderr": self.log}
-        self.process = subprocess.Popen([RT, *verb], cwd=folder, start_new_session=True, **how)
+        self.process = subprocess.Popen([RT, *verb], cwd=directory, start_new_session=True, **how)
 
     def spent(self):
         return time.monotonic() - self.begin

@@ -27,9 +27,10 @@ WORDS = {
     r"\b(in|of) pieces\b|\bpieces? of (the )?(input|text|at most)\b": "chunk",
     r"\broom for\b|\bhas no room\b|\b(a|long|short) room\b": "capacity, buffer",
     r"\b(is|are|was|were) (told|said|put|seen|had|lent|judged|turned|spoiled)\b": "set, returned",
+    r"\bfolders?\b": "directory",
     r"\b(what is (left|seen|said|told|put|kept) of|worth|for good)\b": "the output for, the value",
 }
-PAGE_WORDS = {r"\bfolders?\b": "directory", r"\bbeside\b": "next to, compared with"}
+PAGE_WORDS = {r"\bbeside\b": "next to, compared with"}
 USER_WORDS = {r"\bfault(s|y)?\b": "error"}
 USER_PAGES = re.compile(
     r"README\.md|CHANGELOG\.md|docs/(C|DIFFERENCES|EXAMPLES|PROVED)\.md|docs/.*\.[13]"

@@ -22,12 +22,12 @@ from prove import HERE, RT, take
 LINES = 20_000_000
 
 
-def program_in(folder):
-    """Returns the path of the program that `rt try` built in a folder and runs, or None."""
+def program_in(directory):
+    """Returns the path of the program that `rt try` built in a directory and runs, or None."""
     for it in glob.glob("/proc/[0-9]*/cmdline"):
         try:
             with open(it, encoding="utf-8", errors="replace") as words:
-                ran = [word for word in words.read().split("\0") if word.startswith(f"{folder}/")]
+                ran = [it for it in words.read().split("\0") if it.startswith(f"{directory}/")]
         except OSError:
             continue
         if ran and ran[0].endswith("/program"):

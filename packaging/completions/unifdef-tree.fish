@@ -1,6 +1,6 @@
 # Completions of unifdef-tree for fish.
 
-# Prints the names in the conditions of the C files below the folder: of the first files, and for
+# Prints the names in the conditions of the C files below the directory: of the first files, and for
 # two seconds at most, so that a key press doesn't wait longer. One of them is for find, since
 # unifdef-tree prints at its end.
 function __unifdef_tree_names

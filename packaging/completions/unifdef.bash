@@ -1,6 +1,6 @@
 # Completions of unifdef and unifdef-tree for bash.
 
-# Prints the names in the conditions of the C files below the folder: of the first files, and for
+# Prints the names in the conditions of the C files below the directory: of the first files, and for
 # two seconds at most, so that a key press doesn't wait longer. One of them is for find, since
 # unifdef-tree prints at its end.
 #
@@ -22,8 +22,8 @@ _unifdef_after() {
   mapfile -t COMPREPLY < <(compgen -P "$1" -W "$2" -- "${typed#"$1"}")
 }
 
-# Completes a name after its prefix $2, which the program $1 lists. No space follows one that may have
-# a value.
+# Completes a name after its prefix $2, which the program $1 lists. No space follows one that may
+# have a value.
 _unifdef_symbol() {
   _unifdef_after "$2" "$(_unifdef_names "$1")"
   [[ $3 != *D ]] || compopt -o nospace 2> /dev/null || true

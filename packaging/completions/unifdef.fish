@@ -1,6 +1,6 @@
 # Completions of unifdef for fish.
 
-# Prints the names in the conditions of the C files below the folder: of the first files, and for
+# Prints the names in the conditions of the C files below the directory: of the first files, and for
 # two seconds at most, so that a key press doesn't wait longer.
 function __unifdef_names
     timeout 2 find . -name '.?*' -prune -o -type f \( -name '*.[ch]' -o -name '*.cc' -o -name '*.hh' \

@@ -1,4 +1,4 @@
-/* Refuses memory to a program, if it is loaded before the program. README.md in this folder
+/* Refuses memory to a program, if it is loaded before the program. README.md in this directory
  * describes it.
  *
  * REFUSE_FROM and REFUSE_TO: the first and the last growth that is refused, counted from 1.

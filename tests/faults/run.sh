@@ -1,6 +1,6 @@
 #!/usr/bin/env bash
 # Runs ./unifdef with failing reads and writes of the system, with a small stack, and with each
-# growth of memory refused in turn. README.md in this folder describes it.
+# growth of memory refused in turn. README.md in this directory describes it.
 #
 # The program of crates/test_memory is left out if it isn't built.
 # shellcheck disable=SC2016,SC2086 # Commands are run by `eval`, and words of options are split.
@@ -47,9 +47,9 @@ for how in '2>&-' '2> /dev/full'; do
 done
 fails 'a full error stream at a fault of the arguments' 2 '' '' 'limited -B 2> /dev/full'
 fails 'a closed input' 2 '' "$read_error" 'limited -DA <&-'
-fails 'a folder as input' 2 '' "$read_error" 'limited -DA < "$work"'
-mkdir "$work/folder"
-fails 'a folder' 2 '' 'unifdef: folder: Read error\n' 'cd "$work" && limited -DA folder'
+fails 'a directory as input' 2 '' "$read_error" 'limited -DA < "$work"'
+mkdir "$work/directory"
+fails 'a directory' 2 '' 'unifdef: directory: Read error\n' 'cd "$work" && limited -DA directory'
 fails 'a file that is not there' 2 '' 'unifdef: none: Cannot open\n' 'limited -DA none'
 fails 'no UTF-8' 2 '' 'unifdef: Cannot take arguments\n' 'limited -DA $'"'\\xff'"
 

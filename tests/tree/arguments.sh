@@ -7,7 +7,7 @@ test_faults() {
   put src/bad.c '#endif\n'
   put src/$'very\nbad.c' 'x\n#else\n'
   run 2 -DA src nowhere
-  says 'nowhere: No such file or folder'
+  says 'nowhere: No such file or directory'
   is src/good.c "$text"
   run 2 -DA src -n
   says 'Option after a path: -n'
@@ -100,7 +100,7 @@ EOT
     refused "$words and -s don't go together" -s "$words" src
   done
   refused 'Bad symbol: -D' -D '' -UA src
-  refused "src/\\xff.c: Argument isn't UTF-8; name its folder" -DA $'src/\xff.c'
+  refused "src/\\xff.c: Argument isn't UTF-8; name its directory" -DA $'src/\xff.c'
   refused 'Cannot take arguments' -DA "$(repeat x 5000)"$'\xff.c'
   is src/good.c "$text"
 }

@@ -22,7 +22,7 @@ test_kills() {
     each_old_or_new
     tree -DA src
     none_left
-    is src/a.c src/folder/b.c 'yes\n'
+    is src/a.c src/directory/b.c 'yes\n'
     check grep -q ', 1 faulty$' "$work/err"
   done
   check test "$killed" -gt 40
@@ -35,7 +35,7 @@ test_signals() {
     injected any "rename:signal=$it:when=1" -DA src
     check test "$status" -gt 128
     is src/a.c 'yes\n'
-    is src/folder/b.c "$text"
+    is src/directory/b.c "$text"
   done
 }
 
@@ -54,7 +54,7 @@ test_failing_calls() {
         small_tree
         injected any "$call:error=$error:when=$i" -DA src
         each_old_or_new
-        [ "$status" -eq 2 ] || is src/a.c src/folder/b.c 'yes\n'
+        [ "$status" -eq 2 ] || is src/a.c src/directory/b.c 'yes\n'
       done
     done
   done << 'EOT'
@@ -79,13 +79,13 @@ test_syncs() {
   injected 2 fsync:error=EIO:when=1 -DA src
   says 'src/a.c: Cannot be written: Input/output error'
   is src/a.c "$text"
-  is src/folder/b.c 'yes\n'
+  is src/directory/b.c 'yes\n'
   none_left
   small_tree
   injected 2 fsync:error=EDQUOT -DA src
   says 'src/a.c: Cannot be written: Disk quota exceeded' \
-    'src/folder/b.c: Cannot be written: Disk quota exceeded'
-  is src/a.c src/folder/b.c "$text"
+    'src/directory/b.c: Cannot be written: Disk quota exceeded'
+  is src/a.c src/directory/b.c "$text"
   none_left
   small_tree
   ln src/a.c linked.c
@@ -108,7 +108,7 @@ test_synced_diffs() {
   injected 2 fdatasync:error=EIO:when=1 -q -d -DA src
   says 'stdout: Cannot be written'
   is src/a.c 'yes\n'
-  is src/folder/b.c "$text"
+  is src/directory/b.c "$text"
 }
 
 # No file is read for -n once its diffs can't be written.

@@ -140,7 +140,7 @@ test_undoes_elsewhere() {
   patch -s -R -d / -p1 -i "$work/out"
   is src/a.c "$text"
   (cd src && "$TREE" -d -DA ../src > "$work/above" 2> /dev/null)
-  is src/folder/b.c 'yes\n'
+  is src/directory/b.c 'yes\n'
   (cd src && patch -s -R -d .. -p1 -i "$work/above")
-  is src/folder/b.c "$text"
+  is src/directory/b.c "$text"
 }

@@ -13,9 +13,9 @@ test_keeps() {
   ln -s one.c src/symbolic.c
   ln -s ../elsewhere.c src/outside.c
   ln -s nowhere src/dangling.c
-  ln -s ../folder src/linked
-  mkdir folder
-  put folder/f.c "$text"
+  ln -s ../directory src/linked
+  mkdir directory
+  put directory/f.c "$text"
   before=$(stat -c '%i %y' src/same.c)
   one=$(number src/one.c)
   tree -n -w -DA -- src src/one.c ./src/mode.c
@@ -30,10 +30,10 @@ test_keeps() {
   check same "$(number src/one.c) $(number src/two.c)" "$one $one"
   is src/mode.c src/two.c outside.c 'yes\n'
   check same "$(readlink src/{symbolic,outside,dangling}.c)" $'one.c\n../elsewhere.c\nnowhere'
-  is elsewhere.c folder/f.c "$text"
+  is elsewhere.c directory/f.c "$text"
   none_left
   tree -DA -- src/linked
-  is folder/f.c 'yes\n'
+  is directory/f.c 'yes\n'
   run 2 -DA -- src/outside.c
   says_first 'src/outside.c: Is a symbolic link'
   put src/one.c "$text"
@@ -75,7 +75,7 @@ test_refusals() {
   $as any -DA src
   says '0 changed, 0 unchanged, 4 faulty' \
     'src/locked.c: Cannot be written: Permission denied' \
-    "src/sealed/a.c: Its folder can't be written; -w writes into the file" \
+    "src/sealed/a.c: Its directory can't be written; -w writes into the file" \
     'src/closed/: Cannot be read: Permission denied' \
     'src/unreadable.c: Cannot be read: Permission denied'
   is src/locked.c src/sealed/a.c "$text"
@@ -145,7 +145,7 @@ test_locks() {
 }
 
 # Files over which no other one can be renamed: where a file is mounted, and those of others in a
-# folder with the sticky bit.
+# directory with the sticky bit.
 test_unrenamed() {
   is_root || return 0
   fresh src/a.c

@@ -8,9 +8,9 @@ test_names() {
   # shellcheck disable=SC2016 # The dollar belongs to the name.
   local odd=('a b.c' $'line\nfeed.c' $'ends in\n.h' '-n.c' '*.c' "it's.c" '$(x).h' 'back\slash.c'
     '(.c' '!.c' 'a=b.c')
-  local chosen=("${odd[@]/#/src/}" src/{x.cc,x.hpp,x.h.in,-DB/y.C,folder.c/z.H})
+  local chosen=("${odd[@]/#/src/}" src/{x.cc,x.hpp,x.h.in,-DB/y.C,directory.c/z.H})
   local others=(src/a.txt src/a.c.new "${versioned[@]/%//hook.c}")
-  mkdir src/-DB src/folder.c "${versioned[@]}"
+  mkdir src/-DB src/directory.c "${versioned[@]}"
   put "${chosen[@]}" "${others[@]}" "$bad" "$text"
   mkfifo src/pipe.c
   run 2 -DA -- src
@@ -51,7 +51,7 @@ test_messages() {
   chmod 0 "$sealed"
   mkfifo src/$'tab\t.c'
   refused 'src/tab\x09.c: Is no regular file' -DA src/$'tab\t.c'
-  refused 'src/\x1b[31mred.c: No such file or folder' -DA src/$'\e[31mred.c'
+  refused 'src/\x1b[31mred.c: No such file or directory' -DA src/$'\e[31mred.c'
   refused 'Bad symbol: -DA\x0a1' -D$'A\n1' src
   tree -DA src
   check grep -qxF 'unifdef: src/bell\x07.c: 1: Inappropriate #endif' "$work/err"
@@ -66,14 +66,14 @@ test_paths_from_input() {
   local input=$work/paths option
   fresh src/a.txt src/b.c
   ln -s a.txt src/link
-  mkdir src/folder
-  put src/folder/c.c "$text"
+  mkdir src/directory
+  put src/directory/c.c "$text"
   mkfifo src/pipe
-  printf 'src/a.txt\0src/link\0src/folder\0src/pipe\0src/none\0src/\x81\0' > "$work/paths"
+  printf 'src/a.txt\0src/link\0src/directory\0src/pipe\0src/none\0src/\x81\0' > "$work/paths"
   run 2 -0 -DA
   is src/a.txt 'yes\n'
-  is src/b.c src/folder/c.c "$text"
-  says 'src/pipe: Is no regular file' 'src/none: No such file or folder' \
+  is src/b.c src/directory/c.c "$text"
+  says 'src/pipe: Is no regular file' 'src/none: No such file or directory' \
     "src/\\x81: Its name isn't UTF-8" '1 changed, 0 unchanged, 3 faulty'
   rm src/pipe
   find src -print0 > "$work/paths"

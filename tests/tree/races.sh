@@ -1,5 +1,5 @@
 #!/usr/bin/env bash
-# Files and folders that another program changes while a run is at them.
+# Files and directories that another program changes while a run is at them.
 # shellcheck disable=SC2034,SC2154,SC2086 # Words of options are split.
 
 # paused STATUS OPTIONS CALL N COMMAND..: runs a command while a run over the small tree waits in
@@ -29,7 +29,7 @@ paused() {
 number_of() { grep "$1(" "$work/calls" | grep -n -m 1 -e "$2" | cut -d : -f 1; }
 last_of() { grep "$1(" "$work/calls" | grep -n -e "$2" | tail -n 1 | cut -d : -f 1; }
 
-# with_outside: makes a small tree, and a folder outside with a file of the same name.
+# with_outside: makes a small tree, and a directory outside with a file of the same name.
 with_outside() {
   small_tree
   mkdir outside
@@ -38,8 +38,8 @@ with_outside() {
 
 # What another program does.
 put_link() { mv "$1" "$work/moved"; ln -s "$work/victim" "$1"; }
-move_folder() { mv src/folder was; ln -s ../outside src/folder; }
-put_pipe() { rm src/folder/b.c; mkfifo src/folder/b.c; }
+move_directory() { mv src/directory was; ln -s ../outside src/directory; }
+put_pipe() { rm src/directory/b.c; mkfifo src/directory/b.c; }
 edit() { printf '#ifdef B' | dd of=src/a.c conv=notrunc status=none; }
 edit_in_secret() { touch -r src/a.c "$work/time"; edit; touch -r "$work/time" src/a.c; }
 other_run() { "$TREE" -q -UA src 2> "$work/other"; }
@@ -51,11 +51,11 @@ test_meanwhile() {
   paused 2 -DA fchmod 1 put src/a.c 'mine\n'
   says 'src/a.c: Changed meanwhile'
   is src/a.c 'mine\n'
-  is src/folder/b.c 'yes\n'
+  is src/directory/b.c 'yes\n'
   none_left
   small_tree
   paused 2 -DA fchmod 1 rm src/a.c
-  check same "$(ls src)" $'bad.c\nfolder\nsame.c'
+  check same "$(ls src)" $'bad.c\ndirectory\nsame.c'
   small_tree
   paused any -DA fchmod 1 other_run
   check grep -qxF "unifdef-tree: src/a.c: Another run is at it; if none is, remove\
@@ -118,26 +118,26 @@ test_finds_same_file() {
   number=$(number_of openat '/a.c"')
   for options in -DA '-n -DA'; do
     with_outside
-    paused 2 "$options" openat "$number" move_folder
-    says 'src/folder/b.c: Cannot be read: changed meanwhile'
+    paused 2 "$options" openat "$number" move_directory
+    says 'src/directory/b.c: Cannot be read: changed meanwhile'
     is outside/b.c "$text"
   done
   small_tree
   paused 2 -DA openat "$number" put_pipe
-  check grep -q '^unifdef-tree: src/folder/b.c: Cannot be read' "$work/err"
+  check grep -q '^unifdef-tree: src/directory/b.c: Cannot be read' "$work/err"
 }
 
-# No call leaves a folder that becomes a link: neither between the look at it and its listing, nor
-# between the look at a file in it and the file's replacement.
+# No call leaves a directory that becomes a link: neither between the look at it and its listing,
+# nor between the look at a file in it and the file's replacement.
 test_stays_in_tree() {
   local number options
   small_tree
   traced any statx -DA src
-  number=$(number_of statx '/folder"')
+  number=$(number_of statx '/directory"')
   with_outside
   put outside/c.c "$text"
-  paused 2 -DA statx "$number" move_folder
-  says 'src/folder/: Cannot be read: changed meanwhile'
+  paused 2 -DA statx "$number" move_directory
+  says 'src/directory/: Cannot be read: changed meanwhile'
   check same "$(find outside -type f | wc -l)" 2
   is outside/b.c outside/c.c "$text"
   small_tree
@@ -145,8 +145,8 @@ test_stays_in_tree() {
   number=$(number_of openat '/b.c", O_RDWR')
   for options in -DA '-w -DA'; do
     with_outside
-    [ "$options" = -DA ] || ln src/folder/b.c linked.txt
-    paused any "$options" openat "$number" move_folder
+    [ "$options" = -DA ] || ln src/directory/b.c linked.txt
+    paused any "$options" openat "$number" move_directory
     is was/b.c 'yes\n'
     none_left
     check same "$(ls -A outside)" b.c
@@ -194,15 +194,15 @@ test_numbers_used_again() {
   is "src/$second" 'yes\n'
 }
 
-# failing_look STATUS ERROR WORD..: runs unifdef-tree, whose first look at a.c in the first folder
-# that is opened fails.
+# failing_look STATUS ERROR WORD..: runs unifdef-tree, whose first look at a.c in the first
+# directory that is opened fails.
 failing_look() {
   under "$1" strace -f -o /dev/null -P /proc/self/fd/3/a.c \
     -e inject='?lstat,?newfstatat,statx':error="$2":when=1 -- "${@:3}"
 }
 
-# A name vanishes between the listing of its folder and the look at it, or before the run looks at
-# it though it was named.
+# A name vanishes between the listing of its directory and the look at it, or before the run looks
+# at it though it was named.
 test_vanishing() {
   small_tree
   rm src/bad.c
@@ -211,13 +211,13 @@ test_vanishing() {
   small_tree
   failing_look 2 EIO -DA src
   says 'src/a.c: Cannot be found: Input/output error'
-  is src/folder/b.c 'yes\n'
+  is src/directory/b.c 'yes\n'
   small_tree
-  failing_look 2 ENOENT -DA src/folder src/a.c
-  says 'src/a.c: No such file or folder'
-  is src/folder/b.c "$text"
-  printf 'src/a.c\0src/folder/b.c\0' > "$work/paths"
+  failing_look 2 ENOENT -DA src/directory src/a.c
+  says 'src/a.c: No such file or directory'
+  is src/directory/b.c "$text"
+  printf 'src/a.c\0src/directory/b.c\0' > "$work/paths"
   input=$work/paths failing_look 2 ENOENT -0 -DA
-  says 'src/a.c: No such file or folder'
-  is src/folder/b.c 'yes\n'
+  says 'src/a.c: No such file or directory'
+  is src/directory/b.c 'yes\n'
 }

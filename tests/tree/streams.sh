@@ -24,7 +24,7 @@ test_closed_streams() {
   "$TREE" -DA src >&- 2>&-
   check same "$?" 2
   is src/a.c "$text"
-  is src/folder/b.c 'yes\n'
+  is src/directory/b.c 'yes\n'
   "$TREE" -DA src/a.c <&- >&- 2>&-
   check same "$?" 2
   is src/a.c "$text"
@@ -35,10 +35,10 @@ test_closed_streams() {
   says 'stdout: Cannot be written'
   is src/a.c 'yes\n'
   small_tree
-  ln src/folder/b.c linked.txt
-  "$TREE" -w -DA src/folder >&- 2>&-
+  ln src/directory/b.c linked.txt
+  "$TREE" -w -DA src/directory >&- 2>&-
   check same "$?" 2
-  is src/folder/b.c 'yes\n'
+  is src/directory/b.c 'yes\n'
   small_tree
   "$TREE" -DA src/a.c <&- > "$work/out" 2> "$work/err"
   check same "$?" 1

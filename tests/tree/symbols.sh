@@ -40,7 +40,7 @@ test_unnamed_symbols() {
 test_no_symbol() {
   local words
   fresh src/n.c
-  refused 'src/gone.c: No such file or folder' -DA=1 -DB src/n.c src/gone.c
+  refused 'src/gone.c: No such file or directory' -DA=1 -DB src/n.c src/gone.c
   for words in src '-K src' '-n src' '-p -r src' '-x2 src' -0; do
     run 2 $words
     says_first 'No symbol; -k decides constants alone, -s lists names'

@@ -1,9 +1,9 @@
-//! A folder in memory, with a file and a fresh one.
+//! A directory in memory, with a file and a fresh one.
 
 ghost use Rattle.std.specs.Prelude.{◌≡◌, ◌≤◌, length, IfSome};
 
 use std::alloc::Global;
-use ud_replace::{CreateError, FileStat, FileTime, FileVersion, Folder, FolderCall, History};
+use ud_replace::{CreateError, Directory, DirectoryCall, FileStat, FileTime, FileVersion, History};
 
 /// A change that another program makes to the file after it was read.
 #[derive(Clone, Copy)]
@@ -18,14 +18,14 @@ pub(crate) enum Change {
     Version,
 }
 
-/// How the folder fails.
+/// How the directory fails.
 #[derive(Clone, Copy)]
 pub(crate) struct Failures {
     /// The number of the call that fails, counted from 1; 0 if none does.
     pub call: usize,
     /// True if all calls after that one fail too.
     pub and_after: bool,
-    /// True if the folder can't be written.
+    /// True if the directory can't be written.
     pub denied: bool,
     /// True if the fresh name isn't free.
     pub taken: bool,
@@ -33,9 +33,9 @@ pub(crate) struct Failures {
     pub change: Change,
 }
 
-/// A folder in which the file is the one that is replaced.
+/// A directory in which the file is the one that is replaced.
 #[derive(Drop)]
-pub(crate) struct FakeFolder {
+pub(crate) struct FakeDirectory {
     /// The file's bytes.
     pub file: Vec<u8>,
     /// The bytes of the fresh file, while it is there.
@@ -50,10 +50,15 @@ pub(crate) struct FakeFolder {
     history: History,
 }
 
-impl FakeFolder {
-    /// Returns a folder before any call.
-    pub(crate) fn new(alloc: Global, file: Vec<u8>, links: u64, failures: Failures) -> FakeFolder {
-        FakeFolder {
+impl FakeDirectory {
+    /// Returns a directory before any call.
+    pub(crate) fn new(
+        alloc: Global,
+        file: Vec<u8>,
+        links: u64,
+        failures: Failures,
+    ) -> FakeDirectory {
+        FakeDirectory {
             file,
             fresh: None,
             calls: Vec::new(alloc),
@@ -114,7 +119,7 @@ fn append_one(fresh: &mut Option<Vec<u8>>, bytes: &[u8]) -> Option<usize>
     Some(1)
 }
 
-impl Folder for FakeFolder {
+impl Directory for FakeDirectory {
     ghost history = { λ f. f.history.calls };
 
     fn read(&mut self, name: &[u8], text: &mut Vec<u8>) -> Option<FileStat> {
@@ -134,13 +139,15 @@ impl Folder for FakeFolder {
             None
         };
         let text = text.as_slice();
-        self.history = self.history.with(&FolderCall::Read { name, text, answer });
+        self.history = self
+            .history
+            .with(&DirectoryCall::Read { name, text, answer });
         answer
     }
 
     fn may_write(&mut self, name: &[u8]) -> bool {
         let answer = self.works(b'm');
-        self.history = self.history.with(&FolderCall::MayWrite { name, answer });
+        self.history = self.history.with(&DirectoryCall::MayWrite { name, answer });
         answer
     }
 
@@ -158,7 +165,7 @@ impl Folder for FakeFolder {
         if answer.is_ok() {
             self.fresh = Some(Vec::new(self.alloc));
         }
-        self.history = self.history.with(&FolderCall::Create { name, answer });
+        self.history = self.history.with(&DirectoryCall::Create { name, answer });
         answer
     }
 
@@ -168,7 +175,7 @@ impl Folder for FakeFolder {
         } else {
             None
         };
-        self.history = self.history.with(&FolderCall::Append {
+        self.history = self.history.with(&DirectoryCall::Append {
             name,
             bytes,
             answer,
@@ -181,13 +188,13 @@ impl Folder for FakeFolder {
         let like = *like;
         self.history = self
             .history
-            .with(&FolderCall::SetModeAndOwner { name, like, answer });
+            .with(&DirectoryCall::SetModeAndOwner { name, like, answer });
         answer
     }
 
     fn sync(&mut self, name: &[u8]) -> bool {
         let answer = self.works(b's');
-        self.history = self.history.with(&FolderCall::Sync { name, answer });
+        self.history = self.history.with(&DirectoryCall::Sync { name, answer });
         answer
     }
 
@@ -201,7 +208,7 @@ impl Folder for FakeFolder {
         } else {
             None
         };
-        self.history = self.history.with(&FolderCall::Look { name, answer });
+        self.history = self.history.with(&DirectoryCall::Look { name, answer });
         answer
     }
 
@@ -210,7 +217,9 @@ impl Folder for FakeFolder {
         if answer && let Some(fresh) = self.fresh.take() {
             self.file = fresh;
         }
-        self.history = self.history.with(&FolderCall::Rename { from, to, answer });
+        self.history = self
+            .history
+            .with(&DirectoryCall::Rename { from, to, answer });
         answer
     }
 
@@ -223,7 +232,7 @@ impl Folder for FakeFolder {
         };
         self.history = self
             .history
-            .with(&FolderCall::Overwrite { name, text, answer });
+            .with(&DirectoryCall::Overwrite { name, text, answer });
         answer
     }
 
@@ -232,7 +241,7 @@ impl Folder for FakeFolder {
         if answer {
             self.fresh = None;
         }
-        self.history = self.history.with(&FolderCall::Remove { name, answer });
+        self.history = self.history.with(&DirectoryCall::Remove { name, answer });
         answer
     }
 }

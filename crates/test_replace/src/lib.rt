@@ -1,4 +1,4 @@
-//! Tests of `replace` over a folder in memory, whose calls fail as each case asks.
+//! Tests of `replace` over a directory in memory, whose calls fail as each case asks.
 #![tactic(auto)]
 
 #[cfg(test)]

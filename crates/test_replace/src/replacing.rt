@@ -1,6 +1,6 @@
 //! What `replace` returns, which calls it makes, and what it leaves, with the arguments `-DA`.
 
-use crate::fake::{Change, Failures, FakeFolder};
+use crate::fake::{Change, Failures, FakeDirectory};
 use std::process::Abort;
 use std::test::Fail;
 use ud_args::plan;
@@ -13,7 +13,7 @@ const TEXT: &[u8] = b"#ifdef A\nx\n#endif\n";
 /// The output for `TEXT`.
 const OUTPUT: &[u8] = b"x\n";
 
-/// A folder without failures.
+/// A directory without failures.
 const WORKS: Failures = Failures {
     call: 0,
     and_after: false,
@@ -34,7 +34,7 @@ const FILE: FileId = FileId {
 struct Left {
     /// The value that was returned.
     result: Result<Update, ReplaceError>,
-    /// The calls, as `FakeFolder` has them.
+    /// The calls, as `FakeDirectory` has them.
     calls: &'static [u8],
     /// The file's bytes.
     file: &'static [u8],
@@ -52,7 +52,7 @@ fn stays(error: ReplaceError, calls: &'static [u8]) -> Left {
     }
 }
 
-/// Returns a folder in which this call fails, or all from this one on.
+/// Returns a directory in which this call fails, or all from this one on.
 fn fails(call: usize, and_after: bool) -> Failures {
     Failures {
         call,
@@ -61,12 +61,12 @@ fn fails(call: usize, and_after: bool) -> Failures {
     }
 }
 
-/// Returns a folder whose file another program changes.
+/// Returns a directory whose file another program changes.
 fn changes(change: Change) -> Failures {
     Failures { change, ..WORKS }
 }
 
-/// Returns a folder that can't be written.
+/// Returns a directory that can't be written.
 fn denies() -> Failures {
     Failures {
         denied: true,
@@ -105,18 +105,18 @@ fn check_plan(
     want: Left,
 ) -> Result<(), Fail> {
     let alloc = rt.alloc();
-    let mut folder = FakeFolder::new(alloc, text.to_vec(alloc)?, links, failures);
+    let mut directory = FakeDirectory::new(alloc, text.to_vec(alloc)?, links, failures);
     let target = Target {
         name: b"file",
         id: FILE,
         fresh: b"fresh",
         write_into,
     };
-    let result = replace(alloc, plan, &mut folder, &target);
+    let result = replace(alloc, plan, &mut directory, &target);
     assert_eq!(rt; result, want.result);
-    assert_eq!(rt; folder.calls.as_slice(), want.calls);
-    assert_eq!(rt; folder.file.as_slice(), want.file);
-    assert_eq!(rt; folder.fresh.is_some(), want.fresh);
+    assert_eq!(rt; directory.calls.as_slice(), want.calls);
+    assert_eq!(rt; directory.file.as_slice(), want.file);
+    assert_eq!(rt; directory.fresh.is_some(), want.fresh);
     Ok(())
 }
 
@@ -226,7 +226,7 @@ fn a_file_that_another_program_has_stays(rt: HostRuntime) -> Result<(), Fail> {
 
 #[test]
 fn only_an_option_writes_into_a_file(rt: HostRuntime) -> Result<(), Fail> {
-    let denied = stays(ReplaceError::FolderDenied, b"rmc");
+    let denied = stays(ReplaceError::DirectoryDenied, b"rmc");
     check(&rt, TEXT, 1, false, denies(), denied)?;
     let linked = stays(ReplaceError::SeveralLinks, b"r");
     check(&rt, TEXT, 2, false, WORKS, linked)?;

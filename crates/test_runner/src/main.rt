@@ -1,7 +1,7 @@
 //! Runs cases against the tool, in several ways each. `data/README.md` has the form of a case.
 //!
-//! The arguments name files of cases, and folders with such files and folders. At cases that are
-//! answered wrongly both answers are printed, and the exit status is 1.
+//! The arguments name files of cases, and directories with such files and directories. At cases
+//! that are answered wrongly both answers are printed, and the exit status is 1.
 //!
 //! The first argument may also be a word:
 //!
@@ -13,10 +13,10 @@
 mod borders;
 mod case;
 mod checking;
+mod directories;
 mod engines;
 mod expected;
 mod failing;
-mod folders;
 mod hostile;
 mod limits;
 mod literals;
@@ -28,7 +28,7 @@ mod reference;
 mod running;
 
 use crate::borders::check_borders;
-use crate::folders::{Tally, run_cases};
+use crate::directories::{Tally, run_cases};
 use crate::hostile::{agree_from, keep_options};
 use crate::limits::check_limits;
 use std::alloc::{AllocError, Global};
@@ -54,7 +54,7 @@ fn main(rt: HostRuntime) -> io::Result<ExitCode> {
     }
 }
 
-/// Runs the cases of these folders and files, and returns their numbers.
+/// Runs the cases of these directories and files, and returns their numbers.
 fn tally_of(rt: &HostRuntime, paths: &[String]) -> io::Result<Tally> {
     let mut tally = Tally { cases: 0, wrong: 0 };
     for path in paths {

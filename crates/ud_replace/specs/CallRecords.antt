@@ -1,23 +1,25 @@
 -- CallRecords: the calls that code hands to a history.
 use Rattle.std.specs.Prelude.{map}
-use Rattle.ud_replace.specs.declared.call.FolderWalk.{FolderWalk}
-use Rattle.ud_replace.specs.declared.call.FolderWalk.TheVariants.{Met, Followed, Listed}
-use Rattle.ud_replace.specs.declared.call.FolderCall.{FolderCall}
-use Rattle.ud_replace.specs.declared.call.FolderCall.TheVariants.{Read, MayWrite, Create, Append}
-use Rattle.ud_replace.specs.declared.call.FolderCall.TheVariants.{SetModeAndOwner, Sync, Look}
-use Rattle.ud_replace.specs.declared.call.FolderCall.TheVariants.{Rename, Overwrite, Remove, Walk}
+use Rattle.ud_replace.specs.declared.call.DirectoryWalk.{DirectoryWalk}
+use Rattle.ud_replace.specs.declared.call.DirectoryWalk.TheVariants.{Met, Followed, Listed}
+use Rattle.ud_replace.specs.declared.call.DirectoryCall.{DirectoryCall}
+use Rattle.ud_replace.specs.declared.call.DirectoryCall.TheVariants.{Read, MayWrite, Create, Append}
+use Rattle.ud_replace.specs.declared.call.DirectoryCall.TheVariants.{SetModeAndOwner, Sync, Look}
+use Rattle.ud_replace.specs.declared.call.DirectoryCall.TheVariants.{Rename, Overwrite, Remove}
+use Rattle.ud_replace.specs.declared.call.DirectoryCall.TheVariants.{Walk}
 use Rattle.ud_replace.specs.Calls.{Call, was_read, asked, made, appended, given, synced, looked}
 use Rattle.ud_replace.specs.Calls.{renamed, overwrote, removed, walked}
 use Rattle.ud_replace.specs.Calls.{WalkCall, met, followed, listed}
 
 -- `walk_call_of w`: the same call, with the bytes that `w` refers to.
-abbrev pub walk_call_of : FolderWalk → WalkCall
+abbrev pub walk_call_of : DirectoryWalk → WalkCall
 walk_call_of (Met path answer) = met path.now answer
 walk_call_of (Followed path answer) = followed path.now answer
-walk_call_of (Listed folder names answer) = listed folder.now (map (λ n. n.items) names.now) answer
+walk_call_of (Listed directory names answer) =
+    listed directory.now (map (λ n. n.items) names.now) answer
 
 -- `call_of c`: the same call, with the bytes that `c` refers to.
-abbrev pub call_of : FolderCall → Call
+abbrev pub call_of : DirectoryCall → Call
 call_of (Read name text answer) = was_read name.now text.now answer
 call_of (MayWrite name answer) = asked name.now answer
 call_of (Create name answer) = made name.now answer

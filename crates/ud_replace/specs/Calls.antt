@@ -1,19 +1,19 @@
--- Calls: the calls of a folder, and its answers.
+-- Calls: the calls of a directory, and its answers.
 use Rattle.std.specs.Prelude.{ℕ, List, Bool, Option, Result}
-use Rattle.ud_replace.specs.declared.folder.CreateError.{CreateError}
+use Rattle.ud_replace.specs.declared.directory.CreateError.{CreateError}
 use Rattle.ud_replace.specs.declared.node.Lookup.{Lookup}
 use Rattle.ud_replace.specs.declared.stat.FileStat.{FileStat}
 
--- `WalkCall`: a call made by a walk over folders, with its answer. Paths are bytes.
+-- `WalkCall`: a call made by a walk over directories, with its answer. Paths are bytes.
 pub data WalkCall : Type 0 where
   -- `met path answer`: what is at the path
   met : List ℕ → Lookup → WalkCall
-  -- `followed path answer`: whether the path leads to a folder
+  -- `followed path answer`: whether the path leads to a directory
   followed : List ℕ → Bool → WalkCall
-  -- `listed folder names answer`: these are all the names in the folder, or some of them
+  -- `listed directory names answer`: these are all the names in the directory, or some of them
   listed : List ℕ → List (List ℕ) → Bool → WalkCall
 
--- `Call`: a call of a folder with its answer. Names and texts are bytes.
+-- `Call`: a call of a directory with its answer. Names and texts are bytes.
 pub data Call : Type 0 where
   -- `was_read name text answer`: the file was read as `text`, or reading it failed
   was_read : List ℕ → List ℕ → Option FileStat → Call

@@ -1,4 +1,4 @@
--- Moments: what calls do to the files of a folder, if their answers are true.
+-- Moments: what calls do to the files of a directory, if their answers are true.
 --
 --   Files                           the bytes of each file, by its name
 --   after c f                       the files after a call

@@ -18,10 +18,10 @@ use Rattle.ud_replace.specs.declared.error.Update.TheVariants.{Unchanged, Replac
 use Rattle.ud_replace.specs.declared.error.ReplaceError.{ReplaceError}
 use Rattle.ud_replace.specs.declared.error.ReplaceError.TheVariants.{Text, Read, OutOfMemory}
 use Rattle.ud_replace.specs.declared.error.ReplaceError.TheVariants.{ReadOnly, SeveralLinks}
-use Rattle.ud_replace.specs.declared.error.ReplaceError.TheVariants.{FolderDenied, HalfWritten}
+use Rattle.ud_replace.specs.declared.error.ReplaceError.TheVariants.{DirectoryDenied, HalfWritten}
 use Rattle.ud_replace.specs.declared.error.ReplaceError.TheVariants.{ChangedMeanwhile, Locked}
 use Rattle.ud_replace.specs.declared.error.ReplaceError.TheVariants.{Write, NotRenamed}
-use Rattle.ud_replace.specs.declared.folder.CreateError.TheVariants.{Denied, Taken, Failed}
+use Rattle.ud_replace.specs.declared.directory.CreateError.TheVariants.{Denied, Taken, Failed}
 use Rattle.ud_replace.specs.declared.node.FileId.{FileId}
 use Rattle.ud_replace.specs.declared.stat.FileStat.{FileStat}
 use Rattle.ud_replace.specs.declared.replacement.Target.{Target}
@@ -47,7 +47,7 @@ pub data Overwrites (name before text : List ℕ) (stat : FileStat) (old new : L
       Overwrites name before text stat old new (Err HalfWritten)
 
 -- `Renames into name fresh before text stat old new r`: the file `fresh` was created, filled with
--- `text`, and renamed to `name`. If that failed, `fresh` was removed. If the folder can't be
+-- `text`, and renamed to `name`. If that failed, `fresh` was removed. If the directory can't be
 -- written, or the rename failed, the file is written into, but only if `into`.
 pub data Renames (into : Bool) (name fresh before text : List ℕ) (stat : FileStat)
     (old new : List Call) : Result Update ReplaceError → Type 0 where
@@ -69,7 +69,7 @@ pub data Renames (into : Bool) (name fresh before text : List ℕ) (stat : FileS
   locked : new ≡ made fresh (Err Taken) ∷ old →
       Renames into name fresh before text stat old new (Err Locked)
   denied : into ≡ false → new ≡ made fresh (Err Denied) ∷ old →
-      Renames into name fresh before text stat old new (Err FolderDenied)
+      Renames into name fresh before text stat old new (Err DirectoryDenied)
   denied_writes : {r : Result Update ReplaceError} → into ≡ true →
       Overwrites name before text stat (made fresh (Err Denied) ∷ old) new r →
       Renames into name fresh before text stat old new r

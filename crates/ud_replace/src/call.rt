@@ -1,33 +1,33 @@
-//! A call of a folder, for a `History`.
+//! A call of a directory, for a `History`.
 
-use crate::folder::CreateError;
+use crate::directory::CreateError;
 use crate::node::Lookup;
 use crate::stat::FileStat;
 
-/// A call made by a walk over folders, with its answer.
+/// A call made by a walk over directories, with its answer.
 #[derive(Clone, Copy, Drop)]
-pub enum FolderWalk<'a> {
+pub enum DirectoryWalk<'a> {
     /// The path was looked at.
     Met {
         path: &'a [u8],
         answer: Lookup,
     },
-    /// The path was found to lead to a folder, or not.
+    /// The path was found to lead to a directory, or not.
     Followed {
         path: &'a [u8],
         answer: bool,
     },
-    /// These are all the names in a folder, or some of them.
+    /// These are all the names in a directory, or some of them.
     Listed {
-        folder: &'a [u8],
+        directory: &'a [u8],
         names: &'a [Vec<u8>],
         answer: bool,
     },
 }
 
-/// A call of a folder with its answer.
+/// A call of a directory with its answer.
 #[derive(Clone, Copy, Drop)]
-pub enum FolderCall<'a> {
+pub enum DirectoryCall<'a> {
     /// A file was read as `text`, or reading it failed.
     Read {
         name: &'a [u8],
@@ -84,5 +84,5 @@ pub enum FolderCall<'a> {
         answer: bool,
     },
     /// A walk made a call, which changes nothing.
-    Walk(FolderWalk<'a>),
+    Walk(DirectoryWalk<'a>),
 }

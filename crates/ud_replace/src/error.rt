@@ -34,9 +34,9 @@ pub enum ReplaceError {
     /// The file has several links, and writing into it wasn't allowed.
     #[error("the file has several links")]
     SeveralLinks,
-    /// The folder can't be written, and writing into the file wasn't allowed.
-    #[error("the folder can't be written")]
-    FolderDenied,
+    /// The directory can't be written, and writing into the file wasn't allowed.
+    #[error("the directory can't be written")]
+    DirectoryDenied,
     /// The file isn't the one that was found, or has other bytes, another mode, another owner or
     /// other links than when it was read.
     #[error("the file was changed meanwhile")]

@@ -1,15 +1,15 @@
-//! The calls of a folder, for types that implement `Folder`.
+//! The calls of a directory, for types that implement `Directory`.
 
 ghost use Rattle.std.specs.Prelude.{◌≡◌, List, [], ◌∷◌};
 ghost use Rattle.std.specs.Borrow.{ftrue};
 ghost use Rattle.ud_replace.specs.Calls.{Call};
 
-use crate::call::FolderCall;
+use crate::call::DirectoryCall;
 use std::marker::Model;
 
-/// The calls of a folder with their answers. It takes no memory: only contracts read it.
+/// The calls of a directory with their answers. It takes no memory: only contracts read it.
 ///
-/// Nothing ties it to the actual system calls. A type that implements `Folder` appends each call
+/// Nothing ties it to the actual system calls. A type that implements `Directory` appends each call
 /// that it makes.
 #[derive(Drop)]
 pub struct History {
@@ -32,7 +32,7 @@ impl History {
     }
 
     /// Returns this history with one more call.
-    pub fn with(&self, _call: &FolderCall<'_>) -> History
+    pub fn with(&self, _call: &DirectoryCall<'_>) -> History
         ensures { result.calls ≡ call_of _call.now ∷ self.now.calls }
     {
         History {}

@@ -10,9 +10,9 @@ ghost use Rattle.ud_replace.specs.Moments.{Files, AreTrue, EachCall, StaysOldOrN
 ghost use Rattle.ud_replace.specs.Moments.{TouchesFreshOnly};
 ghost use Rattle.ud_replace.specs.TextOutcomes.{TextOptions};
 
-/// Whatever a folder answers, only the rename touches a file other than `fresh`. The rename comes
-/// after `fresh` got the whole output and its bytes reached the disk, and after the file was read
-/// again with the same bytes. Writing into files isn't allowed here.
+/// Whatever a directory answers, only the rename touches a file other than `fresh`. The rename
+/// comes after `fresh` got the whole output and its bytes reached the disk, and after the file was
+/// read again with the same bytes. Writing into files isn't allowed here.
 pub fn law_one_rename()
     ensures { (o : TextOptions) (id : FileId) (name fresh text : List ℕ) (old new : List Call)
         (r : Result Update ReplaceError) → Replaces o false id name fresh text old new r →

@@ -1,19 +1,20 @@
 //! Replaces one file of a tree by the output for it.
 //!
-//! `replace` makes one call of a `Folder` after another: to read a file, to create another one
-//! beside it, and to rename that one over the file. The `Folder` records each call with its answer,
-//! and the contract of `replace` states which calls are made (`specs/Replacing.antt`), whatever the
-//! system answers. `law_old_or_new` states what they do to the files if the answers are true.
+//! `replace` makes one call of a `Directory` after another: to read a file, to create another one
+//! beside it, and to rename that one over the file. The `Directory` records each call with its
+//! answer, and the contract of `replace` states which calls are made (`specs/Replacing.antt`),
+//! whatever the system answers. `law_old_or_new` states what they do to the files if the answers
+//! are true.
 //!
-//! This crate makes no system calls itself. The types that implement `Folder` do.
+//! This crate makes no system calls itself. The types that implement `Directory` do.
 #![tactic(auto)]
 
 mod append;
 mod call;
+mod directory;
 mod error;
 mod folded_marks;
 mod folded_run;
-mod folder;
 mod history;
 mod laws;
 mod line_marks;
@@ -25,10 +26,10 @@ mod stat;
 mod text_plan;
 mod text_run;
 
-pub use call::{FolderCall, FolderWalk};
+pub use call::{DirectoryCall, DirectoryWalk};
+pub use directory::{CreateError, Directory};
 pub use error::{ReplaceError, Update};
 pub use folded_run::may_fold;
-pub use folder::{CreateError, Folder};
 pub use history::History;
 pub use laws::{law_old_or_new, law_one_rename};
 pub use node::{FileId, Lookup, Node, NodeKind};

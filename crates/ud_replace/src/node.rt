@@ -1,12 +1,12 @@
-//! What is at a path, as a walk over folders sees it.
+//! What is at a path, as a walk over directories sees it.
 
 /// The kind of thing at a path.
 #[derive(Clone, Copy, Debug, PartialEq, Eq)]
 pub enum NodeKind {
     /// A regular file.
     File,
-    /// A folder.
-    Folder,
+    /// A directory.
+    Directory,
     /// A symbolic link.
     Link,
     /// A device, a pipe or a socket.
@@ -25,7 +25,7 @@ pub struct FileId {
     pub born: u64,
 }
 
-/// A file, a folder or anything else at a path.
+/// A file, a directory or anything else at a path.
 #[derive(Clone, Copy, Debug, PartialEq, Eq)]
 pub struct Node {
     /// Its kind.

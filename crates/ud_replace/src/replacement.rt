@@ -13,8 +13,8 @@ ghost use Rattle.ud_replace.specs.Replacing.{KeepsAt};
 ghost use Rattle.ud_replace.specs.TextOutcomes.{TextOptions, IsPlanned, IsOutputOf};
 
 use crate::append::append_all;
+use crate::directory::{CreateError, Directory};
 use crate::error::{ReplaceError, Update};
-use crate::folder::{CreateError, Folder};
 use crate::node::FileId;
 use crate::squeezed_run::run_text;
 use crate::stat::FileStat;
@@ -30,11 +30,11 @@ pub struct Target<'a> {
     pub name: &'a [u8],
     /// Its identity.
     pub id: FileId,
-    /// The name of the file to create in the same folder. While it is taken, no other run that uses
-    /// the same name replaces the file.
+    /// The name of the file to create in the same directory. While it is taken, no other run that
+    /// uses the same name replaces the file.
     pub fresh: &'a [u8],
-    /// True if the output may be written into a file that has several links, whose folder can't be
-    /// written, or that nothing can be renamed over.
+    /// True if the output may be written into a file that has several links, whose directory can't
+    /// be written, or that nothing can be renamed over.
     pub write_into: bool,
 }
 
@@ -49,9 +49,9 @@ struct Before<'a> {
 /// Replaces a file by the output for it, as the plan asks.
 ///
 /// The file is read once. If its text has no fault and the output differs, the file `fresh` is
-/// created in the same folder. It gets the output, and the file's mode and owner, and its bytes are
-/// synced to disk. Then the file is read again. If it still has the same bytes, `fresh` is renamed
-/// over it.
+/// created in the same directory. It gets the output, and the file's mode and owner, and its bytes
+/// are synced to disk. Then the file is read again. If it still has the same bytes, `fresh` is
+/// renamed over it.
 ///
 /// So only the rename touches the file, after every byte of the output has reached the disk
 /// (`law_one_rename`). After each call the file has its old bytes or all of the new ones, if the
@@ -70,7 +70,7 @@ struct Before<'a> {
 /// - `Read` if the file can't be read, or read again, and `OutOfMemory` if memory for the
 ///   output can't be allocated.
 /// - `Text` if the text has a fault.
-/// - `SeveralLinks`, `FolderDenied` and `NotRenamed` if the file can only be written into, and
+/// - `SeveralLinks`, `DirectoryDenied` and `NotRenamed` if the file can only be written into, and
 ///   `write_into` isn't set.
 /// - `ReadOnly` if the user may not write into the file.
 /// - `Locked` if there is already a file `fresh`.
@@ -78,14 +78,14 @@ struct Before<'a> {
 /// - `Write` if another call fails.
 /// - `HalfWritten` if the file was to be written into, and neither the output nor then the old
 ///   bytes could be.
-pub fn replace<F: Folder>(
+pub fn replace<F: Directory>(
     alloc: Global,
     plan: &TextPlan,
-    folder: &mut F,
+    directory: &mut F,
     target: &Target<'_>,
 ) -> Result<Update, ReplaceError>
     ensures calls { (text : List ℕ) × ((o : TextOptions) → IsPlanned plan.now o →
-        ReplacesAt o target.now text (F.history folder.old) (F.history folder.new) result) }
+        ReplacesAt o target.now text (F.history directory.old) (F.history directory.new) result) }
 {
     let mut text = Vec::new(alloc);
     let mut out = Watched::new(Vec::<u8>::new(alloc));
@@ -94,7 +94,7 @@ pub fn replace<F: Folder>(
     replace_keeping(
         alloc,
         plan,
-        folder,
+        directory,
         target,
         &mut text,
         &mut out,
@@ -111,10 +111,10 @@ pub fn replace<F: Folder>(
 /// # Errors
 /// As `replace`. `text` then has what was read, if reading failed too. `out` may have any bytes,
 /// and `edited` any number.
-pub fn replace_keeping<F: Folder>(
+pub fn replace_keeping<F: Directory>(
     alloc: Global,
     plan: &TextPlan,
-    folder: &mut F,
+    directory: &mut F,
     target: &Target<'_>,
     text: &mut Vec<u8>,
     out: &mut Watched<Vec<u8>>,
@@ -125,12 +125,12 @@ pub fn replace_keeping<F: Folder>(
     requires empty { out.old.inner.items ≡ [] }
     requires not_failed { out.old.failed ≡ false }
     ensures calls { (o : TextOptions) → IsPlanned plan.now o → ReplacesAt o target.now
-        text.new.items (F.history folder.old) (F.history folder.new) result }
+        text.new.items (F.history directory.old) (F.history directory.new) result }
     ensures output { (o : TextOptions) → IsPlanned plan.now o → is_ok result ≡ true →
-        KeepsAt o target.now (F.history folder.old) (F.history folder.new) result text.new.items
-        (if same.new then text.new.items else out.new.inner.items) edited.new }
+        KeepsAt o target.now (F.history directory.old) (F.history directory.new) result
+        text.new.items (if same.new then text.new.items else out.new.inner.items) edited.new }
 {
-    match folder.read(target.name, text) {
+    match directory.read(target.name, text) {
         None => Err(ReplaceError::Read),
         Some(stat) => {
             if !stat.is_of(target.id) {
@@ -139,7 +139,7 @@ pub fn replace_keeping<F: Folder>(
             let text = text.as_slice();
             replace_text(
                 plan,
-                folder,
+                directory,
                 target,
                 &Before { alloc, text, stat },
                 out,
@@ -151,9 +151,9 @@ pub fn replace_keeping<F: Folder>(
 }
 
 /// Replaces a file whose text has been read.
-fn replace_text<F: Folder>(
+fn replace_text<F: Directory>(
     plan: &TextPlan,
-    folder: &mut F,
+    directory: &mut F,
     target: &Target<'_>,
     before: &Before<'_>,
     out: &mut Watched<Vec<u8>>,
@@ -163,7 +163,8 @@ fn replace_text<F: Folder>(
     requires empty { out.old.inner.items ≡ [] }
     requires not_failed { out.old.failed ≡ false }
     ensures calls { (o : TextOptions) → IsPlanned plan.now o → JudgesAt o target.now
-        before.now.text.now before.now.stat (F.history folder.old) (F.history folder.new) result }
+        before.now.text.now before.now.stat (F.history directory.old) (F.history directory.new)
+        result }
     ensures output { (o : TextOptions) → IsPlanned plan.now o → is_ok result ≡ true →
         IsOutputOf o before.now.text.now
         (if same.new then before.now.text.now else out.new.inner.items) edited.new }
@@ -181,7 +182,7 @@ fn replace_text<F: Folder>(
         Ok(ran) => {
             *edited = ran.edited;
             if ran.differs {
-                put(folder, target, before, out.inner().as_slice())
+                put(directory, target, before, out.inner().as_slice())
             } else {
                 Ok(Update::Unchanged)
             }
@@ -190,67 +191,67 @@ fn replace_text<F: Folder>(
 }
 
 /// Puts the output in the file's place, or into the file.
-fn put<F: Folder>(
-    folder: &mut F,
+fn put<F: Directory>(
+    directory: &mut F,
     target: &Target<'_>,
     before: &Before<'_>,
     output: &[u8],
 ) -> Result<Update, ReplaceError>
     ensures { PutsAt target.now before.now.text.now output.now before.now.stat
-        (F.history folder.old) (F.history folder.new) result }
+        (F.history directory.old) (F.history directory.new) result }
 {
     if before.stat.links > 1 {
-        return put_into(folder, target, before, output);
+        return put_into(directory, target, before, output);
     }
-    if !folder.may_write(target.name) {
+    if !directory.may_write(target.name) {
         return Err(ReplaceError::ReadOnly);
     }
-    rename_over(folder, target, before, output)
+    rename_over(directory, target, before, output)
 }
 
 /// Puts the output into a file that has several links.
-fn put_into<F: Folder>(
-    folder: &mut F,
+fn put_into<F: Directory>(
+    directory: &mut F,
     target: &Target<'_>,
     before: &Before<'_>,
     output: &[u8],
 ) -> Result<Update, ReplaceError>
     requires several { 1 < before.now.stat.links }
     ensures { PutsAt target.now before.now.text.now output.now before.now.stat
-        (F.history folder.old) (F.history folder.new) result }
+        (F.history directory.old) (F.history directory.new) result }
 {
     if !target.write_into {
         return Err(ReplaceError::SeveralLinks);
     }
-    if !folder.may_write(target.name) {
+    if !directory.may_write(target.name) {
         return Err(ReplaceError::ReadOnly);
     }
-    overwrite(folder, target.name, before, output)
+    overwrite(directory, target.name, before, output)
 }
 
 /// Makes a file with the output, and renames it over the file.
-fn rename_over<F: Folder>(
-    folder: &mut F,
+fn rename_over<F: Directory>(
+    directory: &mut F,
     target: &Target<'_>,
     before: &Before<'_>,
     output: &[u8],
 ) -> Result<Update, ReplaceError>
     ensures { RenamesAt target.now before.now.text.now output.now before.now.stat
-        (F.history folder.old) (F.history folder.new) result }
+        (F.history directory.old) (F.history directory.new) result }
 {
-    match folder.create(target.fresh) {
-        Ok(()) => match fill(folder, target, before, output) {
+    match directory.create(target.fresh) {
+        Ok(()) => match fill(directory, target, before, output) {
             Ok(true) => Ok(Update::Replaced),
             Ok(false) => {
-                let _gone = folder.remove(target.fresh);
+                let _gone = directory.remove(target.fresh);
                 if target.write_into {
-                    overwrite(folder, target.name, before, output)
+                    overwrite(directory, target.name, before, output)
                 } else {
                     Err(ReplaceError::NotRenamed)
                 }
             }
             Err(error) => {
-                let _gone = folder.remove(target.fresh);
+                let _gone = directory.remove(target.fresh);
                 Err(error)
             }
         },
@@ -258,9 +259,9 @@ fn rename_over<F: Folder>(
         Err(CreateError::Taken) => Err(ReplaceError::Locked),
         Err(CreateError::Denied) => {
             if target.write_into {
-                overwrite(folder, target.name, before, output)
+                overwrite(directory, target.name, before, output)
             } else {
-                Err(ReplaceError::FolderDenied)
+                Err(ReplaceError::DirectoryDenied)
             }
         }
     }
@@ -271,47 +272,47 @@ fn rename_over<F: Folder>(
 ///
 /// # Errors
 /// As `confirm`. `Write` if the new file can't be filled.
-fn fill<F: Folder>(
-    folder: &mut F,
+fn fill<F: Directory>(
+    directory: &mut F,
     target: &Target<'_>,
     before: &Before<'_>,
     output: &[u8],
 ) -> Result<bool, ReplaceError>
     ensures { Fills target.now.name.now target.now.fresh.now before.now.text.now output.now
-        before.now.stat (F.history folder.old) (F.history folder.new) result }
+        before.now.stat (F.history directory.old) (F.history directory.new) result }
 {
-    if !append_all(folder, target.fresh, output) {
+    if !append_all(directory, target.fresh, output) {
         return Err(ReplaceError::Write);
     }
-    if !folder.set_mode_and_owner(target.fresh, &before.stat) {
+    if !directory.set_mode_and_owner(target.fresh, &before.stat) {
         return Err(ReplaceError::Write);
     }
-    if !folder.sync(target.fresh) {
+    if !directory.sync(target.fresh) {
         return Err(ReplaceError::Write);
     }
-    match confirm(folder, target.name, before) {
+    match confirm(directory, target.name, before) {
         Err(error) => Err(error),
-        Ok(()) => Ok(folder.rename(target.fresh, target.name)),
+        Ok(()) => Ok(directory.rename(target.fresh, target.name)),
     }
 }
 
 /// Writes the output into the file. If that fails, writes the old bytes into it.
-fn overwrite<F: Folder>(
-    folder: &mut F,
+fn overwrite<F: Directory>(
+    directory: &mut F,
     name: &[u8],
     before: &Before<'_>,
     output: &[u8],
 ) -> Result<Update, ReplaceError>
     ensures { Overwrites name.now before.now.text.now output.now before.now.stat
-        (F.history folder.old) (F.history folder.new) result }
+        (F.history directory.old) (F.history directory.new) result }
 {
-    if let Err(error) = confirm(folder, name, before) {
+    if let Err(error) = confirm(directory, name, before) {
         return Err(error);
     }
-    if folder.overwrite(name, output) {
+    if directory.overwrite(name, output) {
         return Ok(Update::WrittenInto);
     }
-    if folder.overwrite(name, before.text) {
+    if directory.overwrite(name, before.text) {
         return Err(ReplaceError::Write);
     }
     Err(ReplaceError::HalfWritten)
@@ -323,12 +324,16 @@ fn overwrite<F: Folder>(
 ///
 /// # Errors
 /// `Read` if the file can't be read, and `ChangedMeanwhile` if it isn't as it was.
-fn confirm<F: Folder>(folder: &mut F, name: &[u8], before: &Before<'_>) -> Result<(), ReplaceError>
-    ensures { Confirms name.now before.now.text.now before.now.stat (F.history folder.old)
-        (F.history folder.new) result }
+fn confirm<F: Directory>(
+    directory: &mut F,
+    name: &[u8],
+    before: &Before<'_>,
+) -> Result<(), ReplaceError>
+    ensures { Confirms name.now before.now.text.now before.now.stat (F.history directory.old)
+        (F.history directory.new) result }
 {
     let mut again = Vec::new(before.alloc);
-    match folder.read(name, &mut again) {
+    match directory.read(name, &mut again) {
         None => Err(ReplaceError::Read),
         Some(seen) => {
             if again.as_slice() != before.text {
@@ -337,7 +342,7 @@ fn confirm<F: Folder>(folder: &mut F, name: &[u8], before: &Before<'_>) -> Resul
             if !before.stat.has_facts_of(&seen) {
                 return Err(ReplaceError::ChangedMeanwhile);
             }
-            if !is_unchanged(folder, name, &seen) {
+            if !is_unchanged(directory, name, &seen) {
                 return Err(ReplaceError::ChangedMeanwhile);
             }
             Ok(())
@@ -346,10 +351,11 @@ fn confirm<F: Folder>(folder: &mut F, name: &[u8], before: &Before<'_>) -> Resul
 }
 
 /// Looks at a file again. Returns whether its version is the one in `stat`.
-fn is_unchanged<F: Folder>(folder: &mut F, name: &[u8], stat: &FileStat) -> bool
-    ensures { LooksAgain name.now stat.now (F.history folder.old) (F.history folder.new) result }
+fn is_unchanged<F: Directory>(directory: &mut F, name: &[u8], stat: &FileStat) -> bool
+    ensures { LooksAgain name.now stat.now (F.history directory.old) (F.history directory.new)
+        result }
 {
-    match folder.look(name) {
+    match directory.look(name) {
         Some(seen) => seen.version == stat.version,
         None => false,
     }

@@ -2,8 +2,8 @@
 //!
 //! Two files are the same if they have one device and number, and were made at one time, if the
 //! file system knows that. A file that is saved during the walk may get the number of one that is
-//! gone. Folders aren't compared by time, since an overlay file system copies one when a file is
-//! made in it.
+//! gone. Directories aren't compared by time, since an overlay file system copies one when a file
+//! is made in it.
 
 ghost use Rattle.std.specs.Prelude.{◌≡◌};
 ghost use Rattle.ud_replace.specs.Stats.{is_of, has_facts_of};
@@ -34,7 +34,7 @@ pub struct FileVersion {
     pub changed: FileTime,
 }
 
-/// The facts that a folder gives about a file.
+/// The facts that a directory gives about a file.
 #[derive(Clone, Copy, Debug, PartialEq, Eq)]
 pub struct FileStat {
     /// The identity and the state of the file.

@@ -87,14 +87,14 @@ catches_followed at answer w v is h = record {
   taken = λ path node there kind. let e : followed at answer ≡ met path (Present node) = only_one (followed at answer) (met path (Present node)) there in cc;
 }
 
--- A folder was listed.
-pub catches_listed : (folder : List ℕ) (names : List (List ℕ)) (answer : Bool) {old new : List Call} (w v : Walk) → new ≡ walked (listed folder names answer) ∷ old → Grows w v →
+-- A directory was listed.
+pub catches_listed : (directory : List ℕ) (names : List (List ℕ)) (answer : Bool) {old new : List Call} (w v : Walk) → new ≡ walked (listed directory names answer) ∷ old → Grows w v →
     Catches old new w v
-catches_listed folder names answer w v is h = record {
-  calls = listed folder names answer ∷ [];
+catches_listed directory names answer w v is h = record {
+  calls = listed directory names answer ∷ [];
   are = is;
   grows = h;
-  taken = λ path node there kind. let e : listed folder names answer ≡ met path (Present node) = only_one (listed folder names answer) (met path (Present node)) there in cc;
+  taken = λ path node there kind. let e : listed directory names answer ≡ met path (Present node) = only_one (listed directory names answer) (met path (Present node)) there in cc;
 }
 
 -- One part after another.

@@ -6,7 +6,7 @@ use Rattle.std.proofs.lemmas.Grind.{common_steps}
 use Rattle.std.specs.List.{Contains, list_any}
 use Rattle.ud_tree.specs.declared.patterns.Effect.{Effect}
 use Rattle.ud_tree.specs.declared.patterns.Effect.TheVariants.{Leave}
-use Rattle.ud_tree.specs.Choices.{Rule, rule_of, Fits, Decides, last_fits, last_differs, LeavesFolder, IsBelow, after, Chooses, decided, usual, chosen_by, is_only}
+use Rattle.ud_tree.specs.Choices.{Rule, rule_of, Fits, Decides, last_fits, last_differs, LeavesDirectory, IsBelow, after, Chooses, decided, usual, chosen_by, is_only}
 
 -- The last rule matches.
 pub decides_fits : {below : List ℕ} {texts more : List (List ℕ)} {effect : Option Effect} (text : List ℕ) (rule : Rule) → more ≡ texts ++ text ∷ [] → rule ≡ rule_of text →
@@ -32,9 +32,9 @@ pub chooses_usual : {below : List ℕ} {texts : List (List ℕ)} {last : Option 
     Chooses texts below b
 chooses_usual {below = below} {texts = texts} is h other = usual (subst (λ (e : Option Effect). Decides below texts e) is h) other
 
--- One of the rules leaves out the folder.
+-- One of the rules leaves out the directory.
 pub leaves_at : {below : List ℕ} {texts : List (List ℕ)} (text : List ℕ) (rule : Rule) → Contains texts text → rule ≡ rule_of text → rule.effect ≡ Leave → Fits rule below →
-    LeavesFolder texts below
+    LeavesDirectory texts below
 leaves_at {below = below} text rule there is leaves fits = record {
   text = text;
   given = there;
@@ -44,7 +44,7 @@ leaves_at {below = below} text rule there is leaves fits = record {
 
 -- No rule does, and one more doesn't.
 pub leaves_none : {below : List ℕ} {texts more : List (List ℕ)} (text : List ℕ) (rule : Rule) → more ≡ texts ++ text ∷ [] → rule ≡ rule_of text →
-    ¬ ((rule.effect ≡ Leave) × Fits rule below) → ¬ (LeavesFolder texts below) → ¬ (LeavesFolder more below)
+    ¬ ((rule.effect ≡ Leave) × Fits rule below) → ¬ (LeavesDirectory texts below) → ¬ (LeavesDirectory more below)
 leaves_none {below = below} {texts = texts} text rule grown is other none h =
     by_case (Contains-push_cases texts text h.text (subst (λ (ts : List (List ℕ)). Contains ts h.text) grown h.given))
   where

@@ -8,7 +8,7 @@ use Rattle.std.proofs.lemmas.Grind.{common_steps}
 use Rattle.ud_replace.specs.declared.node.Lookup.{Lookup}
 use Rattle.ud_replace.specs.declared.node.Lookup.TheVariants.{Present}
 use Rattle.ud_replace.specs.declared.node.Node.{Node}
-use Rattle.ud_replace.specs.declared.node.NodeKind.TheVariants.{File, Folder, Other}
+use Rattle.ud_replace.specs.declared.node.NodeKind.TheVariants.{File, Directory, Other}
 use Rattle.ud_replace.specs.Calls.{Call, walked, WalkCall, met, followed, listed}
 use Rattle.ud_replace.specs.declared.node.FileId.{FileId}
 use Rattle.ud_tree.specs.declared.arguments.Arguments.{Arguments}
@@ -17,24 +17,24 @@ use Rattle.ud_tree.specs.declared.walk.Found.{Found}
 use Rattle.ud_tree.specs.declared.walk.Walk.{Walk}
 use Rattle.ud_tree.specs.Catching.{Catches}
 use Rattle.ud_tree.specs.Choices.{IsLeft, IsSkipped}
-use Rattle.ud_tree.specs.Covering.{IsFolderPath, WasEntered, IsDue, Begins, at_file, at_folder, at_link, Visits, no_text, was_met, VisitsAll, IsIn, StandsIn, Gives, no_path_text, was_given, paths_of, CoversPaths, CoversInput, MissesNone, misses_no_path, misses_no_input}
+use Rattle.ud_tree.specs.Covering.{IsDirectoryPath, WasEntered, IsDue, Begins, at_file, at_directory, at_link, Visits, no_text, was_met, VisitsAll, IsIn, StandsIn, Gives, no_path_text, was_given, paths_of, CoversPaths, CoversInput, MissesNone, misses_no_path, misses_no_input}
 use Rattle.ud_tree.specs.Streams.{Source}
 use Rattle.ud_tree.specs.WalkMessages.{TakesPaths}
 use Rattle.ud_tree.specs.Walks.{IsKept, Adds, adds_none, adds_one, AddsNode, no_node, file_node}
-use Rattle.ud_tree.specs.CoverParts.{Explores, Starts, VisitsOne, Enters, Exhausts, Waits, TakesOne, AddsFolder, waits_folder, left_folder, no_folder}
+use Rattle.ud_tree.specs.CoverParts.{Explores, Starts, VisitsOne, Enters, Exhausts, Waits, TakesOne, AddsDirectory, waits_directory, left_directory, no_directory}
 
 -- Each element of one list is in another.
 abbrev pub Within : {X : Type 0} → List X → List X → Type 0
 Within {X = X} xs ys = (x : X) → Contains xs x → Contains ys x
 
--- Each folder that waits after some calls was listed by later ones, or still waits.
+-- Each directory that waits after some calls was listed by later ones, or still waits.
 abbrev pub Passes : List WalkCall → List (List ℕ) → List (List ℕ) → Type 0
-Passes ys a b = (folder : List ℕ) → Contains a folder → WasEntered ys folder ⊎ Contains b folder
+Passes ys a b = (directory : List ℕ) → Contains a directory → WasEntered ys directory ⊎ Contains b directory
 
-entered_within : (xs ys : List WalkCall) (folder : List ℕ) → Within xs ys → WasEntered xs folder → WasEntered ys folder
-entered_within xs ys folder w h = (h.0, h.1, w (listed folder h.0 h.1) h.2)
+entered_within : (xs ys : List WalkCall) (directory : List ℕ) → Within xs ys → WasEntered xs directory → WasEntered ys directory
+entered_within xs ys directory w h = (h.0, h.1, w (listed directory h.0 h.1) h.2)
 
--- A folder that is due stays so.
+-- A directory that is due stays so.
 due_within : (xs ys : List WalkCall) (a b : List (List ℕ)) (path : List ℕ) → Within xs ys → Passes ys a b → IsDue xs a path → IsDue ys b path
 due_within xs ys a b path w k h = (h.0, h.1, by_case h.2)
   where
@@ -43,24 +43,24 @@ due_within xs ys a b path w k h = (h.0, h.1, by_case h.2)
     by_case (inr there) = k h.0 there
 
 -- A name that was visited stays so.
-visits_within : {pats : List (List ℕ)} → {xs ys : List WalkCall} {p q : List ℕ → Type 0} {s t : Type 0} {folder : List ℕ} (name : List ℕ) → Within xs ys → ((path : List ℕ) → p path → q path) → (s → t) →
-    Visits pats xs p s folder name → Visits pats ys q t folder name
+visits_within : {pats : List (List ℕ)} → {xs ys : List WalkCall} {p q : List ℕ → Type 0} {s t : Type 0} {directory : List ℕ} (name : List ℕ) → Within xs ys → ((path : List ℕ) → p path → q path) → (s → t) →
+    Visits pats xs p s directory name → Visits pats ys q t directory name
 visits_within {pats = pats} name w d e (no_text other told) = no_text other (e told)
-visits_within {pats = pats} {p = p} {q = q} {folder = folder} name w d e (was_met answer seen k) = was_met answer (w (met (folder ++ name) answer) seen) (λ node is kind. by_case (k node is kind))
+visits_within {pats = pats} {p = p} {q = q} {directory = directory} name w d e (was_met answer seen k) = was_met answer (w (met (directory ++ name) answer) seen) (λ node is kind. by_case (k node is kind))
   where
-    by_case : IsSkipped pats (folder ++ name) name ⊎ p (folder ++ name) → IsSkipped pats (folder ++ name) name ⊎ q (folder ++ name)
+    by_case : IsSkipped pats (directory ++ name) name ⊎ p (directory ++ name) → IsSkipped pats (directory ++ name) name ⊎ q (directory ++ name)
     by_case (inl left) = inl left
-    by_case (inr due) = inr (d (folder ++ name) due)
+    by_case (inr due) = inr (d (directory ++ name) due)
 
-visits_all_within : {pats : List (List ℕ)} → {xs ys : List WalkCall} {p q : List ℕ → Type 0} {s t : Type 0} {folder : List ℕ} (names : List (List ℕ)) → Within xs ys → ((path : List ℕ) → p path → q path) → (s → t) →
-    All (Visits pats xs p s folder) names → All (Visits pats ys q t folder) names
+visits_all_within : {pats : List (List ℕ)} → {xs ys : List WalkCall} {p q : List ℕ → Type 0} {s t : Type 0} {directory : List ℕ} (names : List (List ℕ)) → Within xs ys → ((path : List ℕ) → p path → q path) → (s → t) →
+    All (Visits pats xs p s directory) names → All (Visits pats ys q t directory) names
 visits_all_within names w d e h = search (rules, All-weaker, visits_within)
 
 -- A path of the command line that can be taken stays so.
 pub begins_within : {xs ys : List WalkCall} {p q : List ℕ → Type 0} {has later : List ℕ → FileId → Type 0} {path : List ℕ} → Within xs ys → ((path : List ℕ) → p path → q path) →
     ((path : List ℕ) (id : FileId) → has path id → later path id) → Begins xs p has path → Begins ys q later path
 begins_within {path = path} w d e (at_file node seen kind there) = at_file node (w (met path (Present node)) seen) kind (e path node.id there)
-begins_within {path = path} w d e (at_folder node seen kind due) = at_folder node (w (met path (Present node)) seen) kind (d path due)
+begins_within {path = path} w d e (at_directory node seen kind due) = at_directory node (w (met path (Present node)) seen) kind (d path due)
 begins_within {path = path} w d e (at_link node seen kind led due) = at_link node (w (met path (Present node)) seen) kind (w (followed path true) led) (d path due)
 
 -- A file that was found stays so.
@@ -74,136 +74,136 @@ pub earlier_calls : (xs ys : List WalkCall) → Within xs (ys ++ xs)
 earlier_calls xs ys x h = Contains-append_right ys xs x h
 
 passes_later : (xs ys : List WalkCall) (b c : List (List ℕ)) → Passes ys b c → Passes (ys ++ xs) b c
-passes_later xs ys b c k folder inside = by_case (k folder inside)
+passes_later xs ys b c k directory inside = by_case (k directory inside)
   where
-    by_case : WasEntered ys folder ⊎ Contains c folder → WasEntered (ys ++ xs) folder ⊎ Contains c folder
-    by_case (inl e) = inl (entered_within ys (ys ++ xs) folder (later_calls xs ys) e)
+    by_case : WasEntered ys directory ⊎ Contains c directory → WasEntered (ys ++ xs) directory ⊎ Contains c directory
+    by_case (inl e) = inl (entered_within ys (ys ++ xs) directory (later_calls xs ys) e)
     by_case (inr there) = inr there
 
 passes_both : (xs ys : List WalkCall) (a b c : List (List ℕ)) → Passes xs a b → Passes ys b c → Passes (ys ++ xs) a c
-passes_both xs ys a b c h k folder inside = by_case (h folder inside)
+passes_both xs ys a b c h k directory inside = by_case (h directory inside)
   where
-    by_case : WasEntered xs folder ⊎ Contains b folder → WasEntered (ys ++ xs) folder ⊎ Contains c folder
-    by_case (inl e) = inl (entered_within xs (ys ++ xs) folder (earlier_calls xs ys) e)
-    by_case (inr there) = passes_later xs ys b c k folder there
+    by_case : WasEntered xs directory ⊎ Contains b directory → WasEntered (ys ++ xs) directory ⊎ Contains c directory
+    by_case (inl e) = inl (entered_within xs (ys ++ xs) directory (earlier_calls xs ys) e)
+    by_case (inr there) = passes_later xs ys b c k directory there
 
--- A folder that was due after some calls is due after later ones.
+-- A directory that was due after some calls is due after later ones.
 pub due_later : (xs ys : List WalkCall) (b c : List (List ℕ)) → Passes ys b c → (path : List ℕ) → IsDue xs b path → IsDue (ys ++ xs) c path
 due_later xs ys b c k path h = due_within xs (ys ++ xs) b c path (earlier_calls xs ys) (passes_later xs ys b c k) h
 
 pub due_still : (xs ys : List WalkCall) (c : List (List ℕ)) (path : List ℕ) → IsDue ys c path → IsDue (ys ++ xs) c path
-due_still xs ys c path h = due_within ys (ys ++ xs) c c path (later_calls xs ys) (λ folder there. inr there) h
+due_still xs ys c path h = due_within ys (ys ++ xs) c c path (later_calls xs ys) (λ directory there. inr there) h
 
--- None of these calls lists a folder.
+-- None of these calls lists a directory.
 abbrev pub ListsNone : List WalkCall → Type 0
-ListsNone ws = (folder : List ℕ) (names : List (List ℕ)) (answer : Bool) → ¬ (Contains ws (listed folder names answer))
+ListsNone ws = (directory : List ℕ) (names : List (List ℕ)) (answer : Bool) → ¬ (Contains ws (listed directory names answer))
 
 pub lists_none : ListsNone []
-lists_none folder names answer h = omega (arith, h.1)
+lists_none directory names answer h = omega (arith, h.1)
 
 -- A list of one call has no other.
 pub only_one : (w x : WalkCall) → Contains (w ∷ []) x → w ≡ x
 only_one w x h = grind arith
 
-lists_no_more : (w : WalkCall) (ws : List WalkCall) → ((folder : List ℕ) (names : List (List ℕ)) (answer : Bool) → ¬ (w ≡ listed folder names answer)) → ListsNone ws → ListsNone (w ∷ ws)
-lists_no_more w ws other h folder names answer there = by_case (Contains-append_cases (w ∷ []) ws (listed folder names answer) there)
+lists_no_more : (w : WalkCall) (ws : List WalkCall) → ((directory : List ℕ) (names : List (List ℕ)) (answer : Bool) → ¬ (w ≡ listed directory names answer)) → ListsNone ws → ListsNone (w ∷ ws)
+lists_no_more w ws other h directory names answer there = by_case (Contains-append_cases (w ∷ []) ws (listed directory names answer) there)
   where
-    by_case : Contains (w ∷ []) (listed folder names answer) ⊎ Contains ws (listed folder names answer) → ⊥
-    by_case (inl first) = other folder names answer (only_one w (listed folder names answer) first)
-    by_case (inr later) = h folder names answer later
+    by_case : Contains (w ∷ []) (listed directory names answer) ⊎ Contains ws (listed directory names answer) → ⊥
+    by_case (inl first) = other directory names answer (only_one w (listed directory names answer) first)
+    by_case (inr later) = h directory names answer later
 
 -- A look is no listing, and neither is a link that is followed.
 pub met_none : (path : List ℕ) (answer : Lookup) → ListsNone (met path answer ∷ [])
-met_none path answer = lists_no_more (met path answer) [] (λ folder names listing e. absurd cc) lists_none
+met_none path answer = lists_no_more (met path answer) [] (λ directory names listing e. absurd cc) lists_none
 
 pub followed_none : (path : List ℕ) (answer : Bool) (other : List ℕ) (seen : Lookup) → ListsNone (followed path answer ∷ met other seen ∷ [])
-followed_none path answer other seen = lists_no_more (followed path answer) (met other seen ∷ []) (λ folder names listing e. absurd cc) (met_none other seen)
+followed_none path answer other seen = lists_no_more (followed path answer) (met other seen ∷ []) (λ directory names listing e. absurd cc) (met_none other seen)
 
--- A few calls were made, and none of them lists a folder.
-pub explores_few : {pats : List (List ℕ)} → (ws : List WalkCall) {calls calls' : List Call} (folders folders' : List (List ℕ))
+-- A few calls were made, and none of them lists a directory.
+pub explores_few : {pats : List (List ℕ)} → (ws : List WalkCall) {calls calls' : List Call} (directories directories' : List (List ℕ))
     (r r' : ReportState) → (0 < r.faulty → 0 < r'.faulty) → calls' ≡ map walked ws ++ calls → ListsNone ws →
-    Within folders folders' → Explores pats calls calls' folders folders' r r'
-explores_few ws folders folders' r r' counted is none kept = record {
+    Within directories directories' → Explores pats calls calls' directories directories' r r'
+explores_few ws directories directories' r r' counted is none kept = record {
   kept = counted;
   made = ws;
   are = is;
-  waits = λ folder there. inr (kept folder there);
-  visits = λ folder names answer there. absurd (none folder names answer there);
+  waits = λ directory there. inr (kept directory there);
+  visits = λ directory names answer there. absurd (none directory names answer there);
 }
 
 -- Nothing was asked.
-pub explores_none : {pats : List (List ℕ)} → (calls : List Call) (folders : List (List ℕ)) (r r' : ReportState) → (0 < r.faulty → 0 < r'.faulty) → Explores pats calls calls folders folders r r'
-explores_none calls folders r r' counted = explores_few [] folders folders r r' counted refl lists_none (λ folder there. there)
+pub explores_none : {pats : List (List ℕ)} → (calls : List Call) (directories : List (List ℕ)) (r r' : ReportState) → (0 < r.faulty → 0 < r'.faulty) → Explores pats calls calls directories directories r r'
+explores_none calls directories r r' counted = explores_few [] directories directories r r' counted refl lists_none (λ directory there. there)
 
--- All folders that waited still wait, and one more may.
-pub waits_still : (folders : List (List ℕ)) → Within folders folders
-waits_still folders folder there = there
+-- All directories that waited still wait, and one more may.
+pub waits_still : (directories : List (List ℕ)) → Within directories directories
+waits_still directories directory there = there
 
 pub waits_same : {X : Type 0} (f : X → List ℕ) (xs ys : List X) → ys ≡ xs → Within (map f xs) (map f ys)
-waits_same f xs ys is folder there = subst (λ l. Contains (map f l) folder) (sym is) there
+waits_same f xs ys is directory there = subst (λ l. Contains (map f l) directory) (sym is) there
 
-waits_equal : {folders folders' : List (List ℕ)} → folders' ≡ folders → Within folders folders'
-waits_equal is folder there = subst (λ (fs : List (List ℕ)). Contains fs folder) (sym is) there
+waits_equal : {directories directories' : List (List ℕ)} → directories' ≡ directories → Within directories directories'
+waits_equal is directory there = subst (λ (fs : List (List ℕ)). Contains fs directory) (sym is) there
 
-pub waits_more : {path : List ℕ} {folders folders' : List (List ℕ)} → Waits path folders folders' → Within folders folders'
-waits_more h folder there = grind (arith, common_steps, Contains-append_left)
+pub waits_more : {path : List ℕ} {directories directories' : List (List ℕ)} → Waits path directories directories' → Within directories directories'
+waits_more h directory there = grind (arith, common_steps, Contains-append_left)
 
--- A folder that waits is due.
-pub waits_due : (ws : List WalkCall) {path : List ℕ} {folders folders' : List (List ℕ)} → Waits path folders folders' → IsDue ws folders' path
-waits_due ws {folders = folders} h =
-    (h.folder, h.is_path, inr (subst (λ (fs : List (List ℕ)). Contains fs h.folder) (sym h.grown) (Contains-push folders h.folder)))
+-- A directory that waits is due.
+pub waits_due : (ws : List WalkCall) {path : List ℕ} {directories directories' : List (List ℕ)} → Waits path directories directories' → IsDue ws directories' path
+waits_due ws {directories = directories} h =
+    (h.directory, h.is_path, inr (subst (λ (fs : List (List ℕ)). Contains fs h.directory) (sym h.grown) (Contains-push directories h.directory)))
 
 -- A path of the command line can be taken.
-pub starts_good : {pats : List (List ℕ)} → (ws : List WalkCall) (path : List ℕ) {calls calls' : List Call} (folders folders' : List (List ℕ))
-    {found' : List Found} (r : ReportState) → calls' ≡ map walked ws ++ calls → ListsNone ws → Within folders folders' →
-    Begins ws (IsDue ws folders') (IsIn found') path → Starts pats path calls calls' folders folders' found' r r
+pub starts_good : {pats : List (List ℕ)} → (ws : List WalkCall) (path : List ℕ) {calls calls' : List Call} (directories directories' : List (List ℕ))
+    {found' : List Found} (r : ReportState) → calls' ≡ map walked ws ++ calls → ListsNone ws → Within directories directories' →
+    Begins ws (IsDue ws directories') (IsIn found') path → Starts pats path calls calls' directories directories' found' r r
 unfolding explores_few
-starts_good ws path folders folders' r is none kept b = record { explores = explores_few ws folders folders' r r (λ some. some) is none kept; begins = inr b }
+starts_good ws path directories directories' r is none kept b = record { explores = explores_few ws directories directories' r r (λ some. some) is none kept; begins = inr b }
 
 -- A path of the command line has a fault.
-pub starts_bad : {pats : List (List ℕ)} → (ws : List WalkCall) (path : List ℕ) {calls calls' : List Call} (folders : List (List ℕ))
+pub starts_bad : {pats : List (List ℕ)} → (ws : List WalkCall) (path : List ℕ) {calls calls' : List Call} (directories : List (List ℕ))
     {found' : List Found} (r r' : ReportState) → calls' ≡ map walked ws ++ calls → ListsNone ws → 0 < r'.faulty →
-    Starts pats path calls calls' folders folders found' r r'
-starts_bad ws path folders r r' is none some = record { explores = explores_few ws folders folders r r' (λ before. some) is none (waits_still folders); begins = inl some }
+    Starts pats path calls calls' directories directories found' r r'
+starts_bad ws path directories r r' is none some = record { explores = explores_few ws directories directories r r' (λ before. some) is none (waits_still directories); begins = inl some }
 
--- A name in a folder was looked at.
-visits_met : {pats : List (List ℕ)} → (answer : Lookup) (path folder name : List ℕ) {calls calls' : List Call} (folders folders' : List (List ℕ))
-    (r r' : ReportState) → (0 < r.faulty → 0 < r'.faulty) → path ≡ folder ++ name →
-    calls' ≡ walked (met path answer) ∷ calls → Within folders folders' →
-    ((node : Node) → answer ≡ Present node → node.kind ≡ Folder → IsSkipped pats path name ⊎
-    IsDue (met path answer ∷ []) folders' path) → VisitsOne pats folder name calls calls' folders folders' r r'
+-- A name in a directory was looked at.
+visits_met : {pats : List (List ℕ)} → (answer : Lookup) (path directory name : List ℕ) {calls calls' : List Call} (directories directories' : List (List ℕ))
+    (r r' : ReportState) → (0 < r.faulty → 0 < r'.faulty) → path ≡ directory ++ name →
+    calls' ≡ walked (met path answer) ∷ calls → Within directories directories' →
+    ((node : Node) → answer ≡ Present node → node.kind ≡ Directory → IsSkipped pats path name ⊎
+    IsDue (met path answer ∷ []) directories' path) → VisitsOne pats directory name calls calls' directories directories' r r'
 unfolding explores_few
-visits_met {pats = pats} answer path folder name folders folders' r r' counted named is kept due = record {
-  explores = explores_few (met path answer ∷ []) folders folders' r r' counted is (met_none path answer) kept;
+visits_met {pats = pats} answer path directory name directories directories' r r' counted named is kept due = record {
+  explores = explores_few (met path answer ∷ []) directories directories' r r' counted is (met_none path answer) kept;
   visited = was_met answer (0, omega arith, ap (λ (p : List ℕ). met p answer) named)
-      (λ node is_node kind. subst (λ (p : List ℕ). IsSkipped pats p name ⊎ IsDue (met path answer ∷ []) folders' p) named (due node is_node kind));
+      (λ node is_node kind. subst (λ (p : List ℕ). IsSkipped pats p name ⊎ IsDue (met path answer ∷ []) directories' p) named (due node is_node kind));
 }
 
--- A name in a folder isn't UTF-8.
-pub visits_other : {pats : List (List ℕ)} → (folder name : List ℕ) (calls : List Call) (folders : List (List ℕ)) (r r' : ReportState) → ¬ (IsUtf8 name) → 0 < r'.faulty → VisitsOne pats folder name calls calls folders folders r r'
-visits_other folder name calls folders r r' other some = record { explores = explores_none calls folders r r' (λ before. some); visited = no_text other some }
+-- A name in a directory isn't UTF-8.
+pub visits_other : {pats : List (List ℕ)} → (directory name : List ℕ) (calls : List Call) (directories : List (List ℕ)) (r r' : ReportState) → ¬ (IsUtf8 name) → 0 < r'.faulty → VisitsOne pats directory name calls calls directories directories r r'
+visits_other directory name calls directories r r' other some = record { explores = explores_none calls directories r r' (λ before. some); visited = no_text other some }
 
 -- Nothing has the path of a name, or that isn't known.
-pub visits_unmet : {pats : List (List ℕ)} → (answer : Lookup) (path folder name : List ℕ) {calls calls' : List Call} (folders : List (List ℕ))
+pub visits_unmet : {pats : List (List ℕ)} → (answer : Lookup) (path directory name : List ℕ) {calls calls' : List Call} (directories : List (List ℕ))
     (r r' : ReportState) → (0 < r.faulty → 0 < r'.faulty) → ((node : Node) → ¬ (answer ≡ Present node)) →
-    path ≡ folder ++ name → calls' ≡ walked (met path answer) ∷ calls →
-    VisitsOne pats folder name calls calls' folders folders r r'
-visits_unmet answer path folder name folders r r' counted other named is =
-    visits_met answer path folder name folders folders r r' counted named is (waits_still folders) (λ node is_node kind. absurd (other node is_node))
+    path ≡ directory ++ name → calls' ≡ walked (met path answer) ∷ calls →
+    VisitsOne pats directory name calls calls' directories directories r r'
+visits_unmet answer path directory name directories r r' counted other named is =
+    visits_met answer path directory name directories directories r r' counted named is (waits_still directories) (λ node is_node kind. absurd (other node is_node))
 
 -- A node has the path of a name, and was added.
-pub visits_node : {pats : List (List ℕ)} → (node : Node) (path folder name : List ℕ) {calls calls' : List Call}
-    (folders folders' : List (List ℕ)) (r : ReportState) → path ≡ folder ++ name →
-    calls' ≡ walked (met path (Present node)) ∷ calls → AddsFolder pats path name node folders folders' →
-    VisitsOne pats folder name calls calls' folders folders' r r
-visits_node node path folder name folders folders' r named is (waits_folder kind w) =
-    visits_met (Present node) path folder name folders folders' r r (λ some. some) named is (waits_more w) (λ n is_node k. inr (waits_due (met path (Present node) ∷ []) w))
-visits_node node path folder name folders folders' r named is (left_folder left same) =
-    visits_met (Present node) path folder name folders folders' r r (λ some. some) named is (waits_equal same) (λ n is_node k. inl left)
-visits_node node path folder name folders folders' r named is (no_folder other same) =
-    visits_met (Present node) path folder name folders folders' r r (λ some. some) named is (waits_equal same) (λ n is_node k. absurd (other (same_kind n is_node k)))
+pub visits_node : {pats : List (List ℕ)} → (node : Node) (path directory name : List ℕ) {calls calls' : List Call}
+    (directories directories' : List (List ℕ)) (r : ReportState) → path ≡ directory ++ name →
+    calls' ≡ walked (met path (Present node)) ∷ calls → AddsDirectory pats path name node directories directories' →
+    VisitsOne pats directory name calls calls' directories directories' r r
+visits_node node path directory name directories directories' r named is (waits_directory kind w) =
+    visits_met (Present node) path directory name directories directories' r r (λ some. some) named is (waits_more w) (λ n is_node k. inr (waits_due (met path (Present node) ∷ []) w))
+visits_node node path directory name directories directories' r named is (left_directory left same) =
+    visits_met (Present node) path directory name directories directories' r r (λ some. some) named is (waits_equal same) (λ n is_node k. inl left)
+visits_node node path directory name directories directories' r named is (no_directory other same) =
+    visits_met (Present node) path directory name directories directories' r r (λ some. some) named is (waits_equal same) (λ n is_node k. absurd (other (same_kind n is_node k)))
   where
-    same_kind : (n : Node) → Present node ≡ Present n → n.kind ≡ Folder → node.kind ≡ Folder
+    same_kind : (n : Node) → Present node ≡ Present n → n.kind ≡ Directory → node.kind ≡ Directory
     same_kind n is_node k = let e : node ≡ n = cc in
         ap (λ (m : Node). m.kind) e ∙ k
 
@@ -218,30 +218,30 @@ explores_then {pats = pats} {x = x} {y = y} {z = z} {f = f} {g = g} {h = h} {c =
   made = l.made ++ k.made;
   are = parts_are k.made l.made x y z k.are l.are;
   waits = passes_both k.made l.made f g h k.waits l.waits;
-  visits = λ folder names answer there. by_case folder names answer (Contains-append_cases l.made k.made (listed folder names answer) there);
+  visits = λ directory names answer there. by_case directory names answer (Contains-append_cases l.made k.made (listed directory names answer) there);
 }
   where
-    by_case : (folder : List ℕ) (names : List (List ℕ)) (answer : Bool) → Contains l.made (listed folder names answer) ⊎ Contains k.made (listed folder names answer) →
-        All (Visits pats (l.made ++ k.made) (IsDue (l.made ++ k.made) h) (0 < c.faulty) folder) names
-    by_case folder names answer (inl now) = visits_all_within names (later_calls k.made l.made) (due_still k.made l.made h) (λ some. some) (l.visits folder names answer now)
-    by_case folder names answer (inr before) = visits_all_within names (earlier_calls k.made l.made) (due_later k.made l.made g h l.waits) l.kept (k.visits folder names answer before)
+    by_case : (directory : List ℕ) (names : List (List ℕ)) (answer : Bool) → Contains l.made (listed directory names answer) ⊎ Contains k.made (listed directory names answer) →
+        All (Visits pats (l.made ++ k.made) (IsDue (l.made ++ k.made) h) (0 < c.faulty) directory) names
+    by_case directory names answer (inl now) = visits_all_within names (later_calls k.made l.made) (due_still k.made l.made h) (λ some. some) (l.visits directory names answer now)
+    by_case directory names answer (inr before) = visits_all_within names (earlier_calls k.made l.made) (due_later k.made l.made g h l.waits) l.kept (k.visits directory names answer before)
 
--- Some names of a folder were visited.
-pub record VisitsSome (pats : List (List ℕ)) (folder : List ℕ) (names : List (List ℕ)) (x y : List Call) (f g : List (List ℕ)) (a b : ReportState) : Type 0 where
+-- Some names of a directory were visited.
+pub record VisitsSome (pats : List (List ℕ)) (directory : List ℕ) (names : List (List ℕ)) (x y : List Call) (f g : List (List ℕ)) (a b : ReportState) : Type 0 where
   pub explores : Explores pats x y f g a b
-  pub visited : All (Visits pats explores.made (IsDue explores.made g) (0 < b.faulty) folder) names
+  pub visited : All (Visits pats explores.made (IsDue explores.made g) (0 < b.faulty) directory) names
 
 -- None was yet.
-pub visits_none : {pats : List (List ℕ)} → (folder : List ℕ) (calls : List Call) (folders : List (List ℕ)) (r : ReportState) → VisitsSome pats folder [] calls calls folders folders r r
+pub visits_none : {pats : List (List ℕ)} → (directory : List ℕ) (calls : List Call) (directories : List (List ℕ)) (r : ReportState) → VisitsSome pats directory [] calls calls directories directories r r
 unfolding explores_none explores_few
-visits_none {pats = pats} folder calls folders r = record { explores = explores_none calls folders r r (λ some. some); visited = All-nil (Visits pats [] (IsDue [] folders) (0 < r.faulty) folder) }
+visits_none {pats = pats} directory calls directories r = record { explores = explores_none calls directories r r (λ some. some); visited = All-nil (Visits pats [] (IsDue [] directories) (0 < r.faulty) directory) }
 
--- One name more of a folder was visited.
-pub visits_more : {pats : List (List ℕ)} → {folder : List ℕ} {names : List (List ℕ)} {name : List ℕ} {x y z : List Call} {f g h : List (List ℕ)}
-    {a b c : ReportState} → VisitsSome pats folder names x y f g a b → VisitsOne pats folder name y z g h b c →
-    VisitsSome pats folder (names ++ name ∷ []) x z f h a c
+-- One name more of a directory was visited.
+pub visits_more : {pats : List (List ℕ)} → {directory : List ℕ} {names : List (List ℕ)} {name : List ℕ} {x y z : List Call} {f g h : List (List ℕ)}
+    {a b c : ReportState} → VisitsSome pats directory names x y f g a b → VisitsOne pats directory name y z g h b c →
+    VisitsSome pats directory (names ++ name ∷ []) x z f h a c
 unfolding explores_then
-visits_more {pats = pats} {folder = folder} {names = names} {name = name} {g = g} {h = h} {c = c} k l = record { explores = explores_then k.explores l.explores; visited = All-push here names name earlier now }
+visits_more {pats = pats} {directory = directory} {names = names} {name = name} {g = g} {h = h} {c = c} k l = record { explores = explores_then k.explores l.explores; visited = All-push here names name earlier now }
   where
     xs : List WalkCall
     xs = k.explores.made
@@ -250,7 +250,7 @@ visits_more {pats = pats} {folder = folder} {names = names} {name = name} {g = g
     ys = l.explores.made
 
     here : List ℕ → Type 0
-    here = Visits pats (ys ++ xs) (IsDue (ys ++ xs) h) (0 < c.faulty) folder
+    here = Visits pats (ys ++ xs) (IsDue (ys ++ xs) h) (0 < c.faulty) directory
 
     earlier : All here names
     earlier = visits_all_within names (earlier_calls xs ys) (due_later xs ys g h l.explores.waits) l.explores.kept k.visited
@@ -258,11 +258,11 @@ visits_more {pats = pats} {folder = folder} {names = names} {name = name} {g = g
     now : here name
     now = visits_within name (later_calls xs ys) (due_still xs ys h) (λ some. some) l.visited
 
--- A folder was listed, and then each of its names was visited.
-pub enters_folder : {pats : List (List ℕ)} → {folder : List ℕ} (names : List (List ℕ)) (answer : Bool) {x y z : List Call} {f g : List (List ℕ)}
-    {a b c : ReportState} → y ≡ walked (listed folder names answer) ∷ x → (0 < a.faulty → 0 < b.faulty) →
-    VisitsSome pats folder names y z f g b c → Enters pats folder x z f g a c
-enters_folder {pats = pats} {folder = folder} names answer {x = x} {y = y} {z = z} {f = f} {g = g} {c = c} is counted l = record {
+-- A directory was listed, and then each of its names was visited.
+pub enters_directory : {pats : List (List ℕ)} → {directory : List ℕ} (names : List (List ℕ)) (answer : Bool) {x y z : List Call} {f g : List (List ℕ)}
+    {a b c : ReportState} → y ≡ walked (listed directory names answer) ∷ x → (0 < a.faulty → 0 < b.faulty) →
+    VisitsSome pats directory names y z f g b c → Enters pats directory x z f g a c
+enters_directory {pats = pats} {directory = directory} names answer {x = x} {y = y} {z = z} {f = f} {g = g} {c = c} is counted l = record {
   explores = record {
     kept = λ some. l.explores.kept (counted some);
     made = ys ++ first ∷ [];
@@ -277,91 +277,91 @@ enters_folder {pats = pats} {folder = folder} names answer {x = x} {y = y} {z = 
     ys = l.explores.made
 
     first : WalkCall
-    first = listed folder names answer
+    first = listed directory names answer
 
     by_case : (d : List ℕ) (ns : List (List ℕ)) (again : Bool) → Contains ys (listed d ns again) ⊎ Contains (first ∷ []) (listed d ns again) →
         All (Visits pats (ys ++ first ∷ []) (IsDue (ys ++ first ∷ []) g) (0 < c.faulty) d) ns
     by_case d ns again (inl now) = visits_all_within ns (later_calls (first ∷ []) ys) (due_still (first ∷ []) ys g) (λ some. some) (l.explores.visits d ns again now)
     by_case d ns again (inr at_first) =
-        let same : listed folder names answer ≡ listed d ns again = only_one first (listed d ns again) at_first in
-        let same_folder : folder ≡ d = cc in
+        let same : listed directory names answer ≡ listed d ns again = only_one first (listed d ns again) at_first in
+        let same_directory : directory ≡ d = cc in
         let same_names : names ≡ ns = cc in
-        subst (λ (e : List ℕ). All (Visits pats (ys ++ first ∷ []) (IsDue (ys ++ first ∷ []) g) (0 < c.faulty) e) ns) same_folder
-        (subst (λ (es : List (List ℕ)). All (Visits pats (ys ++ first ∷ []) (IsDue (ys ++ first ∷ []) g) (0 < c.faulty) folder) es) same_names
+        subst (λ (e : List ℕ). All (Visits pats (ys ++ first ∷ []) (IsDue (ys ++ first ∷ []) g) (0 < c.faulty) e) ns) same_directory
+        (subst (λ (es : List (List ℕ)). All (Visits pats (ys ++ first ∷ []) (IsDue (ys ++ first ∷ []) g) (0 < c.faulty) directory) es) same_names
         (visits_all_within names (later_calls (first ∷ []) ys) (due_still (first ∷ []) ys g) (λ some. some) l.visited))
 
 -- One name more of a list.
 pub one_more : {X : Type 0} (f : X → List ℕ) (xs : List X) (i : ℕ) (v : X) (name : List ℕ) → i < length xs → v ≡ get_or xs i v → name ≡ f v → map f (take (i + 1) xs) ≡ map f (take i xs) ++ name ∷ []
 one_more f xs i v name within is named = grind (arith, common_steps, take_more, map-append)
 
--- A folder was listed, and some of its names were visited.
-pub record EntersNames (pats : List (List ℕ)) {X : Type 0} (f : X → List ℕ) (folder : List ℕ) (xs : List X) (i : ℕ) (x y : List Call) (a b : List (List ℕ)) (r s : ReportState) : Type 0 where
+-- A directory was listed, and some of its names were visited.
+pub record EntersNames (pats : List (List ℕ)) {X : Type 0} (f : X → List ℕ) (directory : List ℕ) (xs : List X) (i : ℕ) (x y : List Call) (a b : List (List ℕ)) (r s : ReportState) : Type 0 where
   pub answer : Bool
   pub mid : List Call
-  pub is : mid ≡ walked (listed folder (map f xs) answer) ∷ x
+  pub is : mid ≡ walked (listed directory (map f xs) answer) ∷ x
   pub middle : ReportState
   pub counted : 0 < r.faulty → 0 < middle.faulty
-  pub some : VisitsSome pats folder (map f (take i xs)) mid y a b middle s
+  pub some : VisitsSome pats directory (map f (take i xs)) mid y a b middle s
 
 -- None was yet.
-pub enters_begun : {pats : List (List ℕ)} → {X : Type 0} (f : X → List ℕ) (xs ys : List X) (folder : List ℕ) {x y : List Call}
-    (folders : List (List ℕ)) (r s : ReportState) → (0 < r.faulty → 0 < s.faulty) → ys ≡ xs →
-    (answer : Bool) × (y ≡ walked (listed folder (map f xs) answer) ∷ x) →
-    EntersNames pats f folder ys 0 x y folders folders r s
-enters_begun f xs ys folder {x = x} {y = y} folders r s counted same h = record {
+pub enters_begun : {pats : List (List ℕ)} → {X : Type 0} (f : X → List ℕ) (xs ys : List X) (directory : List ℕ) {x y : List Call}
+    (directories : List (List ℕ)) (r s : ReportState) → (0 < r.faulty → 0 < s.faulty) → ys ≡ xs →
+    (answer : Bool) × (y ≡ walked (listed directory (map f xs) answer) ∷ x) →
+    EntersNames pats f directory ys 0 x y directories directories r s
+enters_begun f xs ys directory {x = x} {y = y} directories r s counted same h = record {
   middle = s;
   counted = counted;
   answer = h.0;
   mid = y;
-  is = h.1 ∙ ap (λ l. walked (listed folder (map f l) h.0) ∷ x) (sym same);
-  some = visits_none folder y folders s;
+  is = h.1 ∙ ap (λ l. walked (listed directory (map f l) h.0) ∷ x) (sym same);
+  some = visits_none directory y directories s;
 }
 
 -- One name more was.
-pub enters_name : {pats : List (List ℕ)} → {X : Type 0} (f : X → List ℕ) (xs : List X) (i : ℕ) (v : X) (name : List ℕ) {folder : List ℕ}
+pub enters_name : {pats : List (List ℕ)} → {X : Type 0} (f : X → List ℕ) (xs : List X) (i : ℕ) (v : X) (name : List ℕ) {directory : List ℕ}
     {x y z : List Call} {a b c : List (List ℕ)} {r s t : ReportState} → i < length xs → v ≡ get_or xs i v → name ≡ f v →
-    EntersNames pats f folder xs i x y a b r s → VisitsOne pats folder name y z b c s t →
-    EntersNames pats f folder xs (i + 1) x z a c r t
-enters_name {pats = pats} f xs i v name {folder = folder} {z = z} {a = a} {c = c} {t = t} within is named h k = record {
+    EntersNames pats f directory xs i x y a b r s → VisitsOne pats directory name y z b c s t →
+    EntersNames pats f directory xs (i + 1) x z a c r t
+enters_name {pats = pats} f xs i v name {directory = directory} {z = z} {a = a} {c = c} {t = t} within is named h k = record {
   middle = h.middle;
   counted = h.counted;
   answer = h.answer;
   mid = h.mid;
   is = h.is;
-  some = subst (λ (ns : List (List ℕ)). VisitsSome pats folder ns h.mid z a c h.middle t) (sym (one_more f xs i v name within is named)) (visits_more h.some k);
+  some = subst (λ (ns : List (List ℕ)). VisitsSome pats directory ns h.mid z a c h.middle t) (sym (one_more f xs i v name within is named)) (visits_more h.some k);
 }
 
 -- All of them were.
-pub enters_all : {pats : List (List ℕ)} → {X : Type 0} (f : X → List ℕ) (xs : List X) (i : ℕ) {folder : List ℕ} {x y : List Call}
-    {a b : List (List ℕ)} {r s : ReportState} → i ≡ length xs → EntersNames pats f folder xs i x y a b r s →
-    Enters pats folder x y a b r s
-enters_all {pats = pats} f xs i {folder = folder} {y = y} {a = a} {b = b} {s = s} all h =
-    enters_folder (map f xs) h.answer h.is h.counted (subst (λ l. VisitsSome pats folder (map f l) h.mid y a b h.middle s) (take_all i xs (omega arith)) h.some)
+pub enters_all : {pats : List (List ℕ)} → {X : Type 0} (f : X → List ℕ) (xs : List X) (i : ℕ) {directory : List ℕ} {x y : List Call}
+    {a b : List (List ℕ)} {r s : ReportState} → i ≡ length xs → EntersNames pats f directory xs i x y a b r s →
+    Enters pats directory x y a b r s
+enters_all {pats = pats} f xs i {directory = directory} {y = y} {a = a} {b = b} {s = s} all h =
+    enters_directory (map f xs) h.answer h.is h.counted (subst (λ l. VisitsSome pats directory (map f l) h.mid y a b h.middle s) (take_all i xs (omega arith)) h.some)
 
 -- The element that is popped was last.
 pub popped : {X : Type 0} (f : X → List ℕ) (old new : List X) (r : Option X) (x : X) (name : List ℕ) → old ≡ new ++ option_to_list r → r ≡ Some x → name ≡ f x → map f old ≡ map f new ++ name ∷ []
 popped f old new r x name is some named = grind (arith, map-append)
 
--- Some folders were entered.
+-- Some directories were entered.
 pub record EntersSome (pats : List (List ℕ)) (count : ℕ) (x y : List Call) (f g : List (List ℕ)) (a b : ReportState) : Type 0 where
   pub explores : Explores pats x y f g a b
   pub many : count ≤ length explores.made
 
 -- None was yet.
-pub enters_none : {pats : List (List ℕ)} → (calls : List Call) (folders : List (List ℕ)) (r : ReportState) → EntersSome pats 0 calls calls folders folders r r
-enters_none calls folders r = record { explores = explores_none calls folders r r (λ some. some); many = omega arith }
+pub enters_none : {pats : List (List ℕ)} → (calls : List Call) (directories : List (List ℕ)) (r : ReportState) → EntersSome pats 0 calls calls directories directories r r
+enters_none calls directories r = record { explores = explores_none calls directories r r (λ some. some); many = omega arith }
 
--- One folder more, which waited last, was entered.
+-- One directory more, which waited last, was entered.
 pub enters_more : {pats : List (List ℕ)} → (count : ℕ) {x y z : List Call} {f g h : List (List ℕ)} {a b c : ReportState} (rest : List (List ℕ))
-    (folder : List ℕ) → g ≡ rest ++ folder ∷ [] → EntersSome pats count x y f g a b → Enters pats folder y z rest h b c →
+    (directory : List ℕ) → g ≡ rest ++ directory ∷ [] → EntersSome pats count x y f g a b → Enters pats directory y z rest h b c →
     EntersSome pats (count + 1) x z f h a c
 unfolding explores_then
-enters_more {pats = pats} count {x = x} {y = y} {z = z} {f = f} {g = g} {h = h} {b = b} {c = c} rest folder is k l = record { explores = explores_then k.explores entered; many = many }
+enters_more {pats = pats} count {x = x} {y = y} {z = z} {f = f} {g = g} {h = h} {b = b} {c = c} rest directory is k l = record { explores = explores_then k.explores entered; many = many }
   where
     passes : Passes l.explores.made g h
-    passes d inside = by_case (Contains-push_cases rest folder d (subst (λ (fs : List (List ℕ)). Contains fs d) is inside))
+    passes d inside = by_case (Contains-push_cases rest directory d (subst (λ (fs : List (List ℕ)). Contains fs d) is inside))
       where
-        by_case : Contains rest d ⊎ (folder ≡ d) → WasEntered l.explores.made d ⊎ Contains h d
+        by_case : Contains rest d ⊎ (directory ≡ d) → WasEntered l.explores.made d ⊎ Contains h d
         by_case (inl there) = l.explores.waits d there
         by_case (inr same) = inl (subst (λ (e : List ℕ). WasEntered l.explores.made e) same l.entered)
 
@@ -373,11 +373,11 @@ enters_more {pats = pats} count {x = x} {y = y} {z = z} {f = f} {g = g} {h = h} 
         let some : l.entered.2.0 < length l.explores.made = l.entered.2.1 in
         omega (arith, both, some, k.many)
 
--- Folders were entered as often as a machine counts.
+-- Directories were entered as often as a machine counts.
 pub exhausts_count : {pats : List (List ℕ)} → {count : ℕ} {x y : List Call} {f g : List (List ℕ)} {a b : ReportState} → 2 ^ 64 ≤ count + 1 → EntersSome pats count x y f g a b → Exhausts pats x y f g a b
 exhausts_count many k = record { explores = k.explores; done = λ few. absurd (omega (arith, many, few, k.many)) }
 
--- No folder waits any longer.
+-- No directory waits any longer.
 pub exhausts_empty : {pats : List (List ℕ)} → {count : ℕ} {x y : List Call} {f g last : List (List ℕ)} {a b : ReportState} → last ≡ g → last ≡ [] → EntersSome pats count x y f g a b →
     Exhausts pats x y f last a b
 exhausts_empty {pats = pats} {x = x} {y = y} {f = f} {a = a} {b = b} same none k = record {
@@ -393,9 +393,9 @@ on_ok_both P Q r p q = grind arith
 pub on_ok_always : {T E Q : Type 0} (r : Result T E) → Q → OnOk r Q
 on_ok_always r q = grind arith
 
--- A folder waits after it was pushed.
-pub waits_pushed : {X : Type 0} (f : X → List ℕ) (before after : List X) (x : X) (path : List ℕ) → IsFolderPath path (f x) → after ≡ before ++ x ∷ [] → Waits path (map f before) (map f after)
-waits_pushed f before after x path h is = record { folder = f x; is_path = h; grown = ap (map f) is ∙ map-append f before (x ∷ []) }
+-- A directory waits after it was pushed.
+pub waits_pushed : {X : Type 0} (f : X → List ℕ) (before after : List X) (x : X) (path : List ℕ) → IsDirectoryPath path (f x) → after ≡ before ++ x ∷ [] → Waits path (map f before) (map f after)
+waits_pushed f before after x path h is = record { directory = f x; is_path = h; grown = ap (map f) is ∙ map-append f before (x ∷ []) }
 
 -- Some paths of the command line can be taken, or have a fault.
 pub record StartsSome (pats : List (List ℕ)) (paths : List (List ℕ)) (x y : List Call) (f g : List (List ℕ)) (found : List Found) (first r : ReportState) : Type 0 where
@@ -403,9 +403,9 @@ pub record StartsSome (pats : List (List ℕ)) (paths : List (List ℕ)) (x y : 
   pub begins : (0 < r.faulty) ⊎ All (Begins explores.made (IsDue explores.made g) (IsIn found)) paths
 
 -- There was none yet.
-pub starts_none : {pats : List (List ℕ)} → (calls : List Call) (folders : List (List ℕ)) (found : List Found) (r : ReportState) → StartsSome pats [] calls calls folders folders found r r
+pub starts_none : {pats : List (List ℕ)} → (calls : List Call) (directories : List (List ℕ)) (found : List Found) (r : ReportState) → StartsSome pats [] calls calls directories directories found r r
 unfolding explores_none explores_few
-starts_none calls folders found r = record { explores = explores_none calls folders r r (λ some. some); begins = inr (All-nil (Begins [] (IsDue [] folders) (IsIn found))) }
+starts_none calls directories found r = record { explores = explores_none calls directories r r (λ some. some); begins = inr (All-nil (Begins [] (IsDue [] directories) (IsIn found))) }
 
 -- One path more can be taken, or has a fault.
 starts_more : {pats : List (List ℕ)} → {paths : List (List ℕ)} {path : List ℕ} {x y z : List Call} {f g h : List (List ℕ)}
@@ -453,7 +453,7 @@ same_walked (x ∷ xs) (y ∷ ys) e = let rest : map walked xs ≡ map walked ys
 same_calls : (xs ys : List WalkCall) (old : List Call) → map walked xs ++ old ≡ map walked ys ++ old → xs ≡ ys
 same_calls xs ys old e = same_walked xs ys (append_cancel_right (map walked xs) (map walked ys) old e)
 
--- All paths can be taken, and all folders were entered.
+-- All paths can be taken, and all directories were entered.
 pub covers_paths : {pats : List (List ℕ)} → {X : Type 0} (f : X → List ℕ) (xs : List X) (i : ℕ) {x y z : List Call} {a b c : List (List ℕ)}
     {found : List Found} {first r last : ReportState} → i ≡ length xs → ¬ (0 < r.faulty) →
     StartsSome pats (map f (take i xs)) x y a b found first r → Exhausts pats y z b c r last → {w v : Walk} →
@@ -604,7 +604,7 @@ misses_kept args text found files s t e kept (misses_no_path none h) = misses_no
       (Begins h.calls (IsDue h.calls h.waiting) (StandsIn files))
       (λ p start. begins_within (λ w here. here) (λ path due. due) (stands_in found files kept) start)
       (map (λ p. string_bytes p) args.paths.items) h.begins;
-  visits = λ folder names answer there. visits_all_within names (λ w here. here) (λ path due. due) e (h.visits folder names answer there);
+  visits = λ directory names answer there. visits_all_within names (λ w here. here) (λ path due. due) e (h.visits directory names answer there);
   taken = λ path node there kind. left_kept found files kept path node.id (h.taken path node there kind);
 })
 misses_kept args text found files s t e kept (misses_no_input input h) = misses_no_input input (record {

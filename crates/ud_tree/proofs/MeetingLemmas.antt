@@ -1,4 +1,4 @@
--- MeetingLemmas: what stays if a folder is met for the first time.
+-- MeetingLemmas: what stays if a directory is met for the first time.
 use Rattle.std.proofs.Common.{◌≡◌, ℕ, List, Bool, true, false, Option, IsNone, is_some, refl, ap, ◌∙◌, subst, cond, string_bytes, nat_cmp}
 use Rattle.std.specs.Cmp.Lexicographic.{slice_cmp}
 use Rattle.std.specs.Str.{bytes_eq}
@@ -8,16 +8,16 @@ use Rattle.std.specs.String.{string_cmp}
 use Rattle.std.specs.declared.string.String.{String}
 use Rattle.std.proofs.lemmas.Slice.Eq.{bytes_eq-Decides}
 use Rattle.std.proofs.lemmas.Map.Text.{btree_map_updates_text}
-use Rattle.ud_tree.specs.declared.disk.folders.Met.{Met}
+use Rattle.ud_tree.specs.declared.disk.directories.Met.{Met}
 use Rattle.ud_tree.specs.Meeting.{KeepsMet}
 
 unless_true : (b : Bool) → ¬ (b ≡ true) → b ≡ false
 unless_true true not_true = absurd (not_true refl)
 unless_true false not_true = refl
 
--- Other folders keep what was met there.
+-- Other directories keep what was met there.
 pub keeps_first : {Y : Type 0} (bs : List ℕ) (m n : BTreeMap (String Y) Met) (w : Option Met) → IsNone (get_by_text m bs) → tree.UpdatesBy string_cmp (λ k. slice_cmp nat_cmp bs (string_bytes k)) m n w → KeepsMet m n
-keeps_first bs m n w none u folder some =
-    let apart : ¬ (bs ≡ folder) = λ same. let absent : is_some (get_by_text m folder) ≡ false = subst (λ f. is_some (get_by_text m f) ≡ false) same none in cc in
-    let other : bytes_eq bs folder ≡ false = unless_true (bytes_eq bs folder) (λ alike. apart ((bytes_eq-Decides bs folder).0 alike)) in
-    btree_map_updates_text bs m n w u folder ∙ ap (λ b. cond b w (get_by_text m folder)) other
+keeps_first bs m n w none u directory some =
+    let apart : ¬ (bs ≡ directory) = λ same. let absent : is_some (get_by_text m directory) ≡ false = subst (λ f. is_some (get_by_text m f) ≡ false) same none in cc in
+    let other : bytes_eq bs directory ≡ false = unless_true (bytes_eq bs directory) (λ alike. apart ((bytes_eq-Decides bs directory).0 alike)) in
+    btree_map_updates_text bs m n w u directory ∙ ap (λ b. cond b w (get_by_text m directory)) other

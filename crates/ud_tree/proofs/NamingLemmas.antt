@@ -1,6 +1,6 @@
 -- NamingLemmas: what is true of the path by which a name is reached.
 use Rattle.std.proofs.Common.{◌≡◌, ℕ, List, Option, subst}
-use Rattle.ud_tree.specs.declared.disk.folders.Entered.{Entered}
+use Rattle.ud_tree.specs.declared.disk.directories.Entered.{Entered}
 use Rattle.ud_tree.specs.Meeting.{IsPlace}
 use Rattle.ud_tree.specs.Naming.{At}
 

@@ -13,7 +13,7 @@ use Rattle.ud_replace.specs.declared.node.Node.{Node}
 use Rattle.ud_replace.specs.Calls.{Call, walked, WalkCall, met, followed, listed}
 use Rattle.ud_tree.specs.Reports.{ReportState, Says, ReportsOne, ReportsOf}
 use Rattle.ud_tree.specs.declared.walk.Walk.{Walk}
-use Rattle.ud_tree.specs.Paths.{folder_len, fresh_end, fresh_name}
+use Rattle.ud_tree.specs.Paths.{directory_len, fresh_end, fresh_name}
 use Rattle.ud_tree.specs.Messages.{locked_line, fault_line, IsFailureOf, no_reason, with_reason}
 use Rattle.ud_tree.specs.Streams.{Source, takes_all, takes_none}
 use Rattle.std.specs.Prelude.{string_bytes}
@@ -28,18 +28,18 @@ use Rattle.ud_tree.proofs.WalkLemmas.{finds_none, finds_same, finds_then}
 pub fault_reported : {a b : ReportState} (name text : List ℕ) → ReportsOne (line_of (name ++ (codes ": " ++ (text ++ [])))) a b → ReportsOne (fault_line name text) a b
 fault_reported name text h = reports_same (ap line_of (simp (append_assoc, append-nil))) h
 
--- The line of a fault of a name in a folder was written, from its parts.
-pub fault_in_reported : {a b : ReportState} (folder name text : List ℕ) →
-    ReportsOne (line_of (folder ++ (name ++ (codes ": " ++ (text ++ []))))) a b →
-    ReportsOne (fault_line (folder ++ name) text) a b
-fault_in_reported folder name text h = reports_same (ap line_of (simp (append_assoc, append-nil))) h
+-- The line of a fault of a name in a directory was written, from its parts.
+pub fault_in_reported : {a b : ReportState} (directory name text : List ℕ) →
+    ReportsOne (line_of (directory ++ (name ++ (codes ": " ++ (text ++ []))))) a b →
+    ReportsOne (fault_line (directory ++ name) text) a b
+fault_in_reported directory name text h = reports_same (ap line_of (simp (append_assoc, append-nil))) h
 
 -- The line of a file that another run replaces was written, from its parts.
-pub locked_reported : {a b : ReportState} (name folder end : List ℕ) → folder ≡ take (folder_len name) name → end ≡ fresh_end name →
-    ReportsOne (line_of (name ++ (codes ": " ++ (codes "Another run is at it; if none is, remove " ++ (folder ++ (codes ".unifdef-tree." ++ (end ++ []))))))) a b → ReportsOne (locked_line name) a b
-locked_reported name folder end is ends h = reports_same (ap line_of joins) h
+pub locked_reported : {a b : ReportState} (name directory end : List ℕ) → directory ≡ take (directory_len name) name → end ≡ fresh_end name →
+    ReportsOne (line_of (name ++ (codes ": " ++ (codes "Another run is at it; if none is, remove " ++ (directory ++ (codes ".unifdef-tree." ++ (end ++ []))))))) a b → ReportsOne (locked_line name) a b
+locked_reported name directory end is ends h = reports_same (ap line_of joins) h
   where
-    joins : name ++ (codes ": " ++ (codes "Another run is at it; if none is, remove " ++ (folder ++ (codes ".unifdef-tree." ++ (end ++ []))))) ≡
+    joins : name ++ (codes ": " ++ (codes "Another run is at it; if none is, remove " ++ (directory ++ (codes ".unifdef-tree." ++ (end ++ []))))) ≡
         (name ++ codes ": ") ++ (codes "Another run is at it; if none is, remove " ++ fresh_name name)
     joins = rw (is, ends) (simp (append_assoc, append-nil))
 
@@ -109,7 +109,7 @@ walk_given path node {calls = calls} {calls' = calls'} {r = r} is (is_quiet same
     subst (λ (q : ReportState). ReportsWalk calls calls' r q) (sym same) (walk_call (met path (Present node)) r refl is)
 walk_given path node is (is_irregular other h) = walk_other path path node refl is (other_kind node.kind other) h
 
--- A link was met that doesn't lead to a folder, and a line says so.
+-- A link was met that doesn't lead to a directory, and a line says so.
 pub walk_link : (path name : List ℕ) (node : Node) {calls mid calls' : List Call} {r r' : ReportState} → name ≡ path → mid ≡ walked (met path (Present node)) ∷ calls →
     calls' ≡ walked (followed path false) ∷ mid → node.kind ≡ Link → ReportsOne (fault_line name (codes "Is a symbolic link")) r r' → ReportsWalk calls calls' r r'
 walk_link path name node same is then_is link h =
@@ -117,14 +117,14 @@ walk_link path name node same is then_is link h =
     (then_remark (fault_line name (codes "Is a symbolic link")) (then_answered (followed path false) (then_answered (met path (Present node)) none_told refl) refl)
     (is_link path node (1, omega arith, refl) link (0, omega arith, refl) (ap (λ (n : List ℕ). fault_line n (codes "Is a symbolic link")) same))) h
 
--- A folder couldn't be listed, and a line says so.
-pub walk_unread : (folder name : List ℕ) (names : List (List ℕ)) {calls calls' : List Call} {r r' : ReportState} → name ≡ folder →
-    calls' ≡ walked (listed folder names false) ∷ calls → ReportsOf (IsFailureOf name (codes "Cannot be read")) r r' → ReportsNames folder names calls calls' r r'
+-- A directory couldn't be listed, and a line says so.
+pub walk_unread : (directory name : List ℕ) (names : List (List ℕ)) {calls calls' : List Call} {r r' : ReportState} → name ≡ directory →
+    calls' ≡ walked (listed directory names false) ∷ calls → ReportsOf (IsFailureOf name (codes "Cannot be read")) r r' → ReportsNames directory names calls calls' r r'
 unfolding walk_refused walk_one
-walk_unread folder name names same is h = record {
+walk_unread directory name names same is h = record {
   answer = false;
-  reports = walk_refused (listed folder names false) is
-      (reports_weaker (λ m of. is_unread folder names refl (subst (λ (n : List ℕ). IsFailureOf n (codes "Cannot be read") m) same of)) h);
+  reports = walk_refused (listed directory names false) is
+      (reports_weaker (λ m of. is_unread directory names refl (subst (λ (n : List ℕ). IsFailureOf n (codes "Cannot be read") m) same of)) h);
   listing = (0, omega arith, refl);
 }
 
@@ -210,13 +210,13 @@ walk_met path node r is = walk_call (met path (Present node)) r refl is
 pub walk_followed : (path : List ℕ) (answer : Bool) {calls calls' : List Call} (r : ReportState) → calls' ≡ walked (followed path answer) ∷ calls → ReportsWalk calls calls' r r
 walk_followed path answer r is = walk_call (followed path answer) r refl is
 
--- All names of a folder were listed, and nothing was written.
-pub walk_listed : (folder : List ℕ) (names : List (List ℕ)) {calls calls' : List Call} (r : ReportState) → calls' ≡ walked (listed folder names true) ∷ calls →
-    ReportsNames folder names calls calls' r r
+-- All names of a directory were listed, and nothing was written.
+pub walk_listed : (directory : List ℕ) (names : List (List ℕ)) {calls calls' : List Call} (r : ReportState) → calls' ≡ walked (listed directory names true) ∷ calls →
+    ReportsNames directory names calls calls' r r
 unfolding walk_call walk_quiet
-walk_listed folder names r is = record {
+walk_listed directory names r is = record {
   answer = true;
-  reports = walk_call (listed folder names true) r refl is;
+  reports = walk_call (listed directory names true) r refl is;
   listing = (0, omega arith, refl);
 }
 
@@ -224,7 +224,7 @@ walk_listed folder names r is = record {
 pub met_at : (path wanted : List ℕ) {calls calls' : List Call} → path ≡ wanted → calls' ≡ walked (met path Absent) ∷ calls → calls' ≡ walked (met wanted Absent) ∷ calls
 met_at path wanted {calls = calls} same is = is ∙ ap (λ (p : List ℕ). walked (met p Absent) ∷ calls) same
 
--- A name of a folder was visited, and no call was made.
+-- A name of a directory was visited, and no call was made.
 pub visit_none : {path : List ℕ} {calls : List Call} {r r' : ReportState} → ReportsWalk calls calls r r' → VisitTells path calls calls r r'
 visit_none {path = path} {calls = calls} h = is_told no_call h
   where
@@ -232,7 +232,7 @@ visit_none {path = path} {calls = calls} h = is_told no_call h
     no_call e = let n : length calls ≡ suc (length calls) = ap (λ (l : List Call). length l) e in
         omega arith
 
--- A name of a folder was visited, and something has it, or that isn't known.
+-- A name of a directory was visited, and something has it, or that isn't known.
 pub visit_met : (answer : Lookup) (met_path : List ℕ) {path : List ℕ} {calls calls' : List Call} {r r' : ReportState} → ¬ (answer ≡ Absent) → calls' ≡ walked (met met_path answer) ∷ calls →
     ReportsWalk calls calls' r r' → VisitTells path calls calls' r r'
 visit_met answer met_path other is h = grind arith
@@ -244,38 +244,38 @@ name_listed f xs i x name within is named =
     (Contains-get_or (map f xs) i (f x) (subst (λ (n : ℕ). i < n) (sym (length-map xs f)) within))
 
 -- The names of an equal list were listed.
-pub names_same : {X : Type 0} (f : X → List ℕ) (xs ys : List X) {folder : List ℕ} {calls calls' : List Call} {r r' : ReportState} → ys ≡ xs → ReportsNames folder (map f xs) calls calls' r r' →
-    ReportsNames folder (map f ys) calls calls' r r'
+pub names_same : {X : Type 0} (f : X → List ℕ) (xs ys : List X) {directory : List ℕ} {calls calls' : List Call} {r r' : ReportState} → ys ≡ xs → ReportsNames directory (map f xs) calls calls' r r' →
+    ReportsNames directory (map f ys) calls calls' r r'
 names_same f xs ys is h = grind arith
 
--- A name of a folder that was listed vanished, and nothing was written.
-walk_gone : {folder name : List ℕ} {names : List (List ℕ)} {calls mid calls' : List Call} {a b : ReportState} → ReportsNames folder names calls mid a b → Contains names name →
-    calls' ≡ walked (met (folder ++ name) Absent) ∷ mid → ReportsNames folder names calls calls' a b
-walk_gone {folder = folder} {name = name} {names = names} h has is = record {
+-- A name of a directory that was listed vanished, and nothing was written.
+walk_gone : {directory name : List ℕ} {names : List (List ℕ)} {calls mid calls' : List Call} {a b : ReportState} → ReportsNames directory names calls mid a b → Contains names name →
+    calls' ≡ walked (met (directory ++ name) Absent) ∷ mid → ReportsNames directory names calls calls' a b
+walk_gone {directory = directory} {name = name} {names = names} h has is = record {
   answer = h.answer;
   reports = record {
     messages = h.reports.messages;
     walk = record {
-      calls = met (folder ++ name) Absent ∷ h.reports.walk.calls;
-      are = is ∙ ap (λ (l : List Call). walked (met (folder ++ name) Absent) ∷ l) h.reports.walk.are;
-      told = then_vanished (folder ++ name) h.reports.walk.told (record { folder = folder; name = name; names = names; answer = h.answer; listing = h.listing; has = has; path_is = refl });
+      calls = met (directory ++ name) Absent ∷ h.reports.walk.calls;
+      are = is ∙ ap (λ (l : List Call). walked (met (directory ++ name) Absent) ∷ l) h.reports.walk.are;
+      told = then_vanished (directory ++ name) h.reports.walk.told (record { directory = directory; name = name; names = names; answer = h.answer; listing = h.listing; has = has; path_is = refl });
     };
     tells = h.reports.tells;
     counted = h.reports.counted;
   };
-  listing = Contains-append_right (met (folder ++ name) Absent ∷ []) h.reports.walk.calls (listed folder names h.answer) h.listing;
+  listing = Contains-append_right (met (directory ++ name) Absent ∷ []) h.reports.walk.calls (listed directory names h.answer) h.listing;
 }
 
--- A name of a folder that was listed was visited.
-pub walk_visited : {folder name : List ℕ} {names : List (List ℕ)} {calls mid calls' : List Call} {a b c : ReportState} → ReportsNames folder names calls mid a b → Contains names name →
-    VisitTells (folder ++ name) mid calls' b c → ReportsNames folder names calls calls' a c
+-- A name of a directory that was listed was visited.
+pub walk_visited : {directory name : List ℕ} {names : List (List ℕ)} {calls mid calls' : List Call} {a b c : ReportState} → ReportsNames directory names calls mid a b → Contains names name →
+    VisitTells (directory ++ name) mid calls' b c → ReportsNames directory names calls calls' a c
 unfolding walk_then
-walk_visited {folder = folder} {names = names} {calls = calls} {calls' = calls'} {a = a} h has (is_gone is same) =
-    subst (λ (r : ReportState). ReportsNames folder names calls calls' a r) (sym same) (walk_gone h has is)
-walk_visited {folder = folder} {names = names} h has (is_told other k) = record {
+walk_visited {directory = directory} {names = names} {calls = calls} {calls' = calls'} {a = a} h has (is_gone is same) =
+    subst (λ (r : ReportState). ReportsNames directory names calls calls' a r) (sym same) (walk_gone h has is)
+walk_visited {directory = directory} {names = names} h has (is_told other k) = record {
   answer = h.answer;
   reports = walk_then h.reports k;
-  listing = Contains-append_right k.walk.calls h.reports.walk.calls (listed folder names h.answer) h.listing;
+  listing = Contains-append_right k.walk.calls h.reports.walk.calls (listed directory names h.answer) h.listing;
 }
 
 -- Nothing has a path, or that isn't known, and a line says so.

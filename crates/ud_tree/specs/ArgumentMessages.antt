@@ -77,7 +77,7 @@ argument_message OutOfMemory = line_of (codes "Out of memory")
 -- `bad_argument_line word`: the line of an argument that isn't UTF-8, with its bytes shown.
 abbrev pub bad_argument_line : List ℕ → List ℕ
 bad_argument_line word =
-    line_of (escaped word ++ codes ": Argument isn't UTF-8; name its folder")
+    line_of (escaped word ++ codes ": Argument isn't UTF-8; name its directory")
 
 -- `memory_line`: the line that says that memory couldn't be allocated.
 abbrev pub memory_line : List ℕ

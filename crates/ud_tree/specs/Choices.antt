@@ -1,21 +1,21 @@
--- Choices: which names a walk over folders takes.
+-- Choices: which names a walk over directories takes.
 --
 --   is_fresh name            a name like those of new files
---   IsVersioned name         a folder with this name belongs to version control or quilt
+--   IsVersioned name         a directory with this name belongs to version control or quilt
 --   rule_of text             the rule that an argument of `-g` gives
 --   subject pattern below    what a pattern is matched with
---   Fits rule below          a file or a folder matches a rule
+--   Fits rule below          a file or a directory matches a rule
 --   Decides below texts effect   the effect of the last rule that matches
 --   Chooses texts below chosen   whether a file is chosen
---   LeavesFolder texts below   a folder is left out
---   IsBelow path below       the part of a path below a folder above it
+--   LeavesDirectory texts below   a directory is left out
+--   IsBelow path below       the part of a path below a directory above it
 --   IsLeft texts path        the file at this path isn't chosen
---   IsSkipped texts path name   the folder at this path is left out
+--   IsSkipped texts path name   the directory at this path is left out
 --
 -- `below` is the path below the path that the command line names. `texts` are the arguments of
 -- `-g`.
 --
--- Example: under `-g '+*.def' -g '!old'`, the files `a.c` and `x.def` are chosen, and the folder
+-- Example: under `-g '+*.def' -g '!old'`, the files `a.c` and `x.def` are chosen, and the directory
 -- `lib/old` is left out.
 use Rattle.std.specs.Prelude.{◌≡◌, ◌⊎◌, ℕ, List, [], ◌∷◌, ◌++◌, Bool, true, false, ◌==◌, Option}
 use Rattle.std.specs.Prelude.{Some, None, codes, nat_eq, if◌then◌else◌}
@@ -30,7 +30,7 @@ use Rattle.ud_tree.specs.declared.patterns.Rule.{Rule as CodeRule}
 abbrev pub is_fresh : List ℕ → Bool
 is_fresh name = starts_with nat_eq name (codes ".unifdef-tree.")
 
--- `IsVersioned name`: a folder of this name belongs to version control or quilt. It has earlier
+-- `IsVersioned name`: a directory of this name belongs to version control or quilt. It has earlier
 -- texts of files, and is left out.
 abbrev pub IsVersioned : List ℕ → Type 0
 IsVersioned name = (name ≡ codes ".git") ⊎ (name ≡ codes ".hg") ⊎ (name ≡ codes ".svn")
@@ -79,7 +79,7 @@ is_path pattern = list_any (λ byte. nat_eq byte 47) pattern
 abbrev pub subject : List ℕ → List ℕ → List ℕ
 subject pattern below = if is_path pattern then below else last_name below
 
--- `Fits rule below`: the file or the folder matches the pattern of the rule.
+-- `Fits rule below`: the file or the directory matches the pattern of the rule.
 abbrev pub Fits : Rule → List ℕ → Type 0
 Fits rule below = Matches rule.pattern (subject rule.pattern below)
 
@@ -104,8 +104,8 @@ pub data Chooses (texts : List (List ℕ)) (below : List ℕ) : Bool → Type 0 
   usual : {b : Bool} → Decides below texts None → (list_any is_only texts ≡ true → b ≡ false) →
       Chooses texts below b
 
--- `LeavesFolder texts below`: a rule leaves out what matches it, and the folder does.
-pub record LeavesFolder (texts : List (List ℕ)) (below : List ℕ) : Type 0 where
+-- `LeavesDirectory texts below`: a rule leaves out what matches it, and the directory does.
+pub record LeavesDirectory (texts : List (List ℕ)) (below : List ℕ) : Type 0 where
   pub text : List ℕ
   pub given : Contains texts text
   pub leaves : (rule_of text).effect ≡ Leave
@@ -114,14 +114,14 @@ pub record LeavesFolder (texts : List (List ℕ)) (below : List ℕ) : Type 0 wh
 -- `IsBelow path below`: `below` is the path, or follows a slash of it.
 pub data IsBelow (path : List ℕ) : List ℕ → Type 0 where
   whole : IsBelow path path
-  after : (folder below : List ℕ) → path ≡ folder ++ 47 ∷ below → IsBelow path below
+  after : (directory below : List ℕ) → path ≡ directory ++ 47 ∷ below → IsBelow path below
 
--- `IsLeft texts path`: the rules don't choose the file, by its path below a folder above it.
+-- `IsLeft texts path`: the rules don't choose the file, by its path below a directory above it.
 abbrev pub IsLeft : List (List ℕ) → List ℕ → Type 0
 IsLeft texts path = (below : List ℕ) × IsBelow path below × Chooses texts below false
 
--- `IsSkipped texts path name`: the folder at this path has earlier texts, or a rule leaves it out,
--- by its path below a folder above it.
+-- `IsSkipped texts path name`: the directory at this path has earlier texts, or a rule leaves it
+-- out, by its path below a directory above it.
 abbrev pub IsSkipped : List (List ℕ) → List ℕ → List ℕ → Type 0
 IsSkipped texts path name =
-    IsVersioned name ⊎ ((below : List ℕ) × IsBelow path below × LeavesFolder texts below)
+    IsVersioned name ⊎ ((below : List ℕ) × IsBelow path below × LeavesDirectory texts below)

@@ -1,11 +1,11 @@
 -- Covering: what happens to each path and each name that a walk meets, so that it misses none.
 --
---   IsFolderPath path folder      `folder` is `path`, with a slash at its end
---   WasEntered calls folder       a folder was listed
---   IsDue calls folders path      a folder was listed, or is waiting
+--   IsDirectoryPath path directory      `directory` is `path`, with a slash at its end
+--   WasEntered calls directory       a directory was listed
+--   IsDue calls directories path      a directory was listed, or is waiting
 --   Begins calls due has path     a path of the command line can be taken
---   Visits patterns calls due told folder name   what happened to a name in a folder
---   VisitsAll patterns calls due told   `Visits` for each name in each listed folder
+--   Visits patterns calls due told directory name   what happened to a name in a directory
+--   VisitsAll patterns calls due told   `Visits` for each name in each listed directory
 --   IsIn found path id            a file was found
 --   StandsIn files path id        a list has this file, or the same one at another path
 --   Gives calls has told path     what happened to a path of the input
@@ -15,8 +15,8 @@
 --   CoversInput paths old new has told   a whole walk from the input's paths
 --   MissesNone args text old new has told   a whole walk from the arguments' paths
 --
--- `calls` are the calls of a walk, the newest first. `due path` says that a folder was listed or is
--- waiting, `has path id` that a file was found, and `told` that the walk has a message.
+-- `calls` are the calls of a walk, the newest first. `due path` says that a directory was listed or
+-- is waiting, `has path id` that a file was found, and `told` that the walk has a message.
 use Rattle.std.specs.Prelude.{◌≡◌, ◌⊎◌, ℕ, List, [], ◌∷◌, ◌++◌, Bool, true, false, IsUtf8, codes}
 use Rattle.std.specs.Prelude.{string_bytes, map, length, ◌+◌, ◌<◌, ◌^◌, ◌==◌, if◌then◌else◌}
 use Rattle.std.specs.List.{All, Contains}
@@ -24,53 +24,55 @@ use Rattle.ud_replace.specs.declared.node.FileId.{FileId}
 use Rattle.ud_replace.specs.declared.node.Lookup.{Lookup}
 use Rattle.ud_replace.specs.declared.node.Lookup.TheVariants.{Present}
 use Rattle.ud_replace.specs.declared.node.Node.{Node}
-use Rattle.ud_replace.specs.declared.node.NodeKind.TheVariants.{File, Folder, Link}
+use Rattle.ud_replace.specs.declared.node.NodeKind.TheVariants.{File, Directory, Link}
 use Rattle.ud_replace.specs.declared.node.NodeKind.TheVariants.{Other}
 use Rattle.ud_replace.specs.Calls.{Call, walked, WalkCall, met, followed, listed}
 use Rattle.ud_tree.specs.declared.arguments.Arguments.{Arguments}
 use Rattle.ud_tree.specs.declared.walk.Found.{Found}
 use Rattle.ud_tree.specs.Choices.{IsLeft, IsSkipped}
 
--- `IsFolderPath path folder`: `folder` is `path`, with a slash at its end.
-abbrev pub IsFolderPath : List ℕ → List ℕ → Type 0
-IsFolderPath path folder = (folder ≡ path) ⊎ (folder ≡ path ++ codes "/")
+-- `IsDirectoryPath path directory`: `directory` is `path`, with a slash at its end.
+abbrev pub IsDirectoryPath : List ℕ → List ℕ → Type 0
+IsDirectoryPath path directory = (directory ≡ path) ⊎ (directory ≡ path ++ codes "/")
 
--- `WasEntered calls folder`: one of `calls` listed the folder.
+-- `WasEntered calls directory`: one of `calls` listed the directory.
 abbrev pub WasEntered : List WalkCall → List ℕ → Type 0
-WasEntered calls folder =
-    (names : List (List ℕ)) × (answer : Bool) × Contains calls (listed folder names answer)
+WasEntered calls directory =
+    (names : List (List ℕ)) × (answer : Bool) × Contains calls (listed directory names answer)
 
--- `IsDue calls folders path`: the folder `path` was listed, or is one of `folders`, which wait.
+-- `IsDue calls directories path`: the directory `path` was listed, or is one of `directories`,
+-- which wait.
 abbrev pub IsDue : List WalkCall → List (List ℕ) → List ℕ → Type 0
-IsDue calls folders path = (folder : List ℕ) × IsFolderPath path folder ×
-    (WasEntered calls folder ⊎ Contains folders folder)
+IsDue calls directories path = (directory : List ℕ) × IsDirectoryPath path directory ×
+    (WasEntered calls directory ⊎ Contains directories directory)
 
 -- `Begins calls due has path`: `path` was met as a regular file, and was found, whatever its name.
--- Or it was met as a folder, or as a link that leads to one, and that is due.
+-- Or it was met as a directory, or as a link that leads to one, and that is due.
 pub data Begins (calls : List WalkCall) (due : List ℕ → Type 0) (has : List ℕ → FileId → Type 0)
     (path : List ℕ) : Type 0 where
   at_file : (node : Node) → Contains calls (met path (Present node)) → node.kind ≡ File →
       has path node.id → Begins calls due has path
-  at_folder : (node : Node) → Contains calls (met path (Present node)) → node.kind ≡ Folder →
+  at_directory : (node : Node) → Contains calls (met path (Present node)) → node.kind ≡ Directory →
       due path → Begins calls due has path
   at_link : (node : Node) → Contains calls (met path (Present node)) → node.kind ≡ Link →
       Contains calls (followed path true) → due path → Begins calls due has path
 
--- `Visits patterns calls due told folder name`: `name` isn't UTF-8, and a message says so. Or it
--- was looked at, and is due if it is a folder, unless that is left out (`IsSkipped`).
+-- `Visits patterns calls due told directory name`: `name` isn't UTF-8, and a message says so. Or it
+-- was looked at, and is due if it is a directory, unless that is left out (`IsSkipped`).
 pub data Visits (patterns : List (List ℕ)) (calls : List WalkCall) (due : List ℕ → Type 0)
-    (told : Type 0) (folder name : List ℕ) : Type 0 where
-  no_text : ¬ (IsUtf8 name) → told → Visits patterns calls due told folder name
-  was_met : (answer : Lookup) → Contains calls (met (folder ++ name) answer) →
-      ((node : Node) → answer ≡ Present node → node.kind ≡ Folder →
-      IsSkipped patterns (folder ++ name) name ⊎ due (folder ++ name)) →
-      Visits patterns calls due told folder name
+    (told : Type 0) (directory name : List ℕ) : Type 0 where
+  no_text : ¬ (IsUtf8 name) → told → Visits patterns calls due told directory name
+  was_met : (answer : Lookup) → Contains calls (met (directory ++ name) answer) →
+      ((node : Node) → answer ≡ Present node → node.kind ≡ Directory →
+      IsSkipped patterns (directory ++ name) name ⊎ due (directory ++ name)) →
+      Visits patterns calls due told directory name
 
--- `VisitsAll patterns calls due told`: each name in each listed folder was visited.
+-- `VisitsAll patterns calls due told`: each name in each listed directory was visited.
 abbrev pub VisitsAll : List (List ℕ) → List WalkCall → (List ℕ → Type 0) → Type 0 → Type 0
 VisitsAll patterns calls due told =
-    (folder : List ℕ) (names : List (List ℕ)) (answer : Bool) →
-    Contains calls (listed folder names answer) → All (Visits patterns calls due told folder) names
+    (directory : List ℕ) (names : List (List ℕ)) (answer : Bool) →
+    Contains calls (listed directory names answer) →
+    All (Visits patterns calls due told directory) names
 
 -- `IsIn found path id`: `found` has a file with this path and identity.
 abbrev pub IsIn : List Found → List ℕ → FileId → Type 0
@@ -82,7 +84,7 @@ StandsIn files path id =
     (g : Found) × Contains files g × ((string_bytes g.path ≡ path) ⊎ (g.id ≡ id))
 
 -- `Gives calls has told path`: `path` isn't UTF-8, and a message says so. Or it was looked at, and
--- was found if it is a regular file. If it is neither a file nor a folder nor a link, a message
+-- was found if it is a regular file. If it is neither a file nor a directory nor a link, a message
 -- says so.
 pub data Gives (calls : List WalkCall) (has : List ℕ → FileId → Type 0) (told : Type 0)
     (path : List ℕ) : Type 0 where
@@ -109,9 +111,9 @@ abbrev pub paths_of : List ℕ → List (List ℕ)
 paths_of text = paths_after [] text
 
 -- `CoversPaths paths patterns old new has told`: since `old`, only calls of a walk were made. Each
--- of `paths` can be taken, and was found if it is a regular file. Each name in each listed folder
--- was visited. Each folder that is due was listed, unless there were more calls than a machine
--- counts. Each regular file met was found, or the patterns don't choose it.
+-- of `paths` can be taken, and was found if it is a regular file. Each name in each listed
+-- directory was visited. Each directory that is due was listed, unless there were more calls than a
+-- machine counts. Each regular file met was found, or the patterns don't choose it.
 pub record CoversPaths (paths patterns : List (List ℕ)) (old new : List Call)
     (has : List ℕ → FileId → Type 0) (told : Type 0) : Type 0 where
   pub calls : List WalkCall

@@ -3,8 +3,8 @@ use Rattle.std.specs.Prelude.{ℕ, List, ◌⊎◌}
 use Rattle.std.specs.declared.io.ErrorKind.{ErrorKind}
 use Rattle.std.specs.declared.io.ErrorKind.TheVariants.{PermissionDenied}
 use Rattle.std.specs.declared.io.ErrorKind.TheVariants.{ReadOnlyFilesystem, AlreadyExists}
-use Rattle.ud_replace.specs.declared.folder.CreateError.{CreateError}
-use Rattle.ud_replace.specs.declared.folder.CreateError.TheVariants.{Denied, Taken, Failed}
+use Rattle.ud_replace.specs.declared.directory.CreateError.{CreateError}
+use Rattle.ud_replace.specs.declared.directory.CreateError.TheVariants.{Denied, Taken, Failed}
 use Rattle.ud_tree.specs.declared.disk.facts.Facts.{Facts}
 use Rattle.ud_tree.specs.Evidence.{LeadsTo}
 

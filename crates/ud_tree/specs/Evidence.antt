@@ -7,7 +7,7 @@ use Rattle.std.specs.Fs.{IsDir, IsFile, IsSymlink}
 use Rattle.std.specs.declared.fs.attrs.FileType.{FileType}
 use Rattle.ud_replace.specs.declared.node.FileId.{FileId}
 use Rattle.ud_replace.specs.declared.node.NodeKind.{NodeKind}
-use Rattle.ud_replace.specs.declared.node.NodeKind.TheVariants.{File, Folder, Link, Other}
+use Rattle.ud_replace.specs.declared.node.NodeKind.TheVariants.{File, Directory, Link, Other}
 use Rattle.ud_tree.specs.declared.disk.facts.Facts.{Facts}
 
 -- `is_same a b`: both are the same file, by its device and its number there.
@@ -26,6 +26,6 @@ pub record LeadsTo {F : Type 0} (looked : List ℕ → Facts → Type 0) (shows 
 -- `KindOf t kind`: what has the system's type `t` is a `kind`.
 abbrev pub KindOf : FileType → NodeKind → Type 0
 KindOf t File = IsFile t
-KindOf t Folder = IsDir t
+KindOf t Directory = IsDir t
 KindOf t Link = IsSymlink t
 KindOf t Other = ¬ IsFile t × ¬ IsDir t × ¬ IsSymlink t

@@ -19,7 +19,7 @@ use Rattle.ud_replace.specs.declared.error.Update.{Update}
 use Rattle.ud_replace.specs.declared.error.ReplaceError.{ReplaceError}
 use Rattle.ud_replace.specs.declared.error.ReplaceError.TheVariants.{Text, Read, OutOfMemory}
 use Rattle.ud_replace.specs.declared.error.ReplaceError.TheVariants.{ReadOnly, SeveralLinks}
-use Rattle.ud_replace.specs.declared.error.ReplaceError.TheVariants.{FolderDenied, HalfWritten}
+use Rattle.ud_replace.specs.declared.error.ReplaceError.TheVariants.{DirectoryDenied, HalfWritten}
 use Rattle.ud_replace.specs.declared.error.ReplaceError.TheVariants.{ChangedMeanwhile, Locked}
 use Rattle.ud_replace.specs.declared.error.ReplaceError.TheVariants.{Write, NotRenamed}
 use Rattle.ud_tree.specs.Reports.{ReportState, Tells}
@@ -59,8 +59,8 @@ IsMessageOf name OutOfMemory message = message ≡ fault_line name (codes "Out o
 IsMessageOf name ReadOnly message = IsFailureOf name (codes "Cannot be written") message
 IsMessageOf name SeveralLinks message =
     message ≡ fault_line name (codes "Has several links; -w writes into it")
-IsMessageOf name FolderDenied message =
-    message ≡ fault_line name (codes "Its folder can't be written; -w writes into the file")
+IsMessageOf name DirectoryDenied message =
+    message ≡ fault_line name (codes "Its directory can't be written; -w writes into the file")
 IsMessageOf name ChangedMeanwhile message = message ≡ fault_line name (codes "Changed meanwhile")
 IsMessageOf name Locked message = message ≡ locked_line name
 IsMessageOf name Write message = IsFailureOf name (codes "Cannot be written") message

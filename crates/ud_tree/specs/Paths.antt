@@ -1,9 +1,9 @@
 -- Paths: the parts of a path, and the name of the new file beside another one.
 --
---   folder_len path       the index after the last slash of a path
+--   directory_len path       the index after the last slash of a path
 --   last_name path        the bytes after its last slash
 --   fresh_end path        the end of the name of a new file
---   fresh_name path       the name of a new file in the same folder
+--   fresh_name path       the name of a new file in the same directory
 --   escaped name          a name in ASCII, with each other byte shown
 --
 -- Example: beside `src/a.c` a run makes the file `src/.unifdef-tree.a.c`.
@@ -16,23 +16,23 @@ use Rattle.ud_tree.specs.Visible.{hex_digit}
 abbrev pub slash : ℕ
 slash = 47
 
--- `folder_len path`: the number of bytes up to and including the last slash; 0 if there is none.
-abbrev pub folder_len : List ℕ → ℕ
-folder_len [] = 0
-folder_len (b ∷ rest) = if b == slash || nat_lt 0 (folder_len rest) then suc (folder_len rest)
-    else 0
+-- `directory_len path`: the number of bytes up to and including the last slash; 0 if there is none.
+abbrev pub directory_len : List ℕ → ℕ
+directory_len [] = 0
+directory_len (b ∷ rest) = if b == slash || nat_lt 0 (directory_len rest)
+    then suc (directory_len rest) else 0
 
 -- `last_name path`: the bytes after the last slash.
 abbrev pub last_name : List ℕ → List ℕ
-last_name path = drop (folder_len path) path
+last_name path = drop (directory_len path) path
 
 -- `fresh_end path`: the last name of `path`, or `long` if it is too long for the end of a new name.
 abbrev pub fresh_end : List ℕ → List ℕ
 fresh_end path = if nat_lt 240 (length (last_name path)) then codes "long" else last_name path
 
--- `fresh_name path`: in the folder of `path`, a name that ends in `fresh_end path`.
+-- `fresh_name path`: in the directory of `path`, a name that ends in `fresh_end path`.
 abbrev pub fresh_name : List ℕ → List ℕ
-fresh_name path = take (folder_len path) path ++ codes ".unifdef-tree." ++
+fresh_name path = take (directory_len path) path ++ codes ".unifdef-tree." ++
     fresh_end path
 
 -- `escaped_byte b`: the byte `b` if it is printable ASCII and no backslash, else `\x` and its two

@@ -3,14 +3,14 @@
 --   is_refused w                 a look found nothing, or a call failed
 --   IsRefusal w message          the message of a call that failed
 --   IsRemark calls message       the message about something else that can't be taken
---   WasListed calls path         a path leads to a name in a listed folder
+--   WasListed calls path         a path leads to a name in a listed directory
 --   AreTold calls messages       each call that failed has its message
 --   WalkTells old new messages   only calls of a walk were made, and these are their messages
 --   joined messages              all messages, one after another
 --   ReportsWalk calls calls' old new   the messages of a part of a walk were written and counted
 --   GoesOn calls calls' w w' old new   a part of a walk: files and messages
---   ReportsNames folder names calls calls' old new   a folder was listed first
---   VisitTells path calls calls' old new   a name of a folder was visited
+--   ReportsNames directory names calls calls' old new   a directory was listed first
+--   VisitTells path calls calls' old new   a name of a directory was visited
 --   TellsGiven path node old new   a node of the input was added or left out
 --   input_message                the message if the input couldn't be read
 --   Stops from_input left messages told   why no file follows a walk, and its message
@@ -49,17 +49,17 @@ is_refused (met path Absent) = true
 is_refused (met path Unknown) = true
 is_refused (met path (Present node)) = false
 is_refused (followed path answer) = false
-is_refused (listed folder names answer) = not answer
+is_refused (listed directory names answer) = not answer
 
 -- `IsRefusal w message`: `w` found nothing or failed, and `message` is a line with its path and the
 -- failure. Or its path has a newline, and the line says what `-0` wants.
 pub data IsRefusal (w : WalkCall) (message : List ℕ) : Type 0 where
   is_missing : (path : List ℕ) → w ≡ met path Absent →
-      message ≡ fault_line path (codes "No such file or folder") → IsRefusal w message
+      message ≡ fault_line path (codes "No such file or directory") → IsRefusal w message
   is_unknown : (path : List ℕ) → w ≡ met path Unknown →
       IsFailureOf path (codes "Cannot be found") message → IsRefusal w message
-  is_unread : (folder : List ℕ) (names : List (List ℕ)) → w ≡ listed folder names false →
-      IsFailureOf folder (codes "Cannot be read") message → IsRefusal w message
+  is_unread : (directory : List ℕ) (names : List (List ℕ)) → w ≡ listed directory names false →
+      IsFailureOf directory (codes "Cannot be read") message → IsRefusal w message
   is_lines : (path : List ℕ) (answer : Lookup) → w ≡ met path answer → is_refused w ≡ true →
       list_any (λ byte. nat_eq byte 10) path ≡ true → message ≡ line_of (codes
       "Nothing is at a path of several lines; -0 wants a NUL after each path (git ls-files -z)") →
@@ -70,8 +70,9 @@ abbrev pub input_message : List ℕ
 input_message = fault_line (codes "stdin") (codes "Cannot be read")
 
 -- `IsRemark calls message`: `message` is a line with a path that can't be taken, and why, though no
--- call failed. `calls` met a link there that doesn't lead to a folder, or something else that isn't
--- a regular file. Or the line says that a name isn't UTF-8, or that the input couldn't be read.
+-- call failed. `calls` met a link there that doesn't lead to a directory, or something else that
+-- isn't a regular file. Or the line says that a name isn't UTF-8, or that the input couldn't be
+-- read.
 pub data IsRemark (calls : List WalkCall) (message : List ℕ) : Type 0 where
   is_link : (path : List ℕ) (node : Node) → Contains calls (met path (Present node)) →
       node.kind ≡ Link → Contains calls (followed path false) →
@@ -83,19 +84,19 @@ pub data IsRemark (calls : List WalkCall) (message : List ℕ) : Type 0 where
       IsRemark calls message
   no_input : message ≡ input_message → IsRemark calls message
 
--- `WasListed calls path`: one of `calls` listed a folder, and `path` leads to one of the names.
+-- `WasListed calls path`: one of `calls` listed a directory, and `path` leads to one of the names.
 pub record WasListed (calls : List WalkCall) (path : List ℕ) : Type 0 where
-  pub folder : List ℕ
+  pub directory : List ℕ
   pub name : List ℕ
   pub names : List (List ℕ)
   pub answer : Bool
-  pub listing : Contains calls (listed folder names answer)
+  pub listing : Contains calls (listed directory names answer)
   pub has : Contains names name
-  pub path_is : path ≡ folder ++ name
+  pub path_is : path ≡ directory ++ name
 
 -- `AreTold calls messages`: `messages` are the messages of a walk with these calls, the newest
 -- first. Each call that failed, or found nothing, has its message, in the order of the calls. A
--- name that vanished after its folder was listed needs none. Remarks may come in between.
+-- name that vanished after its directory was listed needs none. Remarks may come in between.
 pub data AreTold : List WalkCall → List (List ℕ) → Type 0 where
   none_told : AreTold [] []
   then_answered : {calls : List WalkCall} {messages : List (List ℕ)} (w : WalkCall) →
@@ -133,13 +134,13 @@ pub record GoesOn (calls calls' : List Call) (w w' : Walk) (old new : ReportStat
   pub finds : Finds calls calls' w.found.items w'.found.items
   pub told : ReportsWalk calls calls' old new
 
--- `ReportsNames folder names calls calls' old new`: the same, and one of these calls listed `names`
--- in `folder`.
-pub record ReportsNames (folder : List ℕ) (names : List (List ℕ)) (calls calls' : List Call)
+-- `ReportsNames directory names calls calls' old new`: the same, and one of these calls listed
+-- `names` in `directory`.
+pub record ReportsNames (directory : List ℕ) (names : List (List ℕ)) (calls calls' : List Call)
     (old new : ReportState) : Type 0 where
   pub answer : Bool
   pub reports : ReportsWalk calls calls' old new
-  pub listing : Contains reports.walk.calls (listed folder names answer)
+  pub listing : Contains reports.walk.calls (listed directory names answer)
 
 -- `VisitTells path calls calls' old new`: `path` was looked at, nothing has it, and nothing was
 -- written. Or that isn't so: then only calls of a walk were made, and their messages were written
@@ -152,7 +153,7 @@ pub data VisitTells (path : List ℕ) (calls calls' : List Call) (old new : Repo
       VisitTells path calls calls' old new
 
 -- `TellsGiven path node old new`: nothing was written. Or `node` has `path` and is of another kind
--- than a file, a folder and a link, and the message that it is no regular file was written and
+-- than a file, a directory and a link, and the message that it is no regular file was written and
 -- counted.
 pub data TellsGiven (path : List ℕ) (node : Node) (old new : ReportState) : Type 0 where
   is_quiet : new ≡ old → TellsGiven path node old new

@@ -1,4 +1,4 @@
--- Walks: the calls of a walk over folders, and the files that it finds.
+-- Walks: the calls of a walk over directories, and the files that it finds.
 --
 --   WasMet calls f               a file was met as a regular file
 --   Finds old new before found   a part of a walk, with the files found before and after

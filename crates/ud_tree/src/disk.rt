@@ -1,8 +1,9 @@
 //! The real tree: files of the system.
 //!
-//! Each method of `Folder` and `Tree` makes the call that it records, on a name in the folder that
-//! was met there (`Folders`). Paths are UTF-8: the library opens no others, so no other name can be
-//! read. `System` has the calls of the system, and the files beside it say what they are used for.
+//! Each method of `Directory` and `Tree` makes the call that it records, on a name in the directory
+//! that was met there (`Directories`). Paths are UTF-8: the library opens no others, so no other
+//! name can be read. `System` has the calls of the system, and the files beside it say what they
+//! are used for.
 
 ghost use Rattle.std.specs.Prelude.{◌≡◌, ◌↔◌, ◌∷◌, ◌⊎◌, [], IfOk, IfSome, MatchResult, OnOk};
 ghost use Rattle.std.specs.Prelude.{None, Some, false, true};
@@ -18,8 +19,8 @@ ghost use Rattle.ud_tree.specs.Opening.{IsFound, IsRead, IsReadAgain, OpensToWri
 mod calls;
 mod changing;
 mod creating;
+mod directories;
 mod facts;
-mod folders;
 mod naming;
 mod opening;
 mod reading;
@@ -27,16 +28,16 @@ mod system;
 
 use crate::disk::changing::{overwrite, set_mode_and_owner};
 use crate::disk::creating::{create_error, create_file};
-use crate::disk::folders::Folders;
-use crate::disk::naming::{leads_to_folder, list_folder, node_at, remove_file, rename_file};
+use crate::disk::directories::Directories;
+use crate::disk::naming::{leads_to_directory, list_directory, node_at, remove_file, rename_file};
 use crate::disk::opening::{look_at, open_to_write, read_again, read_file};
 use crate::tree::Tree;
+pub(crate) use directories::is_other_file;
 pub use facts::Facts;
-pub(crate) use folders::is_other_file;
 use std::alloc::Global;
 use std::io::{self, ErrorKind, Write};
 pub use system::{System, SystemFile};
-use ud_replace::{CreateError, FileStat, Folder, FolderCall, FolderWalk, History, Lookup};
+use ud_replace::{CreateError, Directory, DirectoryCall, DirectoryWalk, FileStat, History, Lookup};
 
 /// A file that is open for reading and writing.
 #[derive(Drop)]
@@ -57,7 +58,7 @@ pub struct Disk<'s, S: System> {
     opened: Option<Opened<S>>,
     /// The error of the last failed call.
     reason: Option<io::Error>,
-    folders: Folders<S>,
+    directories: Directories<S>,
     history: History,
 }
 
@@ -72,16 +73,16 @@ impl<'s, S: System> Disk<'s, S> {
             fresh: None,
             opened: None,
             reason: None,
-            folders: Folders::new(alloc),
+            directories: Directories::new(alloc),
             history: History::new(),
         }
     }
 
-    /// Returns whether folders were found only by their paths, for lack of `/proc`.
+    /// Returns whether directories were found only by their paths, for lack of `/proc`.
     pub fn lacks_proc(&self) -> bool
-        ensures { result ≡ true ↔ self.now.folders.has_proc ≡ Some false }
+        ensures { result ≡ true ↔ self.now.directories.has_proc ≡ Some false }
     {
-        self.folders.lacks_proc()
+        self.directories.lacks_proc()
     }
 
     /// Keeps the error of a call. Returns its value, if any.
@@ -99,23 +100,23 @@ impl<'s, S: System> Disk<'s, S> {
     }
 
     /// Records a call of a walk.
-    fn note(&mut self, walk: FolderWalk<'_>)
+    fn note(&mut self, walk: DirectoryWalk<'_>)
         ensures { self.new.history.calls ≡
             walked (walk_call_of walk.entry) ∷ self.old.history.calls }
     {
-        self.history = self.history.with(&FolderCall::Walk(walk));
+        self.history = self.history.with(&DirectoryCall::Walk(walk));
     }
 
     /// Reads a file: the one that `may_write` opened under that name, else the one that is there.
     fn read_at(&mut self, name: &[u8], text: &mut Vec<u8>) -> io::Result<FileStat>
         requires empty { text.old.items ≡ [] }
-        ensures read { IfOk result (λ stat. At name.now self.new.folders.entered (λ place.
+        ensures read { IfOk result (λ stat. At name.now self.new.directories.entered (λ place.
             IsRead S.File.opened S.File.shows S.File.remaining place text.new.items stat ⊎
             IsReadAgain S.looked S.File.shows S.File.is_start_of S.File.remaining place
             text.new.items stat)) }
         ensures calls { self.new.history.calls ≡ self.old.history.calls }
     {
-        let place = self.folders.place(self.system, name)?;
+        let place = self.directories.place(self.system, name)?;
         match &mut self.opened {
             Some(opened) if opened.name.as_slice() == name => {
                 let stat = read_again(self.system, place.as_str(), &mut opened.file, text)?;
@@ -132,11 +133,11 @@ impl<'s, S: System> Disk<'s, S> {
     /// Opens a file to write into it.
     fn opened_at(&mut self, name: &[u8]) -> io::Result<Opened<S>>
         ensures name { IfOk result (λ opened. opened.name.items ≡ name.now) }
-        ensures open { IfOk result (λ opened. At name.now self.new.folders.entered (λ place.
+        ensures open { IfOk result (λ opened. At name.now self.new.directories.entered (λ place.
             OpensToWrite S.looked S.File.shows S.File.updates place opened.file)) }
         ensures calls { self.new.history.calls ≡ self.old.history.calls }
     {
-        let place = self.folders.place(self.system, name)?;
+        let place = self.directories.place(self.system, name)?;
         let file = open_to_write(self.system, place.as_str())?;
         let mut owned = Vec::new(self.alloc);
         owned.extend_from_slice(name)?;
@@ -145,22 +146,22 @@ impl<'s, S: System> Disk<'s, S> {
 
     /// Creates a file.
     fn created_at(&mut self, name: &[u8]) -> io::Result<S::File>
-        ensures new { IfOk result (λ file. At name.now self.new.folders.entered (λ place.
+        ensures new { IfOk result (λ file. At name.now self.new.directories.entered (λ place.
             IsNew S.File.created S.File.is_locked S.File.is_lockless place file)) }
         ensures calls { self.new.history.calls ≡ self.old.history.calls }
     {
-        let place = self.folders.place(self.system, name)?;
+        let place = self.directories.place(self.system, name)?;
         let file = create_file(self.system, place.as_str())?;
         Ok(file)
     }
 
     /// Returns the facts about a file.
     fn found_at(&mut self, name: &[u8]) -> io::Result<FileStat>
-        ensures found { IfOk result (λ stat. At name.now self.new.folders.entered (λ place.
+        ensures found { IfOk result (λ stat. At name.now self.new.directories.entered (λ place.
             IsFound S.looked place stat)) }
         ensures calls { self.new.history.calls ≡ self.old.history.calls }
     {
-        let place = self.folders.place(self.system, name)?;
+        let place = self.directories.place(self.system, name)?;
         let stat = look_at(self.system, place.as_str())?;
         Ok(stat)
     }
@@ -196,14 +197,16 @@ fn write_some<W: Write>(file: &mut Option<W>, bytes: &[u8]) -> io::Result<usize>
     }
 }
 
-impl<S: System> Folder for Disk<'_, S> {
+impl<S: System> Directory for Disk<'_, S> {
     ghost history = { λ d. d.history.calls };
 
     fn read(&mut self, name: &[u8], text: &mut Vec<u8>) -> Option<FileStat> {
         let read = self.read_at(name, text);
         let answer = self.kept(read);
         let text = text.as_slice();
-        self.history = self.history.with(&FolderCall::Read { name, text, answer });
+        self.history = self
+            .history
+            .with(&DirectoryCall::Read { name, text, answer });
         answer
     }
 
@@ -211,7 +214,7 @@ impl<S: System> Folder for Disk<'_, S> {
         let opened = self.opened_at(name);
         self.opened = self.kept(opened);
         let answer = self.opened.is_some();
-        self.history = self.history.with(&FolderCall::MayWrite { name, answer });
+        self.history = self.history.with(&DirectoryCall::MayWrite { name, answer });
         answer
     }
 
@@ -226,14 +229,14 @@ impl<S: System> Folder for Disk<'_, S> {
                 Err(create_error(&error))
             }
         };
-        self.history = self.history.with(&FolderCall::Create { name, answer });
+        self.history = self.history.with(&DirectoryCall::Create { name, answer });
         answer
     }
 
     fn append(&mut self, name: &[u8], bytes: &[u8]) -> Option<usize> {
         let written = write_some(&mut self.fresh, bytes);
         let answer = self.kept(written);
-        self.history = self.history.with(&FolderCall::Append {
+        self.history = self.history.with(&DirectoryCall::Append {
             name,
             bytes,
             answer,
@@ -250,7 +253,7 @@ impl<S: System> Folder for Disk<'_, S> {
         let like = *like;
         self.history = self
             .history
-            .with(&FolderCall::SetModeAndOwner { name, like, answer });
+            .with(&DirectoryCall::SetModeAndOwner { name, like, answer });
         answer
     }
 
@@ -260,25 +263,27 @@ impl<S: System> Folder for Disk<'_, S> {
             Some(file) => file.sync(),
         };
         let answer = self.kept(synced).is_some();
-        self.history = self.history.with(&FolderCall::Sync { name, answer });
+        self.history = self.history.with(&DirectoryCall::Sync { name, answer });
         answer
     }
 
     fn look(&mut self, name: &[u8]) -> Option<FileStat> {
         let found = self.found_at(name);
         let answer = self.kept(found);
-        self.history = self.history.with(&FolderCall::Look { name, answer });
+        self.history = self.history.with(&DirectoryCall::Look { name, answer });
         answer
     }
 
     fn rename(&mut self, from: &[u8], to: &[u8]) -> bool {
-        let renamed = rename_file(self.system, &mut self.folders, &self.fresh, from, to);
+        let renamed = rename_file(self.system, &mut self.directories, &self.fresh, from, to);
         let answer = self.kept(renamed).is_some();
         if answer {
             self.fresh = None;
             self.opened = None;
         }
-        self.history = self.history.with(&FolderCall::Rename { from, to, answer });
+        self.history = self
+            .history
+            .with(&DirectoryCall::Rename { from, to, answer });
         answer
     }
 
@@ -287,22 +292,22 @@ impl<S: System> Folder for Disk<'_, S> {
         let answer = self.kept(written).is_some();
         self.history = self
             .history
-            .with(&FolderCall::Overwrite { name, text, answer });
+            .with(&DirectoryCall::Overwrite { name, text, answer });
         answer
     }
 
     fn remove(&mut self, name: &[u8]) -> bool {
-        let removed = remove_file(self.system, &mut self.folders, &self.fresh, name);
+        let removed = remove_file(self.system, &mut self.directories, &self.fresh, name);
         let answer = removed.is_ok();
         self.fresh = None;
-        self.history = self.history.with(&FolderCall::Remove { name, answer });
+        self.history = self.history.with(&DirectoryCall::Remove { name, answer });
         answer
     }
 }
 
 impl<S: System> Tree for Disk<'_, S> {
     fn node(&mut self, path: &str) -> Lookup {
-        let answer = match node_at(self.system, &mut self.folders, path) {
+        let answer = match node_at(self.system, &mut self.directories, path) {
             Ok(node) => Lookup::Present(node),
             Err(error) if error.kind() == ErrorKind::NotFound => Lookup::Absent,
             Err(error) => {
@@ -311,25 +316,31 @@ impl<S: System> Tree for Disk<'_, S> {
             }
         };
         let path = path.as_bytes();
-        self.note(FolderWalk::Met { path, answer });
+        self.note(DirectoryWalk::Met { path, answer });
         answer
     }
 
-    fn leads_to_folder(&mut self, path: &str) -> bool {
-        let leads = leads_to_folder(self.system, &mut self.folders, path);
+    fn leads_to_directory(&mut self, path: &str) -> bool {
+        let leads = leads_to_directory(self.system, &mut self.directories, path);
         let answer = leads.unwrap_or(false);
         let path = path.as_bytes();
-        self.note(FolderWalk::Followed { path, answer });
+        self.note(DirectoryWalk::Followed { path, answer });
         answer
     }
 
-    fn list(&mut self, folder: &str, names: &mut Vec<Vec<u8>>) -> bool {
-        let listed = list_folder(self.system, &mut self.folders, self.alloc, folder, names);
+    fn list(&mut self, directory: &str, names: &mut Vec<Vec<u8>>) -> bool {
+        let listed = list_directory(
+            self.system,
+            &mut self.directories,
+            self.alloc,
+            directory,
+            names,
+        );
         let answer = self.kept(listed).is_some();
-        let folder = folder.as_bytes();
+        let directory = directory.as_bytes();
         let names = names.as_slice();
-        self.note(FolderWalk::Listed {
-            folder,
+        self.note(DirectoryWalk::Listed {
+            directory,
             names,
             answer,
         });

@@ -56,9 +56,9 @@ impl<E: Write> Report<E> {
             ReplaceError::SeveralLinks => {
                 self.fault(path, b"Has several links; -w writes into it");
             }
-            ReplaceError::FolderDenied => self.fault(
+            ReplaceError::DirectoryDenied => self.fault(
                 path,
-                b"Its folder can't be written; -w writes into the file",
+                b"Its directory can't be written; -w writes into the file",
             ),
             ReplaceError::ChangedMeanwhile => self.fault(path, b"Changed meanwhile"),
             ReplaceError::Locked => self.locked(path),

@@ -31,7 +31,7 @@ const OPTIONS: [&[u8]; 25] = [
     b"  -t            plain text: parse no comments and quotes",
     b"  -Usym         take a symbol as undefined",
     b"  -V, --version print the version",
-    b"  -w            write into files with several links, or in folders that can't be written",
+    b"  -w            write into files with several links, or in directories that can't be written",
     b"  -xmode        status of success: 0 or 1 by whether files changed, or 0 under -x2",
     b"  --            end of the options",
 ];

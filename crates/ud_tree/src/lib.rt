@@ -1,6 +1,6 @@
 //! unifdef-tree(1): unifdef over the files of a tree, in place.
 //!
-//! `parse_arguments` parses a command line. `find_files` walks over the folders, and `run_tree`
+//! `parse_arguments` parses a command line. `find_files` walks over the directories, and `run_tree`
 //! replaces each file with `ud_replace`, shows what would change, or lists names. Both work on a
 //! `Tree`; `Disk` is the real one.
 #![tactic(auto)]

@@ -2,8 +2,8 @@
 
 ghost use Rattle.std.specs.Prelude.{◌≡◌, ◌≤◌, ◌++◌, length, take, IfOk, OnOk, string_bytes};
 ghost use Rattle.ud_tree.specs.Choices.{IsBelow, is_fresh};
-ghost use Rattle.ud_tree.specs.Covering.{IsFolderPath};
-ghost use Rattle.ud_tree.specs.Paths.{escaped, escaped_byte, folder_len, fresh_end, fresh_name};
+ghost use Rattle.ud_tree.specs.Covering.{IsDirectoryPath};
+ghost use Rattle.ud_tree.specs.Paths.{escaped, escaped_byte, directory_len, fresh_end, fresh_name};
 ghost use Rattle.ud_tree.specs.Paths.{last_name};
 
 use crate::send::hex_digit;
@@ -16,9 +16,9 @@ pub(crate) const FRESH: &[u8] = b".unifdef-tree.";
 const LONGEST_END: usize = 240;
 
 /// Returns the number of bytes of a path up to and including its last slash; 0 if there is none.
-#[tactic(auto, using(crate::proofs::PathLemmas::folder_len_slash, crate::proofs::PathLemmas::folder_len_other))]
-fn folder_len(path: &[u8]) -> usize
-    ensures value { result ≡ folder_len path.now }
+#[tactic(auto, using(crate::proofs::PathLemmas::directory_len_slash, crate::proofs::PathLemmas::directory_len_other))]
+fn directory_len(path: &[u8]) -> usize
+    ensures value { result ≡ directory_len path.now }
     ensures within { result ≤ length path.now }
 {
     let mut len = 0;
@@ -34,7 +34,7 @@ fn folder_len(path: &[u8]) -> usize
 pub(crate) fn last_name(path: &[u8]) -> &[u8]
     ensures { result.now ≡ last_name path.now }
 {
-    &path[folder_len(path)..]
+    &path[directory_len(path)..]
 }
 
 /// Returns whether a name is one that `fresh_name` gives.
@@ -44,8 +44,8 @@ pub(crate) fn is_fresh(name: &[u8]) -> bool
     name.starts_with(FRESH)
 }
 
-/// Returns the end of the name of a new file in the same folder: the last name of a path, or `long`
-/// if that is too long for a name after `FRESH`.
+/// Returns the end of the name of a new file in the same directory: the last name of a path, or
+/// `long` if that is too long for a name after `FRESH`.
 pub(crate) fn fresh_end(path: &[u8]) -> &[u8]
     ensures { result.now ≡ fresh_end path.now }
 {
@@ -57,11 +57,11 @@ pub(crate) fn fresh_end(path: &[u8]) -> &[u8]
     }
 }
 
-/// Returns a path's folder, with its slash; nothing if it has none.
-pub(crate) fn folder(path: &[u8]) -> &[u8]
-    ensures { result.now ≡ take (folder_len path.now) path.now }
+/// Returns a path's directory, with its slash; nothing if it has none.
+pub(crate) fn directory(path: &[u8]) -> &[u8]
+    ensures { result.now ≡ take (directory_len path.now) path.now }
 {
-    &path[..folder_len(path)]
+    &path[..directory_len(path)]
 }
 
 /// Returns what follows the first `len` bytes of a path if these end in a slash, else the path.
@@ -77,22 +77,22 @@ pub(crate) fn below(path: &[u8], len: usize) -> &[u8]
     &path[len..]
 }
 
-/// Returns the path of a folder with a slash at its end.
+/// Returns the path of a directory with a slash at its end.
 ///
 /// # Errors
 /// Fails if memory runs out.
-pub(crate) fn folder_path(alloc: Global, path: &str) -> Result<String, AllocError>
-    ensures { IfOk result (λ folder. IsFolderPath path.now (string_bytes folder)) }
+pub(crate) fn directory_path(alloc: Global, path: &str) -> Result<String, AllocError>
+    ensures { IfOk result (λ directory. IsDirectoryPath path.now (string_bytes directory)) }
 {
-    let mut folder = String::from_str(alloc, path)?;
+    let mut directory = String::from_str(alloc, path)?;
     if path.ends_with('/') {
-        return Ok(folder);
+        return Ok(directory);
     }
-    folder.push('/')?;
-    Ok(folder)
+    directory.push('/')?;
+    Ok(directory)
 }
 
-/// Returns the name of a new file in the same folder. It is always the same, so two runs can't
+/// Returns the name of a new file in the same directory. It is always the same, so two runs can't
 /// replace a file at once.
 ///
 /// # Errors
@@ -101,7 +101,7 @@ pub(crate) fn fresh_name(alloc: Global, path: &[u8]) -> Result<Vec<u8>, AllocErr
     ensures { IfOk result (λ v. v.items ≡ fresh_name path.now) }
 {
     let mut fresh = Vec::new(alloc);
-    fresh.extend_from_slice(folder(path))?;
+    fresh.extend_from_slice(directory(path))?;
     fresh.extend_from_slice(FRESH)?;
     fresh.extend_from_slice(fresh_end(path))?;
     Ok(fresh)

@@ -8,7 +8,7 @@
 
 ghost use Rattle.std.specs.Prelude.{◌≡◌, ◌↔◌, true, false, map, string_bytes};
 ghost use Rattle.std.specs.List.{list_any};
-ghost use Rattle.ud_tree.specs.Choices.{Chooses, Decides, Fits, LeavesFolder, as_rule, is_only};
+ghost use Rattle.ud_tree.specs.Choices.{Chooses, Decides, Fits, LeavesDirectory, as_rule, is_only};
 ghost use Rattle.ud_tree.specs.Choices.{IsVersioned, rule_of, subject};
 
 mod matching;
@@ -100,8 +100,8 @@ fn rule_of(text: &[u8]) -> Rule<'_>
     }
 }
 
-/// Returns what a pattern is matched with, of a file or a folder: its path below the path that the
-/// command line names if the pattern has a slash, else its name.
+/// Returns what a pattern is matched with, of a file or a directory: its path below the path that
+/// the command line names if the pattern has a slash, else its name.
 fn subject<'a>(pattern: &[u8], below: &'a [u8]) -> &'a [u8]
     ensures { result.now ≡ subject pattern.now below.now }
 {
@@ -112,14 +112,14 @@ fn subject<'a>(pattern: &[u8], below: &'a [u8]) -> &'a [u8]
     }
 }
 
-/// Returns whether a file or a folder matches a rule.
+/// Returns whether a file or a directory matches a rule.
 fn fits(rule: Rule<'_>, below: &[u8]) -> bool
     ensures { (result ≡ true) ↔ Fits (as_rule rule.entry) below.now }
 {
     matches(rule.pattern, subject(rule.pattern, below))
 }
 
-/// Returns whether a rule leaves out a file or a folder.
+/// Returns whether a rule leaves out a file or a directory.
 fn leaves(rule: Rule<'_>, below: &[u8]) -> bool
     ensures { (result ≡ true) ↔
         (((as_rule rule.entry).effect ≡ Effect.Leave) × Fits (as_rule rule.entry) below.now) }
@@ -183,11 +183,11 @@ fn is_usual(patterns: &[String], name: &[u8]) -> bool
     USUAL.iter().any(|pattern| matches(pattern, name))
 }
 
-/// Returns whether a rule leaves out a folder, by its path below the path that the command line
+/// Returns whether a rule leaves out a directory, by its path below the path that the command line
 /// names, with all below. Rules that choose files don't count.
-pub(crate) fn leaves_folder(patterns: &[String], below: &[u8]) -> bool
-    ensures some { result ≡ true → LeavesFolder (map string_bytes patterns.now) below.now }
-    ensures none { result ≡ false → ¬ LeavesFolder (map string_bytes patterns.now) below.now }
+pub(crate) fn leaves_directory(patterns: &[String], below: &[u8]) -> bool
+    ensures some { result ≡ true → LeavesDirectory (map string_bytes patterns.now) below.now }
+    ensures none { result ≡ false → ¬ LeavesDirectory (map string_bytes patterns.now) below.now }
 {
     for text in patterns {
         let rule = rule_of(text.as_bytes());
@@ -198,7 +198,7 @@ pub(crate) fn leaves_folder(patterns: &[String], below: &[u8]) -> bool
     false
 }
 
-/// Returns whether to leave out a folder of this name: one of version control or quilt, with
+/// Returns whether to leave out a directory of this name: one of version control or quilt, with
 /// earlier texts of files.
 pub(crate) fn is_versioned(name: &[u8]) -> bool
     ensures { (result ≡ true) ↔ IsVersioned name.now }

@@ -23,7 +23,7 @@ mod unnamed;
 
 use crate::arguments::{ArgumentFault, Arguments};
 use crate::job::Job;
-use crate::paths::{FRESH, escaped, folder, fresh_end};
+use crate::paths::{FRESH, directory, escaped, fresh_end};
 use crate::send::{send_visible, send_visible_parts};
 use itoa::Buffer;
 use std::alloc::{AllocError, Global};
@@ -318,18 +318,18 @@ impl<E: Write> Report<E> {
         self.fault_of(&[path, b": ", text]);
     }
 
-    /// Writes a fault of a name in a folder, whose path ends in a slash.
-    pub(crate) fn fault_in(&mut self, folder: &[u8], name: &[u8], text: &[u8])
-        ensures { ReportsOne (fault_line (folder.now ++ name.now) text.now) self.old self.new }
+    /// Writes a fault of a name in a directory, whose path ends in a slash.
+    pub(crate) fn fault_in(&mut self, directory: &[u8], name: &[u8], text: &[u8])
+        ensures { ReportsOne (fault_line (directory.now ++ name.now) text.now) self.old self.new }
     {
-        self.fault_of(&[folder, name, b": ", text]);
+        self.fault_of(&[directory, name, b": ", text]);
     }
 
     /// Writes the fault of a file with another run's file beside it.
     pub(crate) fn locked(&mut self, path: &[u8])
         ensures { ReportsOne (locked_line path.now) self.old self.new }
     {
-        self.fault_of(&[path, b": ", LOCKED, folder(path), FRESH, fresh_end(path)]);
+        self.fault_of(&[path, b": ", LOCKED, directory(path), FRESH, fresh_end(path)]);
     }
 
     /// Writes a fault of a path, and why a call failed.
@@ -356,7 +356,7 @@ impl<E: Write> Report<E> {
             self.fault_of(&[SEVERAL_LINES]);
             return;
         }
-        self.fault(path, b"No such file or folder");
+        self.fault(path, b"No such file or directory");
     }
 
     /// Writes why it isn't known what is at a path.
@@ -393,8 +393,8 @@ impl<E: Write> Report<E> {
     }
 }
 
-/// Writes that an argument isn't UTF-8. Files with such names are found in their folders, each with
-/// a fault of its own.
+/// Writes that an argument isn't UTF-8. Files with such names are found in their directories, each
+/// with a fault of its own.
 pub fn report_bad_argument<E: Write>(alloc: Global, err: &mut Watched<E>, argument: &[u8])
     ensures { RefusesArgument argument.now (stream_of E.contents err.old)
         (stream_of E.contents err.new) }
@@ -405,7 +405,7 @@ pub fn report_bad_argument<E: Write>(alloc: Global, err: &mut Watched<E>, argume
             report_line(
                 alloc,
                 err,
-                &[shown, b": Argument isn't UTF-8; name its folder"],
+                &[shown, b": Argument isn't UTF-8; name its directory"],
             );
         }
         Err(_) => report_line(alloc, err, &[b"Out of memory"]),

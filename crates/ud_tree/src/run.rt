@@ -37,7 +37,7 @@ use unifdef::{EXIT_TROUBLE, status_by};
 /// - Memory runs out before the first file, or the input can't be read. No file was changed.
 /// - A path doesn't exist, or is a link to a file, a pipe or a device. No file was changed.
 /// - The paths name no file. If paths come from the input, that isn't a fault.
-/// - A folder can't be read, or a file can't be replaced. The other files are.
+/// - A directory can't be read, or a file can't be replaced. The other files are.
 /// - The output can't be written.
 /// - A message can't be written. That has no message of its own.
 pub fn run_tree<T: Tree, R: Read, W: Write, E: Write>(

@@ -4,12 +4,12 @@ ghost use Rattle.std.specs.Prelude.{◌≡◌, [], ◌∷◌, map};
 ghost use Rattle.ud_replace.specs.Calls.{walked, met, followed, listed};
 
 use std::io;
-use ud_replace::{Folder, Lookup};
+use ud_replace::{Directory, Lookup};
 
-/// A tree of files and folders, each with a path.
+/// A tree of files and directories, each with a path.
 ///
-/// Each call appends itself with its answer to the history of `Folder`.
-pub trait Tree: Folder {
+/// Each call appends itself with its answer to the history of `Directory`.
+pub trait Tree: Directory {
     /// Returns what is at a path, without following a link at its end.
     ///
     /// # Errors
@@ -17,17 +17,17 @@ pub trait Tree: Folder {
     fn node(&mut self, path: &str) -> Lookup
         ensures { Self.history self.new ≡ walked (met path.now result) ∷ Self.history self.old };
 
-    /// Returns whether a path leads to a folder, perhaps by a link.
-    fn leads_to_folder(&mut self, path: &str) -> bool
+    /// Returns whether a path leads to a directory, perhaps by a link.
+    fn leads_to_directory(&mut self, path: &str) -> bool
         ensures { Self.history self.new ≡
             walked (followed path.now result) ∷ Self.history self.old };
 
-    /// Appends the names in a folder to `names`, without the folder itself and its parent. Returns
-    /// whether all names were appended.
-    fn list(&mut self, folder: &str, names: &mut Vec<Vec<u8>>) -> bool
+    /// Appends the names in a directory to `names`, without the directory itself and its parent.
+    /// Returns whether all names were appended.
+    fn list(&mut self, directory: &str, names: &mut Vec<Vec<u8>>) -> bool
         requires empty { names.old.items ≡ [] }
         ensures noted { Self.history self.new ≡
-            walked (listed folder.now (map (λ n. n.items) names.new.items) result)
+            walked (listed directory.now (map (λ n. n.items) names.new.items) result)
             ∷ Self.history self.old };
 
     /// Returns why the last failed call failed.

@@ -1,6 +1,6 @@
 //! The walk over a tree: the files below some paths, each once, in the order of the paths' bytes.
 //!
-//! A name that vanishes from its folder during the walk is no fault, since nothing is lost. A
+//! A name that vanishes from its directory during the walk is no fault, since nothing is lost. A
 //! missing path of the command line is one.
 
 ghost use Rattle.std.specs.Prelude.{◌≡◌, ◌⊎◌, ◌<◌, ◌++◌, ◌∷◌, [], IfOk, OnOk, Bool, map};
@@ -10,14 +10,14 @@ ghost use Rattle.std.specs.List.{All, AllPairs, Contains};
 ghost use Rattle.ud_tree.specs.Catching.{Catches, Grows, IsTaken};
 ghost use Rattle.ud_tree.specs.Choices.{IsSkipped};
 ghost use Rattle.ud_tree.specs.Covering.{IsIn};
-ghost use Rattle.ud_tree.specs.CoverParts.{AddsFolder, Enters, Exhausts, Starts, TakesOne};
+ghost use Rattle.ud_tree.specs.CoverParts.{AddsDirectory, Enters, Exhausts, Starts, TakesOne};
 ghost use Rattle.ud_tree.specs.CoverParts.{VisitsOne, Waits, waiting};
 ghost use Rattle.ud_tree.specs.WalkMessages.{GoesOn, ReportsNames, TellsGiven, VisitTells};
 ghost use Rattle.ud_tree.specs.Walks.{Adds, AddsNode, ArePicked, Finds, IsBefore, IsFileList};
 ghost use Rattle.ud_tree.specs.Walks.{IsKept};
 
-use crate::paths::{below, escaped, folder_path};
-use crate::patterns::{chooses, is_versioned, leaves_folder};
+use crate::paths::{below, directory_path, escaped};
+use crate::patterns::{chooses, is_versioned, leaves_directory};
 use crate::report::Report;
 use crate::tree::Tree;
 use std::alloc::{AllocError, Global};
@@ -46,17 +46,17 @@ pub(crate) struct FileAt<'a> {
     pub id: FileId,
 }
 
-/// A walk: the files found, and the folders not listed yet.
+/// A walk: the files found, and the directories not listed yet.
 #[derive(Drop)]
 pub(crate) struct Walk<'w> {
     alloc: Global,
     patterns: &'w [String],
     found: Vec<Found>,
-    /// The paths of folders, each ending in a slash.
-    folders: Vec<String>,
-    /// The number of the folders of the command line among them, which come first.
+    /// The paths of directories, each ending in a slash.
+    directories: Vec<String>,
+    /// The number of the directories of the command line among them, which come first.
     starts: usize,
-    /// The length of the path of such a folder, below which the walk is.
+    /// The length of the path of such a directory, below which the walk is.
     root: usize,
 }
 
@@ -64,21 +64,21 @@ impl<'w> Walk<'w> {
     /// Returns a walk before its first path.
     pub(crate) fn new(alloc: Global, patterns: &'w [String]) -> Walk<'w>
         ensures found { result.found.items ≡ [] }
-        ensures folders { result.folders.items ≡ [] }
+        ensures directories { result.directories.items ≡ [] }
         ensures patterns { result.patterns.now ≡ patterns.now }
     {
         Walk {
             alloc,
             patterns,
             found: Vec::new(alloc),
-            folders: Vec::new(alloc),
+            directories: Vec::new(alloc),
             starts: 0,
             root: 0,
         }
     }
 
     /// Begins at a path of the command line. A file is taken whatever its name. A link may name a
-    /// folder.
+    /// directory.
     ///
     /// # Errors
     /// Fails if memory runs out.
@@ -108,8 +108,8 @@ impl<'w> Walk<'w> {
             }
         };
         match node.kind {
-            NodeKind::Folder => self.add_folder(path),
-            NodeKind::Link if tree.leads_to_folder(path) => self.add_folder(path),
+            NodeKind::Directory => self.add_directory(path),
+            NodeKind::Link if tree.leads_to_directory(path) => self.add_directory(path),
             NodeKind::Link => {
                 report.fault(path.as_bytes(), b"Is a symbolic link");
                 Ok(())
@@ -122,7 +122,7 @@ impl<'w> Walk<'w> {
         }
     }
 
-    /// Adds a file of the input, whatever its name. Folders and links are left out.
+    /// Adds a file of the input, whatever its name. Directories and links are left out.
     ///
     /// # Errors
     /// Fails if memory runs out.
@@ -170,7 +170,7 @@ impl<'w> Walk<'w> {
     {
         match node.kind {
             NodeKind::File => self.push_file(name, node.id),
-            NodeKind::Folder | NodeKind::Link => Ok(()),
+            NodeKind::Directory | NodeKind::Link => Ok(()),
             NodeKind::Other => {
                 report.fault(name.as_bytes(), b"Is no regular file");
                 Ok(())
@@ -178,21 +178,21 @@ impl<'w> Walk<'w> {
         }
     }
 
-    /// Adds a folder.
-    fn add_folder(&mut self, path: &str) -> Result<(), AllocError>
+    /// Adds a directory.
+    fn add_directory(&mut self, path: &str) -> Result<(), AllocError>
         ensures found { self.new.found.items ≡ self.old.found.items }
         ensures waits { OnOk result (Waits path.now (waiting self.old) (waiting self.new)) }
         ensures grows { OnOk result (Grows self.old self.new) }
     {
-        let folder = folder_path(self.alloc, path)?;
-        self.folders.push(folder)?;
+        let directory = directory_path(self.alloc, path)?;
+        self.directories.push(directory)?;
         Ok(())
     }
 
     /// Adds a file, if its name is chosen.
     fn add_file(&mut self, path: &str, id: FileId) -> Result<(), AllocError>
         ensures adds { Adds self.old.found.items path.now id self.new.found.items }
-        ensures folders { self.new.folders.items ≡ self.old.folders.items }
+        ensures directories { self.new.directories.items ≡ self.old.directories.items }
         ensures grows { OnOk result (Grows self.old self.new) }
         ensures taken { OnOk result (IsTaken self.new path.now id) }
     {
@@ -206,7 +206,7 @@ impl<'w> Walk<'w> {
     /// Adds a file.
     fn push_file(&mut self, path: &str, id: FileId) -> Result<(), AllocError>
         ensures adds { Adds self.old.found.items path.now id self.new.found.items }
-        ensures folders { self.new.folders.items ≡ self.old.folders.items }
+        ensures directories { self.new.directories.items ≡ self.old.directories.items }
         ensures is_in { OnOk result (IsIn self.new.found.items path.now id) }
         ensures grows { OnOk result (Grows self.old self.new) }
     {
@@ -215,26 +215,26 @@ impl<'w> Walk<'w> {
         Ok(())
     }
 
-    /// Adds what a name in a folder leads to. A name that vanished since the folder was listed is
-    /// left out.
+    /// Adds what a name in a directory leads to. A name that vanished since the directory was
+    /// listed is left out.
     fn visit<T: Tree, E: Write>(
         &mut self,
         tree: &mut T,
         report: &mut Report<E>,
-        folder: &str,
+        directory: &str,
         name: &[u8],
     ) -> Result<(), AllocError>
         ensures finds { Finds (T.history tree.old) (T.history tree.new) self.old.found.items
             self.new.found.items }
-        ensures told { VisitTells (folder.now ++ name.now) (T.history tree.old) (T.history tree.new)
-            report.old report.new }
+        ensures told { VisitTells (directory.now ++ name.now) (T.history tree.old)
+            (T.history tree.new) report.old report.new }
         ensures visits { OnOk result (VisitsOne (map string_bytes self.old.patterns.now)
-            folder.now name.now (T.history tree.old) (T.history tree.new)
+            directory.now name.now (T.history tree.old) (T.history tree.new)
             (waiting self.old) (waiting self.new) report.old report.new) }
         ensures catches { OnOk result
             (Catches (T.history tree.old) (T.history tree.new) self.old self.new) }
     {
-        let mut path = String::from_str(self.alloc, folder)?;
+        let mut path = String::from_str(self.alloc, directory)?;
         let Ok(text) = std::str::from_utf8(name) else {
             let name = escaped(self.alloc, name)?;
             report.fault_in(path.as_bytes(), name.as_slice(), NOT_UTF8);
@@ -252,7 +252,7 @@ impl<'w> Walk<'w> {
         }
     }
 
-    /// Returns whether to leave out a folder, with all below.
+    /// Returns whether to leave out a directory, with all below.
     fn skips(&self, path: &str, name: &[u8]) -> bool
         ensures { result ≡ true →
             IsSkipped (map string_bytes self.now.patterns.now) path.now name.now }
@@ -260,13 +260,13 @@ impl<'w> Walk<'w> {
         if is_versioned(name) {
             return true;
         }
-        leaves_folder(self.patterns, below(path.as_bytes(), self.root))
+        leaves_directory(self.patterns, below(path.as_bytes(), self.root))
     }
 
-    /// Adds a file or a folder. Others are left out.
+    /// Adds a file or a directory. Others are left out.
     fn add_node(&mut self, path: &str, name: &[u8], node: Node) -> Result<(), AllocError>
         ensures adds { AddsNode self.old.found.items path.now node self.new.found.items }
-        ensures waits { OnOk result (AddsFolder (map string_bytes self.old.patterns.now)
+        ensures waits { OnOk result (AddsDirectory (map string_bytes self.old.patterns.now)
             path.now name.now node (waiting self.old)
             (waiting self.new)) }
         ensures grows { OnOk result (Grows self.old self.new) }
@@ -275,74 +275,75 @@ impl<'w> Walk<'w> {
     {
         match node.kind {
             NodeKind::File => self.add_file(path, node.id),
-            NodeKind::Folder if !self.skips(path, name) => self.add_folder(path),
-            NodeKind::Folder | NodeKind::Link | NodeKind::Other => Ok(()),
+            NodeKind::Directory if !self.skips(path, name) => self.add_directory(path),
+            NodeKind::Directory | NodeKind::Link | NodeKind::Other => Ok(()),
         }
     }
 
-    /// Lists a folder, and adds its contents.
+    /// Lists a directory, and adds its contents.
     fn enter<T: Tree, E: Write>(
         &mut self,
         tree: &mut T,
         report: &mut Report<E>,
-        folder: &str,
+        directory: &str,
     ) -> Result<(), AllocError>
         ensures goes_on { GoesOn (T.history tree.old) (T.history tree.new) self.old self.new
             report.old report.new }
         ensures enters { OnOk result (Enters (map string_bytes self.old.patterns.now)
-            folder.now (T.history tree.old) (T.history tree.new)
+            directory.now (T.history tree.old) (T.history tree.new)
             (waiting self.old) (waiting self.new) report.old report.new) }
         ensures catches { OnOk result
             (Catches (T.history tree.old) (T.history tree.new) self.old self.new) }
     {
-        let names = self.list_folder(tree, report, folder);
+        let names = self.list_directory(tree, report, directory);
         for name in names.as_slice() {
-            self.visit(tree, report, folder, name.as_slice())?;
+            self.visit(tree, report, directory, name.as_slice())?;
         }
         Ok(())
     }
 
-    /// Returns the names in a folder. After a fault, which was reported, some may be missing.
-    fn list_folder<T: Tree, E: Write>(
+    /// Returns the names in a directory. After a fault, which was reported, some may be missing.
+    fn list_directory<T: Tree, E: Write>(
         &self,
         tree: &mut T,
         report: &mut Report<E>,
-        folder: &str,
+        directory: &str,
     ) -> Vec<Vec<u8>>
-        ensures told { ReportsNames folder.now (map (λ n. n.items) result.items)
+        ensures told { ReportsNames directory.now (map (λ n. n.items) result.items)
             (T.history tree.old) (T.history tree.new) report.old report.new }
         ensures counted { 0 < report.old.faulty → 0 < report.new.faulty }
         ensures lists { (answer : Bool) × (T.history tree.new ≡
-            walked (listed folder.now (map (λ n. n.items) result.items) answer)
+            walked (listed directory.now (map (λ n. n.items) result.items) answer)
             ∷ T.history tree.old) }
     {
         let mut names = Vec::new(self.alloc);
-        let listed = tree.list(folder, &mut names);
+        let listed = tree.list(directory, &mut names);
         if listed {
             return names;
         }
-        report.failure(folder.as_bytes(), b"Cannot be read", tree.reason());
+        report.failure(directory.as_bytes(), b"Cannot be read", tree.reason());
         names
     }
 
-    /// Takes the last folder that waits. If the command line names it, the walk goes on below it:
-    /// the folders below it come after it.
-    fn next_folder(&mut self) -> Option<String>
-        ensures items { self.old.folders.items ≡ self.new.folders.items ++ option_to_list result }
+    /// Takes the last directory that waits. If the command line names it, the walk goes on below
+    /// it: the directories below it come after it.
+    fn next_directory(&mut self) -> Option<String>
+        ensures items { self.old.directories.items ≡
+            self.new.directories.items ++ option_to_list result }
         ensures none { IfNone result
-            ((self.old.folders.items ≡ []) × (self.new.folders.items ≡ [])) }
+            ((self.old.directories.items ≡ []) × (self.new.directories.items ≡ [])) }
         ensures patterns { self.new.patterns.now ≡ self.old.patterns.now }
         ensures found { self.new.found.items ≡ self.old.found.items }
     {
-        let folder = self.folders.pop()?;
-        if self.folders.len() < self.starts {
-            self.starts = self.folders.len();
-            self.root = folder.len();
+        let directory = self.directories.pop()?;
+        if self.directories.len() < self.starts {
+            self.starts = self.directories.len();
+            self.root = directory.len();
         }
-        Some(folder)
+        Some(directory)
     }
 
-    /// Lists all folders, and the folders in them.
+    /// Lists all directories, and the directories in them.
     ///
     /// # Errors
     /// Fails if memory runs out.
@@ -359,12 +360,12 @@ impl<'w> Walk<'w> {
         ensures catches { OnOk result
             (Catches (T.history tree.old) (T.history tree.new) self.old self.new) }
     {
-        self.starts = self.folders.len();
-        'folders: for _entered in 0..u64::MAX {
-            let Some(folder) = self.next_folder() else {
+        self.starts = self.directories.len();
+        'directories: for _entered in 0..u64::MAX {
+            let Some(directory) = self.next_directory() else {
                 break;
             };
-            self.enter(tree, report, folder.as_str())?;
+            self.enter(tree, report, directory.as_str())?;
         }
         Ok(())
     }

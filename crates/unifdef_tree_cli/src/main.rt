@@ -38,8 +38,8 @@ const ARGUMENT_BYTES: usize = 4096;
 /// The path of standard output.
 const STDOUT: &str = "/proc/self/fd/1";
 
-/// The last line of a run that couldn't keep folders open.
-const WITHOUT_PROC: &[u8] = b"Without /proc, folders were found by their paths";
+/// The last line of a run that couldn't keep directories open.
+const WITHOUT_PROC: &[u8] = b"Without /proc, directories were found by their paths";
 
 fn main(rt: HostRuntime) -> ExitCode {
     let Ok(args) = args(&rt) else {
@@ -75,9 +75,9 @@ fn main(rt: HostRuntime) -> ExitCode {
     }
 }
 
-/// Opens a folder for reading in the place of the first standard stream that is closed. Else a file
-/// of the tree would get its number, and messages would be written into that file. Such a stream
-/// can't be read or written, as one that is closed. `None` if all are open.
+/// Opens a directory for reading in the place of the first standard stream that is closed. Else a
+/// file of the tree would get its number, and messages would be written into that file. Such a
+/// stream can't be read or written, as one that is closed. `None` if all are open.
 fn taken(rt: &HostRuntime) -> Option<File> {
     match fs::open(rt, "/") {
         Ok(open) if open.as_fd().as_raw_fd() <= STDERR => Some(open),

@@ -150,8 +150,8 @@ impl<R: Files<File = File>> System for R {
         Ok(Handle { file })
     }
 
-    fn numbered(&self, alloc: Global, folder: &Handle) -> Result<String, AllocError> {
-        format!(in alloc; "/proc/self/fd/{}/", folder.file.as_fd().as_raw_fd())
+    fn numbered(&self, alloc: Global, directory: &Handle) -> Result<String, AllocError> {
+        format!(in alloc; "/proc/self/fd/{}/", directory.file.as_fd().as_raw_fd())
     }
 
     fn names(&self, path: &str) -> io::Result<R::Dir> {
@@ -215,7 +215,7 @@ fn kind_of(found: &Metadata) -> NodeKind
     if found.is_file() {
         NodeKind::File
     } else if found.is_dir() {
-        NodeKind::Folder
+        NodeKind::Directory
     } else if found.is_symlink() {
         NodeKind::Link
     } else {

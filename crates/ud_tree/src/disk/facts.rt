@@ -28,15 +28,15 @@ impl Facts {
     {
         match self.node.kind {
             NodeKind::File => Ok(self.stat),
-            NodeKind::Folder | NodeKind::Link | NodeKind::Other => {
+            NodeKind::Directory | NodeKind::Link | NodeKind::Other => {
                 Err(io::Error::from(ErrorKind::Unsupported))
             }
         }
     }
 }
 
-/// Returns whether both are the same file or folder, by its device and number. An overlay file
-/// system copies a folder when a file is created in it, which changes its time.
+/// Returns whether both are the same file or directory, by its device and number. An overlay file
+/// system copies a directory when a file is created in it, which changes its time.
 pub(crate) fn is_same(one: FileId, other: FileId) -> bool
     ensures { result ≡ is_same one other }
 {

@@ -1,10 +1,10 @@
-//! Names: what is at a path, the names in a folder, and other names for a file.
+//! Names: what is at a path, the names in a directory, and other names for a file.
 
 ghost use Rattle.std.specs.Prelude.{◌≡◌, [], IfOk, OnOk, map};
-ghost use Rattle.ud_tree.specs.Naming.{At, IsListed, IsRenamed, LeadsToFolder, Sees};
-ghost use Rattle.ud_tree.specs.Naming.{is_folder, is_proper, proper_names};
+ghost use Rattle.ud_tree.specs.Naming.{At, IsListed, IsRenamed, LeadsToDirectory, Sees};
+ghost use Rattle.ud_tree.specs.Naming.{is_directory, is_proper, proper_names};
 
-use crate::disk::folders::{Folders, other_file};
+use crate::disk::directories::{Directories, other_file};
 use crate::disk::opening::check_path;
 use crate::disk::system::{System, SystemFile};
 use crate::find_files::split_paths;
@@ -12,24 +12,24 @@ use std::alloc::{AllocError, Global};
 use std::io::{self, ErrorKind, Read};
 use ud_replace::{Node, NodeKind};
 
-/// The bytes of names that are reserved before a folder is listed.
+/// The bytes of names that are reserved before a directory is listed.
 const NAMES_BYTES: usize = 32 << 10;
 
 /// Gives the open file another name.
 pub(crate) fn rename_file<S: System>(
     system: &S,
-    folders: &mut Folders<S>,
+    directories: &mut Directories<S>,
     opened: &Option<S::File>,
     from: &[u8],
     to: &[u8],
 ) -> io::Result<()>
-    ensures { OnOk result (IsRenamed S.renamed from.now to.now folders.new.entered) }
+    ensures { OnOk result (IsRenamed S.renamed from.now to.now directories.new.entered) }
 {
     let Some(file) = opened else {
         return Err(io::Error::from(ErrorKind::NotFound));
     };
-    let to = folders.place(system, to)?;
-    let from = folders.place(system, from)?;
+    let to = directories.place(system, to)?;
+    let from = directories.place(system, from)?;
     check_path(system, file, from.as_str())?;
     system.rename(file, from.as_str(), to.as_str())?;
     Ok(())
@@ -38,76 +38,77 @@ pub(crate) fn rename_file<S: System>(
 /// Removes the open file.
 pub(crate) fn remove_file<S: System>(
     system: &S,
-    folders: &mut Folders<S>,
+    directories: &mut Directories<S>,
     opened: &Option<S::File>,
     name: &[u8],
 ) -> io::Result<()>
-    ensures { OnOk result (At name.now folders.new.entered S.removed) }
+    ensures { OnOk result (At name.now directories.new.entered S.removed) }
 {
     let Some(file) = opened else {
         return Err(io::Error::from(ErrorKind::NotFound));
     };
-    let path = folders.place(system, name)?;
+    let path = directories.place(system, name)?;
     check_path(system, file, path.as_str())?;
     system.remove(file, path.as_str())?;
     Ok(())
 }
 
-/// Returns what is at a path, without following a link. If it is a folder, records it as met.
+/// Returns what is at a path, without following a link. If it is a directory, records it as met.
 pub(crate) fn node_at<S: System>(
     system: &S,
-    folders: &mut Folders<S>,
+    directories: &mut Directories<S>,
     path: &str,
 ) -> io::Result<Node>
-    ensures { IfOk result (λ node. At path.now folders.new.entered (Sees S.looked node)) }
+    ensures { IfOk result (λ node. At path.now directories.new.entered (Sees S.looked node)) }
 {
-    let place = folders.place(system, path.as_bytes())?;
+    let place = directories.place(system, path.as_bytes())?;
     let node = system.look(place.as_str())?.node;
-    if !is_folder(node.kind) {
+    if !is_directory(node.kind) {
         return Ok(node);
     }
-    folders.meet(path, node.id)?;
+    directories.meet(path, node.id)?;
     Ok(node)
 }
 
-/// Returns whether a path leads to a folder. If so, records it as met.
-pub(crate) fn leads_to_folder<S: System>(
+/// Returns whether a path leads to a directory. If so, records it as met.
+pub(crate) fn leads_to_directory<S: System>(
     system: &S,
-    folders: &mut Folders<S>,
+    directories: &mut Directories<S>,
     path: &str,
 ) -> io::Result<bool>
     ensures { IfOk result (λ answer.
-        At path.now folders.new.entered (LeadsToFolder S.followed answer)) }
+        At path.now directories.new.entered (LeadsToDirectory S.followed answer)) }
 {
-    let place = folders.place(system, path.as_bytes())?;
+    let place = directories.place(system, path.as_bytes())?;
     let node = system.follow(place.as_str())?.node;
-    if !is_folder(node.kind) {
+    if !is_directory(node.kind) {
         return Ok(false);
     }
-    folders.meet(path, node.id)?;
+    directories.meet(path, node.id)?;
     Ok(true)
 }
 
-/// Appends the names in a folder, whose path ends in a slash.
-pub(crate) fn list_folder<S: System>(
+/// Appends the names in a directory, whose path ends in a slash.
+pub(crate) fn list_directory<S: System>(
     system: &S,
-    folders: &mut Folders<S>,
+    directories: &mut Directories<S>,
     alloc: Global,
-    folder: &str,
+    directory: &str,
     names: &mut Vec<Vec<u8>>,
 ) -> io::Result<()>
     requires empty { names.old.items ≡ [] }
-    ensures { OnOk result (IsListed S.lists S.Names.remaining folder.now folders.new.entered
+    ensures { OnOk result (IsListed S.lists S.Names.remaining directory.now directories.new.entered
         (map (λ n. n.items) names.new.items)) }
 {
-    let place = folders.within(system, folder)?;
+    let place = directories.within(system, directory)?;
     let mut packed = Vec::with_capacity(alloc, NAMES_BYTES)?;
     let _count = system.names(place.as_str())?.read_to_end(&mut packed)?;
     *names = proper_names(alloc, packed.as_slice())?;
     Ok(())
 }
 
-/// Returns names that are each ended by a NUL, without those of the folder itself and its parent.
+/// Returns names that are each ended by a NUL, without those of the directory itself and its
+/// parent.
 fn proper_names(alloc: Global, packed: &[u8]) -> Result<Vec<Vec<u8>>, AllocError>
     ensures { IfOk result (λ names. map (λ n. n.items) names.items ≡ proper_names packed.now) }
 {
@@ -120,17 +121,17 @@ fn proper_names(alloc: Global, packed: &[u8]) -> Result<Vec<Vec<u8>>, AllocError
     Ok(names)
 }
 
-/// Returns whether it is a folder.
-fn is_folder(kind: NodeKind) -> bool
-    ensures { result ≡ is_folder kind }
+/// Returns whether it is a directory.
+fn is_directory(kind: NodeKind) -> bool
+    ensures { result ≡ is_directory kind }
 {
     match kind {
-        NodeKind::Folder => true,
+        NodeKind::Directory => true,
         NodeKind::File | NodeKind::Link | NodeKind::Other => false,
     }
 }
 
-/// Returns whether a name is neither that of the folder itself nor that of its parent.
+/// Returns whether a name is neither that of the directory itself nor that of its parent.
 fn is_proper(name: &[u8]) -> bool
     ensures { result ≡ is_proper name.now }
 {

@@ -5,8 +5,8 @@ ghost use Rattle.ud_tree.specs.Evidence.{LeadsTo, is_same};
 ghost use Rattle.ud_replace.specs.declared.node.NodeKind.{NodeKind};
 ghost use Rattle.ud_tree.specs.Opening.{IsFound, IsRead, IsReadAgain, OpensToWrite, Shows};
 
+use crate::disk::directories::other_file;
 use crate::disk::facts::{Facts, is_same};
-use crate::disk::folders::other_file;
 use crate::disk::reading::read_text;
 use crate::disk::system::{System, SystemFile};
 use std::io::{self, ErrorKind};

@@ -26,7 +26,7 @@ pub trait SystemFile: Read + Write {
     ghost updates: { Self → List ℕ → Facts → Type 0 };
     /// It was created at this path.
     ghost created: { Self → List ℕ → Type 0 };
-    /// It is a folder that was opened at this path.
+    /// It is a directory that was opened at this path.
     ghost entered: { Self → List ℕ → Type 0 };
     /// These were the facts about it.
     ghost shows: { Self → Facts → Type 0 };
@@ -82,19 +82,19 @@ pub trait SystemFile: Read + Write {
 
 /// The system. No call but `follow` follows a link at the end of a path.
 pub trait System {
-    /// An open file, or an open folder.
+    /// An open file, or an open directory.
     type File: SystemFile + Drop;
 
-    /// The names in a folder, to read: each is ended by a NUL.
+    /// The names in a directory, to read: each is ended by a NUL.
     type Names: Read + Drop;
 
     /// A look at this path found these facts.
     ghost looked: { List ℕ → Facts → Type 0 };
     /// A look at what this path leads to found these facts.
     ghost followed: { List ℕ → Facts → Type 0 };
-    /// This path leads into this open folder by its number, if `/proc` is there.
+    /// This path leads into this open directory by its number, if `/proc` is there.
     ghost numbers: { Self.File → List ℕ → Type 0 };
-    /// These are the names in the folder at this path.
+    /// These are the names in the directory at this path.
     ghost lists: { Self.Names → List ℕ → Type 0 };
     /// The file at the first path was given the second one.
     ghost renamed: { List ℕ → List ℕ → Type 0 };
@@ -129,15 +129,15 @@ pub trait System {
     fn create(&self, path: &str) -> io::Result<Self::File>
         ensures { IfOk result (λ file. Self.File.created file path.now) };
 
-    /// Opens a folder.
+    /// Opens a directory.
     fn enter(&self, path: &str) -> io::Result<Self::File>
         ensures { IfOk result (λ file. Self.File.entered file path.now) };
 
-    /// Returns the path that leads into an open folder by its number, with a slash at its end.
-    fn numbered(&self, alloc: Global, folder: &Self::File) -> Result<String, AllocError>
-        ensures { IfOk result (λ path. numbers folder.now (string_bytes path)) };
+    /// Returns the path that leads into an open directory by its number, with a slash at its end.
+    fn numbered(&self, alloc: Global, directory: &Self::File) -> Result<String, AllocError>
+        ensures { IfOk result (λ path. numbers directory.now (string_bytes path)) };
 
-    /// Returns the names in a folder.
+    /// Returns the names in a directory.
     fn names(&self, path: &str) -> io::Result<Self::Names>
         ensures { IfOk result (λ names. lists names path.now) };
 

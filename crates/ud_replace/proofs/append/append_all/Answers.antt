@@ -4,11 +4,11 @@ use Rattle.ud_replace.proofs.TakesLemmas.{takes_none, takes_more, takes_all, emp
 use Rattle.ud_replace.proofs.append.append_all.Goals as goal
 
 pub loop-rest-init : goal.loop-rest-init
-loop-rest-init g c = takes_none c.args.name.now (g.F.Folder.history c.args.folder.now) c.args.bytes.now
+loop-rest-init g c = takes_none c.args.name.now (g.F.Directory.history c.args.directory.now) c.args.bytes.now
 
 pub loop-rest-preserved : goal.loop-rest-preserved
 loop-rest-preserved g c =
-    takes_more c.args.name.now (g.F.Folder.history c.args.folder.now) (g.F.Folder.history c.loop-rest.folder) (g.F.Folder.history c.append.new.self) c.args.bytes.now c.loop-rest.rest.now
+    takes_more c.args.name.now (g.F.Directory.history c.args.directory.now) (g.F.Directory.history c.loop-rest.directory) (g.F.Directory.history c.append.new.self) c.args.bytes.now c.loop-rest.rest.now
     c.in-Some.count c.loop-rest.invariant c.in-Some.ensures.count c.in-Some.ensures.noted
 
 pub returns-in-None : goal.returns-in-None
@@ -21,4 +21,4 @@ returns-in-Some-eq0 g c = let t = c.loop-rest.invariant in
 
 pub returns : goal.returns
 returns g c = let none = empty_of c.loop-rest.rest.now c.loop-rest-test.ensures in
-    all (takes_all c.args.name.now (g.F.Folder.history c.args.folder.now) (g.F.Folder.history c.loop-rest.folder) c.args.bytes.now c.loop-rest.rest.now c.loop-rest.invariant none)
+    all (takes_all c.args.name.now (g.F.Directory.history c.args.directory.now) (g.F.Directory.history c.loop-rest.directory) c.args.bytes.now c.loop-rest.rest.now c.loop-rest.invariant none)

@@ -14,15 +14,15 @@ pub returns-then-not-has_facts_of : goal.returns-then-not-has_facts_of
 returns-then-not-has_facts_of g c =
     let text = still_text _ _ c.as_slice.ensures.value c.if-ne.ensures in
     other_facts c.in-Some.seen (sym c.if-not-has_facts_of.ensures)
-    (c.in-Some.ensures.noted ∙ ap (λ (t : List ℕ). was_read c.args.name.now t (Some c.in-Some.seen) ∷ g.F.Folder.history c.args.folder.now) text)
+    (c.in-Some.ensures.noted ∙ ap (λ (t : List ℕ). was_read c.args.name.now t (Some c.in-Some.seen) ∷ g.F.Directory.history c.args.directory.now) text)
 
 pub returns-then-not-is_unchanged : goal.returns-then-not-is_unchanged
 returns-then-not-is_unchanged g c =
     let text = still_text _ _ c.as_slice.ensures.value c.if-ne.ensures in
     other_version c.in-Some.seen (sym c.if-not-has_facts_of.ensures)
-    (looks_from (c.in-Some.ensures.noted ∙ ap (λ (t : List ℕ). was_read c.args.name.now t (Some c.in-Some.seen) ∷ g.F.Folder.history c.args.folder.now) text) c.if-not-is_unchanged.ensures)
+    (looks_from (c.in-Some.ensures.noted ∙ ap (λ (t : List ℕ). was_read c.args.name.now t (Some c.in-Some.seen) ∷ g.F.Directory.history c.args.directory.now) text) c.if-not-is_unchanged.ensures)
 
 pub returns : goal.returns
 returns g c = let text = still_text _ _ c.as_slice.ensures.value c.if-ne.ensures in
     confirmed c.in-Some.seen (sym c.if-not-has_facts_of.ensures)
-    (looks_from (c.in-Some.ensures.noted ∙ ap (λ (t : List ℕ). was_read c.args.name.now t (Some c.in-Some.seen) ∷ g.F.Folder.history c.args.folder.now) text) c.if-not-is_unchanged.ensures)
+    (looks_from (c.in-Some.ensures.noted ∙ ap (λ (t : List ℕ). was_read c.args.name.now t (Some c.in-Some.seen) ∷ g.F.Directory.history c.args.directory.now) text) c.if-not-is_unchanged.ensures)

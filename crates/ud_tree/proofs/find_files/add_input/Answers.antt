@@ -6,21 +6,21 @@ use Rattle.ud_tree.proofs.WalkTellLemmas.{goes_none, goes_then, walk_remark, sto
 use Rattle.ud_tree.proofs.find_files.add_input.Goals as goal
 
 pub returns-in_err-all-clause-goes_on : goal.returns-in_err-all-clause-goes_on
-returns-in_err-all-clause-goes_on g c = goes_none (g.T.Folder.history c.args.tree.now) c.args.walk.now c.args.report.now
+returns-in_err-all-clause-goes_on g c = goes_none (g.T.Directory.history c.args.tree.now) c.args.walk.now c.args.report.now
 
 pub returns-then-not-all-clause-goes_on : goal.returns-then-not-all-clause-goes_on
 returns-then-not-all-clause-goes_on g c = record {
-  finds = finds_none (g.T.Folder.history c.args.tree.now) c.args.walk.now.found.items;
-  told = walk_remark _ (g.T.Folder.history c.args.tree.now) (no_input refl) c.fault.ensures;
+  finds = finds_none (g.T.Directory.history c.args.tree.now) c.args.walk.now.found.items;
+  told = walk_remark _ (g.T.Directory.history c.args.tree.now) (no_input refl) c.fault.ensures;
 }
 
 pub returns-then-not-all-clause-stops : goal.returns-then-not-all-clause-stops
-returns-then-not-all-clause-stops g c = λ cut. stops_unread (g.T.Folder.history c.args.tree.now) (c.in_ok-all.ensures.cut c.if-not-all.true) c.fault.ensures
+returns-then-not-all-clause-stops g c = λ cut. stops_unread (g.T.Directory.history c.args.tree.now) (c.in_ok-all.ensures.cut c.if-not-all.true) c.fault.ensures
 
 pub loop-name-init : goal.loop-name-init
 loop-name-init g c = (
-  goes_none (g.T.Folder.history c.args.tree.now) c.args.walk.now c.args.report.now,
-  takes_none (g.T.Folder.history c.args.tree.now) c.args.walk.now.found.items (0 < c.args.report.now.faulty),
+  goes_none (g.T.Directory.history c.args.tree.now) c.args.walk.now c.args.report.now,
+  takes_none (g.T.Directory.history c.args.tree.now) c.args.walk.now.found.items (0 < c.args.report.now.faulty),
 )
 
 pub loop-name-preserved : goal.loop-name-preserved
@@ -35,4 +35,4 @@ pub returns-in_err-add-clause-goes_on : goal.returns-in_err-add-clause-goes_on
 returns-in_err-add-clause-goes_on g c = goes_then c.loop-name.invariant.0 c.add.ensures.goes_on refl
 
 pub returns-in_err-paths-clause-goes_on : goal.returns-in_err-paths-clause-goes_on
-returns-in_err-paths-clause-goes_on g c = goes_none (g.T.Folder.history c.args.tree.now) c.args.walk.now c.args.report.now
+returns-in_err-paths-clause-goes_on g c = goes_none (g.T.Directory.history c.args.tree.now) c.args.walk.now c.args.report.now

@@ -14,9 +14,9 @@ returns-then-job-clause-walks g c = if_ok_both c.add_input.result
 
 pub loop-path-init : goal.loop-path-init
 loop-path-init g c = (
-  goes_none (g.T.Folder.history c.args.tree.now) c.args.walk.now c.args.report.now,
-  starts_none (g.T.Folder.history c.args.tree.now) (map (λ d. string_bytes d) c.args.walk.now.folders.items) c.args.walk.now.found.items c.args.report.now,
-  catches_none (g.T.Folder.history c.args.tree.now) c.args.walk.now c.args.walk.now (grows_same _ _ refl refl),
+  goes_none (g.T.Directory.history c.args.tree.now) c.args.walk.now c.args.report.now,
+  starts_none (g.T.Directory.history c.args.tree.now) (map (λ d. string_bytes d) c.args.walk.now.directories.items) c.args.walk.now.found.items c.args.report.now,
+  catches_none (g.T.Directory.history c.args.tree.now) c.args.walk.now c.args.walk.now (grows_same _ _ refl refl),
 )
 
 pub loop-path-preserved : goal.loop-path-preserved

@@ -7,8 +7,8 @@ use Rattle.ud_tree.proofs.find_files.walk_all.Given as goal
 
 abbrev pub invariant-loop-path : goal.invariant-loop-path
 invariant-loop-path g l =
-    GoesOn (g.T.Folder.history l.fn.tree) (g.T.Folder.history l.tree) l.fn.walk l.walk l.fn.report l.report
-    × StartsSome (map string_bytes l.fn.walk.patterns.now) (map (λ p. string_bytes p) (take l.path-index l.path-items)) (g.T.Folder.history l.fn.tree)
-    (g.T.Folder.history l.tree) (map (λ d. string_bytes d) l.fn.walk.folders.items)
-    (map (λ d. string_bytes d) l.walk.folders.items) l.walk.found.items l.fn.report l.report
-    × Catches (g.T.Folder.history l.fn.tree) (g.T.Folder.history l.tree) l.fn.walk l.walk
+    GoesOn (g.T.Directory.history l.fn.tree) (g.T.Directory.history l.tree) l.fn.walk l.walk l.fn.report l.report
+    × StartsSome (map string_bytes l.fn.walk.patterns.now) (map (λ p. string_bytes p) (take l.path-index l.path-items)) (g.T.Directory.history l.fn.tree)
+    (g.T.Directory.history l.tree) (map (λ d. string_bytes d) l.fn.walk.directories.items)
+    (map (λ d. string_bytes d) l.walk.directories.items) l.walk.found.items l.fn.report l.report
+    × Catches (g.T.Directory.history l.fn.tree) (g.T.Directory.history l.tree) l.fn.walk l.walk

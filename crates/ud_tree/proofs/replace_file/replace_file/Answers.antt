@@ -18,7 +18,7 @@ returns-in-Err-clause-writes g c = record {
     is_text = refl;
     does = c.in-Err.ensures.replaces;
     change = subst (λ (n : Edits). ShowsUpdate c.args.job.now.arguments.now.plan c.args.job.now.arguments.now.write_into c.args.job.now.arguments.now.show_changes c.args.file.name.now
-        (g.T.Folder.history c.args.tree.now) (g.T.Folder.history c.replace_named-replaced.new.tree) (Err c.in-Err.error) [] n []) (sym c.requires.none) after_error;
+        (g.T.Directory.history c.args.tree.now) (g.T.Directory.history c.replace_named-replaced.new.tree) (Err c.in-Err.error) [] n []) (sym c.requires.none) after_error;
   };
   sent = sends_none (stream_of g.W.Write.contents c.args.out.now);
   finds = found_in c.as_slice.ensures.value c.find_names.ensures.finds;

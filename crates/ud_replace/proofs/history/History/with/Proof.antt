@@ -32,7 +32,7 @@ use Rattle.ud_replace.specs.CallRecords.{call_of}
 use Rattle.ud_replace.specs.contracts.history.History.with.Key.{name as key}
 use Rattle.ud_replace.specs.contracts.history.History.with as its
 use Rattle.ud_replace.specs.contracts.history.History as history
-use Rattle.ud_replace.specs.contracts.call.FolderCall as call
+use Rattle.ud_replace.specs.contracts.call.DirectoryCall as call
 use Rattle.ud_replace.proofs.history.History.with.Statement as stated
 use Rattle.ud_replace.proofs.history.History.with.Code as code
 

@@ -14,9 +14,9 @@ returns-in-Some-clause-read g c = at_place c.args.name.now c.args.name.now (stri
 
 pub returns-clause-read : goal.returns-clause-read
 returns-clause-read g c =
-    let entered : c.in_default.self.folders.entered ≡ c.place.new.self.entered = elim c.in_default.branch [
-      | in_default-via-in-Some+else-eq w ↦ ap (λ s. s.folders.entered) w.self-is
-      | in_default-via-in_default w ↦ ap (λ s. s.folders.entered) w.self-is
+    let entered : c.in_default.self.directories.entered ≡ c.place.new.self.entered = elim c.in_default.branch [
+      | in_default-via-in-Some+else-eq w ↦ ap (λ s. s.directories.entered) w.self-is
+      | in_default-via-in_default w ↦ ap (λ s. s.directories.entered) w.self-is
     ] in
     rw entered
     (at_place c.args.name.now c.args.name.now (string_bytes c.in_ok-place.place) c.as_str-in_default.result.now

@@ -3,8 +3,8 @@ use Rattle.ud_tree.specs.Naming.{Sees}
 use Rattle.ud_tree.proofs.NamingLemmas.{at_place}
 use Rattle.ud_tree.proofs.disk.naming.node_at.Goals as goal
 
-pub returns-then-not-is_folder : goal.returns-then-not-is_folder
-returns-then-not-is_folder g c = at_place c.args.path.now c.as_bytes.result.now (string_bytes c.in_ok-place.place)
+pub returns-then-not-is_directory : goal.returns-then-not-is_directory
+returns-then-not-is_directory g c = at_place c.args.path.now c.as_bytes.result.now (string_bytes c.in_ok-place.place)
     c.as_str.result.now c.place.new.self.entered (Sees g.S.System.looked c.in_ok-node.field-0.node)
     c.in_ok-place.ensures c.as_bytes.ensures.value c.as_str.ensures.value
     (record { found = c.in_ok-node.field-0; look = c.in_ok-node.ensures; is = refl })

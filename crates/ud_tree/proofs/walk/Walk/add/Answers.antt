@@ -9,14 +9,14 @@ use Rattle.ud_tree.proofs.walk.Walk.add.Goals as goal
 
 pub returns-in_err-escaped-clause-goes_on : goal.returns-in_err-escaped-clause-goes_on
 returns-in_err-escaped-clause-goes_on g c = record {
-  finds = finds_none (g.T.Folder.history c.args.tree.now) c.args.self.now.found.items;
-  told = walk_none (g.T.Folder.history c.args.tree.now) c.args.report.now;
+  finds = finds_none (g.T.Directory.history c.args.tree.now) c.args.self.now.found.items;
+  told = walk_none (g.T.Directory.history c.args.tree.now) c.args.report.now;
 }
 
 pub returns-in_default-clause-goes_on : goal.returns-in_default-clause-goes_on
 returns-in_default-clause-goes_on g c = record {
-  finds = finds_none (g.T.Folder.history c.args.tree.now) c.args.self.now.found.items;
-  told = walk_remark _ (g.T.Folder.history c.args.tree.now) (is_no_text _ refl) c.fault.ensures;
+  finds = finds_none (g.T.Directory.history c.args.tree.now) c.args.self.now.found.items;
+  told = walk_remark _ (g.T.Directory.history c.args.tree.now) (is_no_text _ refl) c.fault.ensures;
 }
 
 pub returns-in-Present-clause-goes_on : goal.returns-in-Present-clause-goes_on
@@ -38,7 +38,7 @@ returns-in-Unknown-clause-goes_on g c = record {
 }
 
 pub returns-in_default-clause-takes : goal.returns-in_default-clause-takes
-returns-in_default-clause-takes g c = takes_other c.args.name.now (g.T.Folder.history c.args.tree.now) c.args.self.now.found.items c.args.report.now _ c.in_default.ensures.cases.0 c.fault.ensures.some
+returns-in_default-clause-takes g c = takes_other c.args.name.now (g.T.Directory.history c.args.tree.now) c.args.self.now.found.items c.args.report.now _ c.in_default.ensures.cases.0 c.fault.ensures.some
 
 pub returns-in-Present-clause-takes : goal.returns-in-Present-clause-takes
 returns-in-Present-clause-takes g c = on_ok_weaker c.add_given.result

@@ -7,10 +7,10 @@ use Rattle.ud_tree.proofs.walk.Walk.enter.Goals as goal
 
 pub loop-name-init : goal.loop-name-init
 loop-name-init g c = (
-  finds_call _ c.args.self.now.found.items c.list_folder-names.ensures.lists.1,
-  enters_begun (λ n. n.items) _ _ c.args.folder.now _ _ _ c.list_folder-names.ensures.counted c.as_slice-name-items.ensures.value c.list_folder-names.ensures.lists,
-  names_same (λ n. n.items) _ _ c.as_slice-name-items.ensures.value c.list_folder-names.ensures.told,
-  catches_listed c.args.folder.now _ c.list_folder-names.ensures.lists.0 c.args.self.now c.args.self.now c.list_folder-names.ensures.lists.1 (grows_same _ _ refl refl),
+  finds_call _ c.args.self.now.found.items c.list_directory-names.ensures.lists.1,
+  enters_begun (λ n. n.items) _ _ c.args.directory.now _ _ _ c.list_directory-names.ensures.counted c.as_slice-name-items.ensures.value c.list_directory-names.ensures.lists,
+  names_same (λ n. n.items) _ _ c.as_slice-name-items.ensures.value c.list_directory-names.ensures.told,
+  catches_listed c.args.directory.now _ c.list_directory-names.ensures.lists.0 c.args.self.now c.args.self.now c.list_directory-names.ensures.lists.1 (grows_same _ _ refl refl),
 )
 
 pub loop-name-preserved : goal.loop-name-preserved

@@ -8,9 +8,9 @@ use Rattle.ud_tree.proofs.walk.Walk.enter.Given as goal
 
 abbrev pub invariant-loop-name : goal.invariant-loop-name
 invariant-loop-name g l =
-    Finds (g.T.Folder.history l.fn.tree) (g.T.Folder.history l.tree) l.fn.self.found.items l.self.found.items
-    × EntersNames (map string_bytes l.fn.self.patterns.now) (λ n. n.items) l.folder l.name-items l.name-index (g.T.Folder.history l.fn.tree)
-    (g.T.Folder.history l.tree) (map (λ d. string_bytes d) l.fn.self.folders.items)
-    (map (λ d. string_bytes d) l.self.folders.items) l.fn.report l.report
-    × ReportsNames l.folder (map (λ n. n.items) l.name-items) (g.T.Folder.history l.fn.tree) (g.T.Folder.history l.tree) l.fn.report l.report
-    × Catches (g.T.Folder.history l.fn.tree) (g.T.Folder.history l.tree) l.fn.self l.self
+    Finds (g.T.Directory.history l.fn.tree) (g.T.Directory.history l.tree) l.fn.self.found.items l.self.found.items
+    × EntersNames (map string_bytes l.fn.self.patterns.now) (λ n. n.items) l.directory l.name-items l.name-index (g.T.Directory.history l.fn.tree)
+    (g.T.Directory.history l.tree) (map (λ d. string_bytes d) l.fn.self.directories.items)
+    (map (λ d. string_bytes d) l.self.directories.items) l.fn.report l.report
+    × ReportsNames l.directory (map (λ n. n.items) l.name-items) (g.T.Directory.history l.fn.tree) (g.T.Directory.history l.tree) l.fn.report l.report
+    × Catches (g.T.Directory.history l.fn.tree) (g.T.Directory.history l.tree) l.fn.self l.self

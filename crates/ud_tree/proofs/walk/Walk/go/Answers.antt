@@ -6,30 +6,30 @@ use Rattle.ud_tree.proofs.WalkTellLemmas.{goes_then, walk_none}
 use Rattle.ud_tree.proofs.WalkLemmas.{finds_none}
 use Rattle.ud_tree.proofs.walk.Walk.go.Goals as goal
 
-pub folders-init : goal.folders-init
-folders-init g c = (
-  record { finds = finds_none (g.T.Folder.history c.args.tree.now) c.args.self.now.found.items; told = walk_none (g.T.Folder.history c.args.tree.now) c.args.report.now },
-  enters_none (g.T.Folder.history c.args.tree.now) (map (λ d. string_bytes d) c.args.self.now.folders.items) c.args.report.now,
-  catches_none (g.T.Folder.history c.args.tree.now) c.args.self.now _ (grows_same _ _ refl refl),
+pub directories-init : goal.directories-init
+directories-init g c = (
+  record { finds = finds_none (g.T.Directory.history c.args.tree.now) c.args.self.now.found.items; told = walk_none (g.T.Directory.history c.args.tree.now) c.args.report.now },
+  enters_none (g.T.Directory.history c.args.tree.now) (map (λ d. string_bytes d) c.args.self.now.directories.items) c.args.report.now,
+  catches_none (g.T.Directory.history c.args.tree.now) c.args.self.now _ (grows_same _ _ refl refl),
 )
 
-pub folders-preserved : goal.folders-preserved
-folders-preserved g c = (
-  goes_then c.folders.invariant.0 c.enter.ensures.goes_on c.next_folder.ensures.found,
-  enters_more c.folders._entered _ _ (popped (λ d. string_bytes d) _ _ _ _ _ c.next_folder.ensures.items c.in-Some.is c.as_str.ensures.value) c.folders.invariant.1 (rw (c.next_folder.ensures.patterns, c.folders.invariant.2.grows.same) at c.in_ok-enter.ensures.enters),
-  catches_then (catches_then c.folders.invariant.2 (catches_none _ c.folders.self _ (grows_same _ _ c.next_folder.ensures.patterns c.next_folder.ensures.found))) c.in_ok-enter.ensures.catches,
+pub directories-preserved : goal.directories-preserved
+directories-preserved g c = (
+  goes_then c.directories.invariant.0 c.enter.ensures.goes_on c.next_directory.ensures.found,
+  enters_more c.directories._entered _ _ (popped (λ d. string_bytes d) _ _ _ _ _ c.next_directory.ensures.items c.in-Some.is c.as_str.ensures.value) c.directories.invariant.1 (rw (c.next_directory.ensures.patterns, c.directories.invariant.2.grows.same) at c.in_ok-enter.ensures.enters),
+  catches_then (catches_then c.directories.invariant.2 (catches_none _ c.directories.self _ (grows_same _ _ c.next_directory.ensures.patterns c.next_directory.ensures.found))) c.in_ok-enter.ensures.catches,
 )
 
 pub returns-in_err-enter-clause-goes_on : goal.returns-in_err-enter-clause-goes_on
-returns-in_err-enter-clause-goes_on g c = goes_then c.folders.invariant.0 c.enter.ensures.goes_on c.next_folder.ensures.found
+returns-in_err-enter-clause-goes_on g c = goes_then c.directories.invariant.0 c.enter.ensures.goes_on c.next_directory.ensures.found
 
-pub returns-after-folders-clause-exhausts : goal.returns-after-folders-clause-exhausts
-returns-after-folders-clause-exhausts g c = exhausts_count (omega (arith, c.folders-test.false)) c.folders.invariant.1
+pub returns-after-directories-clause-exhausts : goal.returns-after-directories-clause-exhausts
+returns-after-directories-clause-exhausts g c = exhausts_count (omega (arith, c.directories-test.false)) c.directories.invariant.1
 
 pub returns-in_default-clause-exhausts : goal.returns-in_default-clause-exhausts
 returns-in_default-clause-exhausts g c =
-    exhausts_empty (ap (map (λ d. string_bytes d)) (c.in_default.ensures.none.1 ∙ sym c.in_default.ensures.none.0)) (ap (map (λ d. string_bytes d)) c.in_default.ensures.none.1) c.folders.invariant.1
+    exhausts_empty (ap (map (λ d. string_bytes d)) (c.in_default.ensures.none.1 ∙ sym c.in_default.ensures.none.0)) (ap (map (λ d. string_bytes d)) c.in_default.ensures.none.1) c.directories.invariant.1
 
 pub returns-in_default-clause-catches : goal.returns-in_default-clause-catches
 returns-in_default-clause-catches g c =
-    catches_then c.folders.invariant.2 (catches_none _ c.folders.self _ (grows_same _ _ c.next_folder.ensures.patterns c.next_folder.ensures.found))
+    catches_then c.directories.invariant.2 (catches_none _ c.directories.self _ (grows_same _ _ c.next_directory.ensures.patterns c.next_directory.ensures.found))

@@ -5,10 +5,10 @@ use Rattle.std.specs.Prelude.{string_bytes}
 use Rattle.ud_tree.proofs.CoverLemmas.{EntersSome}
 use Rattle.ud_tree.proofs.walk.Walk.go.Given as goal
 
-abbrev pub invariant-folders : goal.invariant-folders
-invariant-folders g l =
-    GoesOn (g.T.Folder.history l.fn.tree) (g.T.Folder.history l.tree) l.fn.self l.self l.fn.report l.report
-    × EntersSome (map string_bytes l.fn.self.patterns.now) l._entered (g.T.Folder.history l.fn.tree) (g.T.Folder.history l.tree)
-    (map (λ d. string_bytes d) l.fn.self.folders.items) (map (λ d. string_bytes d) l.self.folders.items) l.fn.report
+abbrev pub invariant-directories : goal.invariant-directories
+invariant-directories g l =
+    GoesOn (g.T.Directory.history l.fn.tree) (g.T.Directory.history l.tree) l.fn.self l.self l.fn.report l.report
+    × EntersSome (map string_bytes l.fn.self.patterns.now) l._entered (g.T.Directory.history l.fn.tree) (g.T.Directory.history l.tree)
+    (map (λ d. string_bytes d) l.fn.self.directories.items) (map (λ d. string_bytes d) l.self.directories.items) l.fn.report
     l.report
-    × Catches (g.T.Folder.history l.fn.tree) (g.T.Folder.history l.tree) l.fn.self l.self
+    × Catches (g.T.Directory.history l.fn.tree) (g.T.Directory.history l.tree) l.fn.self l.self

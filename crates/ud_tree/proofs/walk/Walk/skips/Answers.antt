@@ -9,5 +9,5 @@ pub returns : goal.returns
 returns c = λ e. inr (
   c.below.result.now,
   subst (λ (p : List ℕ). IsBelow p c.below.result.now) c.as_bytes.ensures.value c.below.ensures,
-  c.leaves_folder.ensures.some e,
+  c.leaves_directory.ensures.some e,
 )

@@ -5,7 +5,7 @@ use Rattle.std.specs.Prelude.{string_bytes}
 use Rattle.std.proofs.lemmas.Result.{on_ok_weaker}
 use Rattle.ud_replace.specs.declared.node.Lookup.TheVariants.{Present, Absent, Unknown}
 use Rattle.ud_replace.specs.Calls.{Call, walked, met, followed}
-use Rattle.ud_tree.specs.Covering.{at_file, at_folder, at_link}
+use Rattle.ud_tree.specs.Covering.{at_file, at_directory, at_link}
 use Rattle.ud_tree.proofs.CoverLemmas.{starts_bad, starts_good, met_none, followed_none, waits_same, waits_more, waits_due, on_ok_both}
 use Rattle.ud_tree.proofs.CatchLemmas.{grows_same, catches_met, catches_node, catches_followed, catches_then}
 use Rattle.ud_tree.proofs.walk.Walk.start.Goals as goal
@@ -22,23 +22,23 @@ returns-in-Unknown-clause-goes_on g c = record {
   told = walk_unmet Unknown c.args.path.now _ c.as_bytes-in-Unknown.ensures.value c.in-Unknown.ensures c.unknown.ensures;
 }
 
-pub returns-in-Folder-clause-goes_on : goal.returns-in-Folder-clause-goes_on
-returns-in-Folder-clause-goes_on g c = record {
-  finds = finds_same c.add_folder.ensures.found (finds_call _ c.args.self.now.found.items c.node.ensures);
+pub returns-in-Directory-clause-goes_on : goal.returns-in-Directory-clause-goes_on
+returns-in-Directory-clause-goes_on g c = record {
+  finds = finds_same c.add_directory.ensures.found (finds_call _ c.args.self.now.found.items c.node.ensures);
   told = walk_met _ c.in-Present.node c.args.report.now c.in-Present.ensures;
 }
 
 pub returns-in-Link-clause-goes_on : goal.returns-in-Link-clause-goes_on
 returns-in-Link-clause-goes_on g c = record {
-  finds = finds_same c.add_folder-in-Link.ensures.found (finds_then (finds_call _ c.args.self.now.found.items c.node.ensures) (finds_call _ c.args.self.now.found.items c.leads_to_folder.ensures));
+  finds = finds_same c.add_directory-in-Link.ensures.found (finds_then (finds_call _ c.args.self.now.found.items c.node.ensures) (finds_call _ c.args.self.now.found.items c.leads_to_directory.ensures));
   told = walk_then (walk_met _ c.in-Present.node c.args.report.now c.in-Present.ensures)
-      (walk_followed _ _ c.args.report.now c.leads_to_folder.ensures);
+      (walk_followed _ _ c.args.report.now c.leads_to_directory.ensures);
 }
 
 pub returns-in-Link-2-clause-goes_on : goal.returns-in-Link-2-clause-goes_on
 returns-in-Link-2-clause-goes_on g c = record {
-  finds = finds_then (finds_call _ c.args.self.now.found.items c.node.ensures) (finds_call _ c.args.self.now.found.items c.leads_to_folder.ensures);
-  told = walk_link _ _ c.in-Present.node c.as_bytes-in-Link-2.ensures.value c.in-Present.ensures c.if-leads_to_folder.ensures c.in-Link.is c.fault.ensures;
+  finds = finds_then (finds_call _ c.args.self.now.found.items c.node.ensures) (finds_call _ c.args.self.now.found.items c.leads_to_directory.ensures);
+  told = walk_link _ _ c.in-Present.node c.as_bytes-in-Link-2.ensures.value c.in-Present.ensures c.if-leads_to_directory.ensures c.in-Link.is c.fault.ensures;
 }
 
 pub returns-in-File-clause-goes_on : goal.returns-in-File-clause-goes_on
@@ -59,31 +59,31 @@ returns-in-Absent-clause-starts g c = starts_bad (met c.args.path.now Absent ∷
 pub returns-in-Unknown-clause-starts : goal.returns-in-Unknown-clause-starts
 returns-in-Unknown-clause-starts g c = starts_bad (met c.args.path.now Unknown ∷ []) c.args.path.now _ _ _ c.in-Unknown.ensures (met_none c.args.path.now Unknown) c.unknown.ensures.reports.some
 
-pub returns-in-Folder-clause-starts : goal.returns-in-Folder-clause-starts
-returns-in-Folder-clause-starts g c = on_ok_weaker c.add_folder.result
+pub returns-in-Directory-clause-starts : goal.returns-in-Directory-clause-starts
+returns-in-Directory-clause-starts g c = on_ok_weaker c.add_directory.result
     (λ w. starts_good (met c.args.path.now (Present c.in-Present.node) ∷ []) c.args.path.now _ _ c.args.report.now
     c.in-Present.ensures (met_none c.args.path.now (Present c.in-Present.node)) (waits_more w)
-    (at_folder c.in-Present.node (0, omega arith, refl) c.in-Folder.is (waits_due (met c.args.path.now (Present c.in-Present.node) ∷ []) w)))
-    c.add_folder.ensures.waits
+    (at_directory c.in-Present.node (0, omega arith, refl) c.in-Directory.is (waits_due (met c.args.path.now (Present c.in-Present.node) ∷ []) w)))
+    c.add_directory.ensures.waits
 
 pub returns-in-Link-clause-starts : goal.returns-in-Link-clause-starts
-returns-in-Link-clause-starts g c = on_ok_weaker c.add_folder-in-Link.result
+returns-in-Link-clause-starts g c = on_ok_weaker c.add_directory-in-Link.result
     (λ w. starts_good (followed c.args.path.now true ∷ met c.args.path.now (Present c.in-Present.node) ∷ []) c.args.path.now _ _ c.args.report.now
-    (c.if-leads_to_folder.ensures ∙ ap (λ (l : List Call). walked (followed c.args.path.now true) ∷ l) c.in-Present.ensures)
+    (c.if-leads_to_directory.ensures ∙ ap (λ (l : List Call). walked (followed c.args.path.now true) ∷ l) c.in-Present.ensures)
     (followed_none c.args.path.now true c.args.path.now (Present c.in-Present.node)) (waits_more w)
     (at_link c.in-Present.node (1, omega arith, refl) c.in-Link.is (0, omega arith, refl) (waits_due (followed c.args.path.now true ∷ met c.args.path.now (Present c.in-Present.node) ∷ []) w)))
-    c.add_folder-in-Link.ensures.waits
+    c.add_directory-in-Link.ensures.waits
 
 pub returns-in-Link-2-clause-starts : goal.returns-in-Link-2-clause-starts
 returns-in-Link-2-clause-starts g c =
     starts_bad (followed c.args.path.now false ∷ met c.args.path.now (Present c.in-Present.node) ∷ []) c.args.path.now _ _ _
-    (c.if-leads_to_folder.ensures ∙ ap (λ (l : List Call). walked (followed c.args.path.now false) ∷ l) c.in-Present.ensures)
+    (c.if-leads_to_directory.ensures ∙ ap (λ (l : List Call). walked (followed c.args.path.now false) ∷ l) c.in-Present.ensures)
     (followed_none c.args.path.now false c.args.path.now (Present c.in-Present.node)) c.fault.ensures.some
 
 pub returns-in-File-clause-starts : goal.returns-in-File-clause-starts
 returns-in-File-clause-starts g c = on_ok_weaker c.push_file.result
     (λ there. starts_good (met c.args.path.now (Present c.in-Present.node) ∷ []) c.args.path.now _ _ c.args.report.now c.in-Present.ensures (met_none c.args.path.now (Present c.in-Present.node))
-    (waits_same (λ d. string_bytes d) _ _ c.push_file.ensures.folders) (at_file c.in-Present.node (0, omega arith, refl) c.in-File.is there))
+    (waits_same (λ d. string_bytes d) _ _ c.push_file.ensures.directories) (at_file c.in-Present.node (0, omega arith, refl) c.in-File.is there))
     c.push_file.ensures.is_in
 
 pub returns-in-Other-clause-starts : goal.returns-in-Other-clause-starts
@@ -97,20 +97,20 @@ returns-in-Absent-clause-catches g c = catches_met c.args.path.now Absent _ c.ar
 pub returns-in-Unknown-clause-catches : goal.returns-in-Unknown-clause-catches
 returns-in-Unknown-clause-catches g c = catches_met c.args.path.now Unknown _ c.args.self.now c.in-Unknown.ensures (grows_same _ _ refl refl) (λ node e kind. cc)
 
-pub returns-in-Folder-clause-catches : goal.returns-in-Folder-clause-catches
-returns-in-Folder-clause-catches g c =
-    on_ok_weaker c.add_folder.result (λ h. catches_node c.args.path.now c.in-Present.node _ _ c.in-Present.ensures h (λ kind. let is = c.in-Folder.is in cc)) c.add_folder.ensures.grows
+pub returns-in-Directory-clause-catches : goal.returns-in-Directory-clause-catches
+returns-in-Directory-clause-catches g c =
+    on_ok_weaker c.add_directory.result (λ h. catches_node c.args.path.now c.in-Present.node _ _ c.in-Present.ensures h (λ kind. let is = c.in-Directory.is in cc)) c.add_directory.ensures.grows
 
 pub returns-in-Link-clause-catches : goal.returns-in-Link-clause-catches
-returns-in-Link-clause-catches g c = on_ok_weaker c.add_folder-in-Link.result
+returns-in-Link-clause-catches g c = on_ok_weaker c.add_directory-in-Link.result
     (λ h. catches_then (catches_node c.args.path.now c.in-Present.node c.args.self.now c.args.self.now c.in-Present.ensures (grows_same _ _ refl refl) (λ kind. let is = c.in-Link.is in cc))
-    (catches_followed c.args.path.now true _ _ c.if-leads_to_folder.ensures h))
-    c.add_folder-in-Link.ensures.grows
+    (catches_followed c.args.path.now true _ _ c.if-leads_to_directory.ensures h))
+    c.add_directory-in-Link.ensures.grows
 
 pub returns-in-Link-2-clause-catches : goal.returns-in-Link-2-clause-catches
 returns-in-Link-2-clause-catches g c =
     catches_then (catches_node c.args.path.now c.in-Present.node c.args.self.now c.args.self.now c.in-Present.ensures (grows_same _ _ refl refl) (λ kind. let is = c.in-Link.is in cc))
-    (catches_followed c.args.path.now false _ _ c.if-leads_to_folder.ensures (grows_same _ _ refl refl))
+    (catches_followed c.args.path.now false _ _ c.if-leads_to_directory.ensures (grows_same _ _ refl refl))
 
 pub returns-in-File-clause-catches : goal.returns-in-File-clause-catches
 returns-in-File-clause-catches g c =

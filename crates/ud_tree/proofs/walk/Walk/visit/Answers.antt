@@ -9,16 +9,16 @@ use Rattle.ud_tree.proofs.CatchLemmas.{grows_same, catches_none, catches_met, ca
 use Rattle.ud_tree.proofs.walk.Walk.visit.Goals as goal
 
 pub returns-in_err-path-clause-finds : goal.returns-in_err-path-clause-finds
-returns-in_err-path-clause-finds g c = finds_none (g.T.Folder.history c.args.tree.now) c.args.self.now.found.items
+returns-in_err-path-clause-finds g c = finds_none (g.T.Directory.history c.args.tree.now) c.args.self.now.found.items
 
 pub returns-in_err-name-clause-finds : goal.returns-in_err-name-clause-finds
-returns-in_err-name-clause-finds g c = finds_none (g.T.Folder.history c.args.tree.now) c.args.self.now.found.items
+returns-in_err-name-clause-finds g c = finds_none (g.T.Directory.history c.args.tree.now) c.args.self.now.found.items
 
 pub returns-in_default-clause-finds : goal.returns-in_default-clause-finds
-returns-in_default-clause-finds g c = finds_none (g.T.Folder.history c.args.tree.now) c.args.self.now.found.items
+returns-in_default-clause-finds g c = finds_none (g.T.Directory.history c.args.tree.now) c.args.self.now.found.items
 
 pub returns-in_err-push_str-clause-finds : goal.returns-in_err-push_str-clause-finds
-returns-in_err-push_str-clause-finds g c = finds_none (g.T.Folder.history c.args.tree.now) c.args.self.now.found.items
+returns-in_err-push_str-clause-finds g c = finds_none (g.T.Directory.history c.args.tree.now) c.args.self.now.found.items
 
 pub returns-in-Present-clause-finds : goal.returns-in-Present-clause-finds
 returns-in-Present-clause-finds g c = finds_node _ c.in-Present.node c.in-Present.ensures c.add_node.ensures.adds
@@ -30,16 +30,16 @@ pub returns-clause-finds : goal.returns-clause-finds
 returns-clause-finds g c = finds_call _ c.args.self.now.found.items c.node.ensures
 
 pub returns-in_err-path-clause-told : goal.returns-in_err-path-clause-told
-returns-in_err-path-clause-told g c = visit_none (walk_none (g.T.Folder.history c.args.tree.now) c.args.report.now)
+returns-in_err-path-clause-told g c = visit_none (walk_none (g.T.Directory.history c.args.tree.now) c.args.report.now)
 
 pub returns-in_err-name-clause-told : goal.returns-in_err-name-clause-told
-returns-in_err-name-clause-told g c = visit_none (walk_none (g.T.Folder.history c.args.tree.now) c.args.report.now)
+returns-in_err-name-clause-told g c = visit_none (walk_none (g.T.Directory.history c.args.tree.now) c.args.report.now)
 
 pub returns-in_default-clause-told : goal.returns-in_default-clause-told
-returns-in_default-clause-told g c = visit_none (walk_remark _ (g.T.Folder.history c.args.tree.now) (is_no_text _ refl) c.fault_in.ensures)
+returns-in_default-clause-told g c = visit_none (walk_remark _ (g.T.Directory.history c.args.tree.now) (is_no_text _ refl) c.fault_in.ensures)
 
 pub returns-in_err-push_str-clause-told : goal.returns-in_err-push_str-clause-told
-returns-in_err-push_str-clause-told g c = visit_none (walk_none (g.T.Folder.history c.args.tree.now) c.args.report.now)
+returns-in_err-push_str-clause-told g c = visit_none (walk_none (g.T.Directory.history c.args.tree.now) c.args.report.now)
 
 pub returns-in-Present-clause-told : goal.returns-in-Present-clause-told
 returns-in-Present-clause-told g c = visit_met (Present c.in-Present.node) _ (λ e. absurd cc) c.in-Present.ensures (walk_met _ c.in-Present.node c.args.report.now c.in-Present.ensures)
@@ -51,31 +51,31 @@ pub returns-clause-told : goal.returns-clause-told
 returns-clause-told g c = visit_met Unknown _ (λ e. absurd cc) c.in-Unknown.ensures (walk_unmet Unknown _ _ c.as_bytes-in-Unknown.ensures.value c.in-Unknown.ensures c.unknown.ensures)
 
 pub returns-in_default-clause-visits : goal.returns-in_default-clause-visits
-returns-in_default-clause-visits g c = visits_other c.args.folder.now c.args.name.now (g.T.Folder.history c.args.tree.now) _ c.args.report.now _ (c.in_default.ensures.cases.0) c.fault_in.ensures.some
+returns-in_default-clause-visits g c = visits_other c.args.directory.now c.args.name.now (g.T.Directory.history c.args.tree.now) _ c.args.report.now _ (c.in_default.ensures.cases.0) c.fault_in.ensures.some
 
 pub returns-in-Present-clause-visits : goal.returns-in-Present-clause-visits
 returns-in-Present-clause-visits g c = on_ok_weaker c.add_node.result
-    (λ w. visits_node c.in-Present.node _ c.args.folder.now c.args.name.now _ _ c.args.report.now
+    (λ w. visits_node c.in-Present.node _ c.args.directory.now c.args.name.now _ _ c.args.report.now
     (cc (c.as_str-whole.ensures.value, c.in_ok-push_str.ensures.bytes, c.in-Ok.ensures.cases.0, c.in_ok-path.ensures.ok))
     c.in-Present.ensures w)
     c.add_node.ensures.waits
 
 pub returns-in-Absent-clause-visits : goal.returns-in-Absent-clause-visits
 returns-in-Absent-clause-visits g c =
-    visits_unmet Absent _ c.args.folder.now c.args.name.now _ c.args.report.now c.args.report.now (λ some. some)
+    visits_unmet Absent _ c.args.directory.now c.args.name.now _ c.args.report.now c.args.report.now (λ some. some)
     (λ node e. absurd cc)
     (cc (c.as_str-whole.ensures.value, c.in_ok-push_str.ensures.bytes, c.in-Ok.ensures.cases.0, c.in_ok-path.ensures.ok))
     c.in-Absent.ensures
 
 pub returns-clause-visits : goal.returns-clause-visits
 returns-clause-visits g c =
-    visits_unmet Unknown _ c.args.folder.now c.args.name.now _ c.args.report.now _
+    visits_unmet Unknown _ c.args.directory.now c.args.name.now _ c.args.report.now _
     (λ before. c.unknown.ensures.reports.some) (λ node e. absurd cc)
     (cc (c.as_str-whole.ensures.value, c.in_ok-push_str.ensures.bytes, c.in-Ok.ensures.cases.0, c.in_ok-path.ensures.ok))
     c.in-Unknown.ensures
 
 pub returns-in_default-clause-catches : goal.returns-in_default-clause-catches
-returns-in_default-clause-catches g c = catches_none (g.T.Folder.history c.args.tree.now) c.args.self.now c.args.self.now (grows_same _ _ refl refl)
+returns-in_default-clause-catches g c = catches_none (g.T.Directory.history c.args.tree.now) c.args.self.now c.args.self.now (grows_same _ _ refl refl)
 
 pub returns-in-Present-clause-catches : goal.returns-in-Present-clause-catches
 returns-in-Present-clause-catches g c =

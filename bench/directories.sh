@@ -1,0 +1,41 @@
+#!/usr/bin/env bash
+# Measures the processor time of ./unifdef-tree over a directory, beside programs that read the same
+# files, by hyperfine. README.md in this directory describes it. No run changes a file.
+#
+# directories.sh [DIRECTORY]: copies of the machine's headers by default. BENCH_COPIES: the number
+# of copies. BENCH_HEADERS: the directory of the headers. BENCH_RUNS: the number of runs.
+set -eu -o pipefail
+export LC_ALL=C
+program=$(realpath "$(dirname "$0")/../unifdef-tree")
+for needed in "$program" hyperfine; do
+  command -v "$needed" > /dev/null || { echo "bench: $needed is not there" >&2; exit 1; }
+done
+work=$(mktemp -d)
+trap 'rm -rf "$work"' EXIT
+mkdir "$work/headers"
+for n in $([ $# -gt 0 ] || seq "${BENCH_COPIES:-7}"); do
+  cp -r "${BENCH_HEADERS:-/usr/include}" "$work/headers/$n"
+done
+cd "${1:-$work/headers}"
+# A name that no file has, so that nothing changes, and one that most headers have.
+nowhere=-UNOFILEHASIT common=-U__cplusplus cat='find . -type f -exec cat {} +'
+commands=()
+for words in $nowhere "-q $nowhere" "-r $nowhere" "-p $nowhere" "-p -q $nowhere" -s "-n $nowhere" \
+  "-n $common" "-n -r $common" "-n -p $common"; do
+  commands+=(-n "unifdef-tree $words" "$program $words -- .")
+done
+released="find . -name *.[ch] -exec unifdef -m $nowhere {} +"
+for other in 'rg -uuu -j1 -l NOFILEHASIT .' 'rg -uuu -j1 -c __cplusplus .' "$released" "$cat"; do
+  [ "$other" != "$released" ] || command -v unifdef > /dev/null || continue
+  ! command -v "${other%% *}" > /dev/null || commands+=(-n "$other" "$other")
+done
+hyperfine -N -i --style none -w 1 -r "${BENCH_RUNS:-5}" --export-json "$work/times" "${commands[@]}" 2> /dev/null
+find . -type f -printf '%s\n' | awk '{ n += $1 } END { print NR " files, " n " bytes" }'
+{ "$program" -n $nowhere -- . 2>&1 > /dev/null || true; } | head -n 1
+# shellcheck disable=SC2016 # These are quotes of Markdown.
+printf '\n| command, in that directory | seconds | times `cat` |\n| --- | --- | --- |\n'
+# shellcheck disable=SC2016 # These, too.
+python3 -c 'import json, sys
+rows = [(it["command"], it["user"] + it["system"]) for it in json.load(open(sys.argv[1]))["results"]]
+for command, seconds in rows:
+    print(f"| `{command}` | {seconds:.2f} | {seconds / rows[-1][1]:.2f} |")' "$work/times"

@@ -1,6 +1,0 @@
-use Rattle.std.proofs.Common.{◌≡◌, ◌≤◌, take}
-use Rattle.ud_tree.specs.Paths.{folder_len}
-use Rattle.ud_tree.proofs.paths.folder_len.Given as goal
-
-abbrev pub invariant-loop-i : goal.invariant-loop-i
-invariant-loop-i l = (l.len ≡ folder_len (take l.i l.path)) × (l.len ≤ l.i)

@@ -1,6 +1,0 @@
-use Rattle.std.proofs.Common.{map, take, string_bytes}
-use Rattle.ud_tree.specs.Choices.{LeavesFolder}
-use Rattle.ud_tree.proofs.patterns.leaves_folder.Given as goal
-
-abbrev pub invariant-loop-text : goal.invariant-loop-text
-invariant-loop-text l = ¬ (LeavesFolder (map string_bytes (take l.text-index l.patterns)) l.below)

@@ -1,0 +1,283 @@
+//! Directories as they were met: paths keep leading into the same directory, whatever takes its
+//! place.
+//!
+//! A directory's owner can put a link to another one in its place. So a directory is opened,
+//! compared with the one that was met at its path, and kept open. A name in it is reached by the
+//! number of the open directory, through `/proc`. One directory is open at a time. To keep
+//! directories in another way, change only `compared` and `entry_of`.
+
+ghost use Rattle.std.specs.Prelude.{◌≡◌, ◌⊎◌, ◌↔◌, IfOk, IfSome, IsNone, MatchOption, OnOk};
+ghost use Rattle.std.specs.Prelude.{None, Some, false, string_bytes, true};
+ghost use Rattle.std.specs.BTreeMap.{get_by_text};
+ghost use Rattle.ud_tree.specs.Evidence.{is_same};
+ghost use Rattle.ud_tree.specs.Meeting.{EntersAt, Follows, IsCompared, IsEntry, IsPlace, KeepsMet};
+ghost use Rattle.ud_tree.specs.Meeting.{LeadsInto, MeetsFirst, TriesProc, is_other_file};
+
+use crate::disk::facts::is_same;
+use crate::disk::system::{System, SystemFile};
+use crate::paths::{directory, directory_path, last_name};
+use std::alloc::Global;
+use std::collections::BTreeMap;
+use std::io::{self, ErrorKind};
+use ud_replace::FileId;
+
+/// The directory at a path.
+#[derive(Clone, Copy)]
+pub enum Met {
+    /// This one was met.
+    Is(FileId),
+    /// The user may not open it, hence it is found only by its path.
+    Closed,
+}
+
+/// A directory that names are reached in.
+#[derive(Drop)]
+pub struct Entered {
+    /// Its path, with a slash at its end.
+    pub path: Vec<u8>,
+    /// The path that leads into it, with a slash at its end.
+    pub entry: String,
+}
+
+/// The directories that were met, and the open one.
+#[derive(Drop)]
+pub struct Directories<S: System> {
+    alloc: Global,
+    /// The directories by their paths, with a slash at the end.
+    met: BTreeMap<String, Met>,
+    /// The last one that names were reached in.
+    entered: Option<Entered>,
+    /// That directory, unless the user may not open it.
+    opened: Option<S::File>,
+    /// True if `/proc` leads to open directories; `None` before that is tried.
+    has_proc: Option<bool>,
+}
+
+impl<S: System> Directories<S> {
+    /// Returns the state before any directory is met.
+    pub(crate) fn new(alloc: Global) -> Directories<S>
+        ensures entered { result.entered ≡ None }
+        ensures untried { result.has_proc ≡ None }
+    {
+        Directories {
+            alloc,
+            met: BTreeMap::new(alloc),
+            entered: None,
+            opened: None,
+            has_proc: None,
+        }
+    }
+
+    /// Returns whether `/proc` was tried and doesn't lead to open directories.
+    pub(crate) fn lacks_proc(&self) -> bool
+        ensures { result ≡ true ↔ self.now.has_proc ≡ Some false }
+    {
+        match self.has_proc {
+            Some(has_proc) => !has_proc,
+            None => false,
+        }
+    }
+
+    /// Remembers which directory is at a path. The first one met there counts.
+    pub(crate) fn meet(&mut self, path: &str, id: FileId) -> io::Result<()>
+        ensures first { OnOk result (MeetsFirst path.now id self.old.met self.new.met) }
+        ensures kept { KeepsMet self.old.met self.new.met }
+        ensures entered { self.new.entered ≡ self.old.entered }
+    {
+        let directory = directory_path(self.alloc, path)?;
+        if self.met.get(directory.as_str()).is_none() {
+            self.record(directory.as_str(), Met::Is(id))?;
+        }
+        Ok(())
+    }
+
+    /// Returns a path that leads to a name in the directory that was met, whatever takes its place.
+    /// A directory that wasn't met is taken as it is now.
+    pub(crate) fn place(&mut self, system: &S, name: &[u8]) -> io::Result<String>
+        ensures { IfOk result (λ path. IsPlace name.now self.new.entered (string_bytes path)) }
+    {
+        let directory = directory(name);
+        let last = last_name(name);
+        if directory.is_empty() || last.is_empty() {
+            return Ok(String::from_str(self.alloc, text_of(name)?)?);
+        }
+        let last = text_of(last)?;
+        let mut path = self.within(system, text_of(directory)?)?;
+        path.push_str(last)?;
+        Ok(path)
+    }
+
+    /// Returns a path that leads into a directory, whose own path ends in a slash.
+    pub(crate) fn within(&mut self, system: &S, directory: &str) -> io::Result<String>
+        ensures enters { IfOk result
+            (λ path. EntersAt directory.now self.new.entered (string_bytes path)) }
+        ensures leads { IfOk result (λ path. (self.new.entered ≡ self.old.entered) ⊎
+            LeadsInto S.File.entered S.numbers directory.now self.new.opened (string_bytes path)) }
+        ensures kept { KeepsMet self.old.met self.new.met }
+    {
+        if let Some(entered) = self.entered_at(directory) {
+            return Ok(String::from_str(self.alloc, entered.entry.as_str())?);
+        }
+        self.entered = None;
+        self.opened = None;
+        let entered = self.enter(system, directory)?;
+        let path = String::from_str(self.alloc, entered.entry.as_str())?;
+        self.entered = Some(entered);
+        Ok(path)
+    }
+
+    /// Returns the directory that names were last reached in, if it is this one.
+    fn entered_at(&self, directory: &str) -> Option<&Entered>
+        ensures { IfSome result (λ e. (self.now.entered ≡ Some e.now) ×
+            (e.now.path.items ≡ directory.now)) }
+    {
+        match &self.entered {
+            Some(entered) if entered.path.as_slice() == directory.as_bytes() => Some(entered),
+            _ => None,
+        }
+    }
+
+    /// Opens a directory, to reach names in it.
+    fn enter(&mut self, system: &S, directory: &str) -> io::Result<Entered>
+        ensures path { IfOk result (λ e. e.path.items ≡ directory.now) }
+        ensures leads { IfOk result (λ e.
+            LeadsInto S.File.entered S.numbers directory.now self.new.opened
+            (string_bytes e.entry)) }
+        ensures kept { KeepsMet self.old.met self.new.met }
+    {
+        let file = self.compared(system, directory)?;
+        let entry = self.entry_of(system, directory, &file)?;
+        let mut path = Vec::new(self.alloc);
+        path.extend_from_slice(directory.as_bytes())?;
+        self.opened = file;
+        Ok(Entered { path, entry })
+    }
+
+    /// Opens a directory, and checks that it is the one that was met. `None` if none was met there
+    /// and the user may not open it: the directory of a given path needn't be listed.
+    fn compared(&mut self, system: &S, directory: &str) -> io::Result<Option<S::File>>
+        ensures opened { IfOk result (λ opened. IfSome opened (λ file.
+            S.File.entered file directory.now ×
+            IsCompared S.File.shows directory.now self.new.met file)) }
+        ensures kept { KeepsMet self.old.met self.new.met }
+    {
+        let met = self.met.get(directory).copied();
+        if matches!(met, Some(Met::Closed)) {
+            return Ok(None);
+        }
+        let file = match system.enter(directory) {
+            Ok(file) => file,
+            Err(error) => {
+                if met.is_none() && error.kind() == ErrorKind::PermissionDenied {
+                    self.record(directory, Met::Closed)?;
+                    return Ok(None);
+                }
+                return Err(error);
+            }
+        };
+        let found = file.facts()?.node.id;
+        match met {
+            Some(Met::Is(id)) if is_same(id, found) => Ok(Some(file)),
+            Some(_) => Err(other_file()),
+            None => {
+                self.record(directory, Met::Is(found))?;
+                Ok(Some(file))
+            }
+        }
+    }
+
+    /// Records what was met at a directory's path for the first time.
+    fn record(&mut self, directory: &str, met: Met) -> io::Result<()>
+        requires { IsNone (get_by_text self.old.met directory.now) }
+        ensures met { OnOk result (get_by_text self.new.met directory.now ≡ Some met) }
+        ensures kept { KeepsMet self.old.met self.new.met }
+        ensures entered { self.new.entered ≡ self.old.entered }
+    {
+        let key = String::from_str(self.alloc, directory)?;
+        let _ = self.met.insert(key, met)?;
+        Ok(())
+    }
+
+    /// Returns the path that leads into an open directory: by its number, or its own path without
+    /// `/proc`.
+    fn entry_of(
+        &mut self,
+        system: &S,
+        directory: &str,
+        opened: &Option<S::File>,
+    ) -> io::Result<String>
+        ensures entry { IfOk result (λ path. MatchOption opened.now
+            (string_bytes path ≡ directory.now)
+            (λ file. IsEntry S.numbers directory.now self.new.has_proc file (string_bytes path))) }
+        ensures tried { OnOk result (IfSome opened.now
+            (TriesProc S.followed S.numbers S.File.shows self.old.has_proc self.new.has_proc)) }
+        ensures met { self.new.met ≡ self.old.met }
+    {
+        let Some(file) = opened else {
+            return Ok(String::from_str(self.alloc, directory)?);
+        };
+        let entry = system.numbered(self.alloc, file)?;
+        if self.finds_proc(system, entry.as_str(), file) {
+            Ok(entry)
+        } else {
+            Ok(String::from_str(self.alloc, directory)?)
+        }
+    }
+
+    /// Returns whether `/proc` leads to open directories. A look at the first one tells.
+    fn finds_proc(&mut self, system: &S, path: &str, file: &S::File) -> bool
+        requires { S.numbers file.now path.now }
+        ensures tried { TriesProc S.followed S.numbers S.File.shows self.old.has_proc
+            self.new.has_proc file.now }
+        ensures found { self.new.has_proc ≡ Some result }
+        ensures met { self.new.met ≡ self.old.met }
+    {
+        if let Some(known) = self.has_proc {
+            return known;
+        }
+        if leads_to(system, path, file) {
+            self.has_proc = Some(true);
+            return true;
+        }
+        self.has_proc = Some(false);
+        false
+    }
+}
+
+/// Returns a path as text.
+///
+/// # Errors
+/// Fails if it isn't UTF-8.
+pub(crate) fn text_of(name: &[u8]) -> io::Result<&str>
+    ensures { IfOk result (λ text. text.now ≡ name.now) }
+{
+    match std::str::from_utf8(name) {
+        Ok(path) => Ok(path),
+        Err(_) => Err(io::Error::from(ErrorKind::InvalidFilename)),
+    }
+}
+
+/// Returns the error for a file or directory that isn't the one expected under its name.
+pub(crate) fn other_file() -> io::Error
+    ensures { is_other_file result ≡ true }
+{
+    io::Error::new(ErrorKind::ResourceBusy, "changed meanwhile")
+}
+
+/// Returns whether an error is that of `other_file`. The system calls a file busy, too, if it is
+/// mounted by itself.
+pub(crate) fn is_other_file(error: io::Error) -> bool
+    ensures { result ≡ is_other_file error }
+{
+    matches!(error.kind(), ErrorKind::ResourceBusy) && error.raw_os_error().is_none()
+}
+
+/// Returns whether a path leads to an open directory.
+fn leads_to<S: System>(system: &S, path: &str, file: &S::File) -> bool
+    ensures { result ≡ true → Follows S.followed S.File.shows path.now file.now }
+{
+    match (system.follow(path), file.facts()) {
+        (Ok(found), Ok(shown)) => is_same(shown.node.id, found.node.id),
+        _ => false,
+    }
+}
