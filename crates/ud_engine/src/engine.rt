@@ -219,7 +219,7 @@ impl<P: PlanSource, S: Show, H: LineBuffer> EngineOf<P, S, H> {
     ghost use Rattle.ud_engine.specs.FaultEffects.{result_after};
 
     /// Returns an engine before the first byte, as `new` does, with an `H` as its line buffer.
-    pub(crate) fn with_buffer(plan: P, show: S) -> EngineOf<P, S, H>
+    pub fn with_buffer(plan: P, show: S) -> EngineOf<P, S, H>
         ensures represents { (s : Session) →
             Begins S.represents S.piece show (P.plan plan).settings (P.plan plan).symbols s →
             IsInSession S.represents S.piece result s }
@@ -348,7 +348,7 @@ impl<P: PlanSource, S: Show, H: LineBuffer> EngineOf<P, S, H> {
     }
 
     /// Returns the lines of the text, which say how many bytes the next chunk may have.
-    pub(crate) fn lines(&self) -> &Lines<H>
+    pub fn lines(&self) -> &Lines<H>
         ensures lines { result.now ≡ self.now.lines }
         ensures opened { IsOpen result.now }
     {

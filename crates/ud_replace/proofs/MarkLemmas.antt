@@ -1,12 +1,12 @@
 -- Marks: the lines of a text one after another, and the marks that are read from a printer's output.
-use Rattle.std.proofs.Common.{◌≡◌, ◌≢◌, ℕ, suc, ◌+◌, ◌-◌, ◌<◌, ◌==◌, Bool, true, false, not, ◌&&◌, if◌then◌else◌, List, [], ◌∷◌, ◌++◌, length, take, drop, map, replicate, nat_le, get_or, refl, sym, ◌∙◌, ap, ap₂, subst, inl, inr, append_assoc, take-append-drop, drop-cons, add-one, arith, bytes_eq, ◌⊎◌, Option, None}
+use Rattle.std.proofs.Common.{◌≡◌, ◌≢◌, ℕ, suc, ◌+◌, ◌-◌, ◌<◌, ◌≤◌, ◌==◌, Bool, true, false, not, ◌&&◌, if◌then◌else◌, List, [], ◌∷◌, ◌++◌, length, take, drop, map, replicate, nat_le, get_or, refl, sym, ◌∙◌, ap, ap₂, subst, inl, inr, append_assoc, take-append-drop, take-take, length-take, length-take-le, drop-cons, add-one, arith, bytes_eq, ◌⊎◌, Option, None}
 use Rattle.std.specs.List.{concat}
 use Rattle.std.proofs.lemmas.Grind.{common_steps}
 use Rattle.std.proofs.lemmas.List.{take_all, drop_all, replicate-append-replicate}
 use Rattle.std.proofs.lemmas.Bool.Decides.{nat_tests}
 use Rattle.std.proofs.lemmas.Slice.Eq.{bytes_eq-Decides}
 use Rattle.std.proofs.Math.Nat.{le_refl}
-use Rattle.ud_model.specs.text.Lines.{NoNewline, IsWhole, IsUnterminated, AreFormed, SplitLines, split_lines, texts_of, last_line, text_of}
+use Rattle.ud_model.specs.text.Lines.{NoNewline, IsWhole, IsUnterminated, AreFormed, SplitLines, split_lines, texts_of, last_line, text_of, whole_lines, partial_line}
 use Rattle.ud_model.specs.text.Lines.{lines_of}
 use Rattle.ud_model.specs.text.Scans.{Reading}
 use Rattle.ud_model.specs.sections.Tree.{Item, Tree}
@@ -18,8 +18,10 @@ use Rattle.ud_model.specs.answer.Outcomes.{ReadsAs, stops, ends}
 use Rattle.ud_model.specs.declared.settings.Settings.{Settings}
 use Rattle.ud_model.proofs.answer.Onward.{read_lines, judged_all}
 use Rattle.ud_model.proofs.sections.Stays.{length_marks}
-use Rattle.ud_model.proofs.text.LinesLemmas.{split_lines-line-prefix, split_lines-open, texts_of-formed, lines_exist, map-lines_of}
+use Rattle.ud_model.proofs.text.LinesLemmas.{split_lines-append, split_lines-append-line, split_lines-line-prefix, split_lines-open, texts_of-formed, lines_exist, map-lines_of}
 use Rattle.ud_text.specs.lines.LinesState.{UpToNewline}
+use Rattle.ud_text.specs.bulk.BulkLexemes.{IsLineStart, at_start, after_newline}
+use Rattle.ud_diff.specs.declared.script.TheConstants.{SAME}
 use Rattle.ud_replace.specs.Marks.{AreMarks, judged_by, mark_by, plain_piece, mark_of, mark_piece, first_text, later_texts, read_mark, read_marks}
 use Rattle.ud_replace.specs.FoldedMarks.{first_stay, marks_for, unfolded}
 use Rattle.ud_passes.specs.squeezing.SqueezedTexts.{stays}
@@ -48,6 +50,46 @@ first_up_to s used false up = (no_line s (up.all refl).1).0 ∙ sym (ap (λ (k :
 pub later_up_to : (s : List ℕ) (used : ℕ) (whole : Bool) → UpToNewline s used whole → texts_of (drop used s) ≡ later_texts (texts_of s)
 later_up_to s used true up = sym (ap later_texts (first_line s (take used s) (drop used s) (sym (take-append-drop used s)) (up.line refl)))
 later_up_to s used false up = nothing_after s used (up.all refl).0 ∙ sym (no_line s (up.all refl).1).1
+
+-- The first bytes of a longer text are so many.
+pub cut_len : (n : ℕ) (s : List ℕ) → n < length s → n ≡ length (take n s)
+cut_len n s h = sym (length-take-le n s (omega arith))
+
+-- What is within the first bytes is within all.
+pub within_cut : (n r : ℕ) (s : List ℕ) → r ≤ length (take n s) → (r ≤ n) × (r ≤ length s)
+within_cut n r s h = let e = length-take n s in (omega arith, omega arith)
+
+-- Texts that begin alike do so up to any earlier byte.
+pub same_cut : (n r : ℕ) (s t : List ℕ) → take n s ≡ take n t → r ≤ length (take n s) → take r s ≡ take r t
+same_cut n r s t same within =
+    sym (take-take r n s (within_cut n r s within).0) ∙ ap (take r) same ∙ take-take r n t (within_cut n r s within).0
+
+-- What is within the same first bytes of two texts is within both.
+pub within_both : (n r : ℕ) (s t : List ℕ) → take n s ≡ take n t → r ≤ length (take n s) → (r ≤ length s) × (r ≤ length t)
+within_both n r s t same h = ((within_cut n r s h).1, (within_cut n r t (subst (λ (x : List ℕ). r ≤ length x) same h)).1)
+
+-- The lines of a text that begins with whole lines.
+texts_of-after : (x r : List ℕ) → partial_line x ≡ [] → texts_of (x ++ r) ≡ whole_lines x ++ texts_of r
+texts_of-after x r none = grind (arith, split_lines-append, append_assoc)
+
+-- A line starts after bytes that have no partial line.
+no_part : (x : List ℕ) → IsLineStart x → partial_line x ≡ []
+unfolding split_lines
+no_part _ at_start = refl
+no_part _ (after_newline p) = ap (λ (q : SplitLines). q.rest) (split_lines-append-line p [] tt)
+
+-- The marks of lines that stay.
+marks_same : (ls xs ys : List (List ℕ)) → read_marks (ls ++ xs) (ls ++ ys) ≡ replicate (length ls) SAME ++ read_marks xs ys
+marks_same [] xs ys = refl
+marks_same (l ∷ ls) xs ys = grind (arith, common_steps, bytes_eq-Decides, marks_same ls xs ys)
+
+-- The marks of texts that begin with the same whole lines.
+pub marks_after : (n : ℕ) (s t : List ℕ) → take n s ≡ take n t → IsLineStart (take n s) →
+    replicate (length (whole_lines (take n s))) SAME ++ read_marks (texts_of (drop n s)) (texts_of (drop n t)) ≡ read_marks (texts_of s) (texts_of t)
+marks_after n s t same starts =
+    sym (marks_same (whole_lines (take n s)) (texts_of (drop n s)) (texts_of (drop n t)))
+    ∙ ap₂ read_marks (sym (texts_of-after (take n s) (drop n s) (no_part _ starts)) ∙ ap texts_of (take-append-drop n s))
+    (ap (λ (x : List ℕ). whole_lines x ++ texts_of (drop n t)) same ∙ sym (texts_of-after (take n t) (drop n t) (no_part _ (subst IsLineStart same starts))) ∙ ap texts_of (take-append-drop n t))
 
 -- The mark of the line after `n` others, of which the first `stay` stay.
 abbrev pub mark_after : ℕ → ℕ → List ℕ

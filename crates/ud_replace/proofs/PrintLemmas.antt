@@ -1,5 +1,5 @@
 -- Printing: an engine is fed a whole text, and ends.
-use Rattle.std.proofs.Common.{◌≡◌, ℕ, List, [], ◌++◌, Bool, false, if◌then◌else◌, Some, Result, Ok, Err, IfOk, IfSome, is_err, sym, ◌∙◌, ap, ap₂, append_assoc}
+use Rattle.std.proofs.Common.{◌≡◌, ◌⊎◌, inl, inr, ℕ, List, [], ◌++◌, Bool, if◌then◌else◌, Some, Result, Ok, Err, IfOk, IfSome, refl, sym, ◌∙◌, ap, ap₂, subst, append_assoc, append-nil}
 use Rattle.std.specs.Result.{result_ok}
 use Rattle.ud_model.specs.text.Lines.{texts_of}
 use Rattle.ud_model.specs.declared.settings.Settings.{Settings}
@@ -10,14 +10,56 @@ use Rattle.ud_engine.specs.ProcessedLines.{text_by}
 use Rattle.ud_model.specs.sections.Items.{Options}
 use Rattle.ud_model.specs.answer.Printing.{Judged, complemented}
 use Rattle.ud_faults.specs.declared.run.RunFault.{RunFault}
-use Rattle.ud_engine.specs.Feeding.{Session}
+use Rattle.ud_engine.specs.Feeding.{EngineState, EngineRepresents, Session, IsInSession, Continues}
 use Rattle.ud_engine.specs.Finishing.{Finishes, FinishOk}
 use Rattle.ud_replace.specs.Marks.{AreMarks, PrintsBy, judged_by, mark_piece, read_marks}
+use Rattle.ud_replace.specs.Printing.{HasFed}
 use Rattle.ud_replace.proofs.MarkLemmas.{are_marks}
 
 -- The session before the first byte, with the pieces of a printer.
 abbrev pub fresh : Options → (List Judged → Judged → List ℕ) → Session
 fresh o piece = record { options = o; pieces = piece; text = []; printed = [] }
+
+module _ {S : Type 0} (represents : S → List Judged → Type 0) (piece : S → List Judged → Judged → List ℕ) (e : EngineState S) (text old : List ℕ) where
+  -- Nothing was fed yet.
+  pub fed_none : HasFed represents piece e e text text old old
+  fed_none = record {
+    done = [];
+    split = refl;
+    feeds = λ s h. record {
+      more = [];
+      fed = subst (λ (x : List ℕ). EngineRepresents represents piece e s.options s.pieces (s.text ++ []) x) (sym (append-nil s.printed))
+          (subst (λ (x : List ℕ). EngineRepresents represents piece e s.options s.pieces x s.printed) (sym (append-nil s.text)) h);
+      appended = sym (append-nil old);
+    };
+  }
+
+  -- The next chunk was fed.
+  pub fed_more : (f g : EngineState S) (rest chunk later mid new : List ℕ) → chunk ++ later ≡ rest →
+      HasFed represents piece e f text rest old mid →
+      ((s : Session) → IsInSession represents piece f s → Continues represents piece g s.options s.pieces (s.text ++ chunk) s.printed (Some mid) (Some new)) →
+      HasFed represents piece e g text later old new
+  fed_more f g rest chunk later mid new cut h feeds = record {
+    done = h.done ++ chunk;
+    split = append_assoc h.done chunk later ∙ ap (λ (x : List ℕ). h.done ++ x) cut ∙ h.split;
+    feeds = λ s i.
+        let m = h.feeds s i in
+        let k = feeds (record s { text = s.text ++ h.done; printed = s.printed ++ m.more }) m.fed in
+        record {
+          more = m.more ++ k.more;
+          fed = subst (λ (x : List ℕ). EngineRepresents represents piece g s.options s.pieces (s.text ++ (h.done ++ chunk)) x) (append_assoc s.printed m.more k.more)
+              (subst (λ (x : List ℕ). EngineRepresents represents piece g s.options s.pieces x ((s.printed ++ m.more) ++ k.more)) (append_assoc s.text h.done chunk) k.fed);
+          appended = k.appended ∙ ap (λ (x : List ℕ). x ++ k.more) m.appended ∙ append_assoc old m.more k.more;
+        };
+  }
+
+  -- The whole text was fed.
+  pub fed_whole : (o : Options) (own : List Judged → Judged → List ℕ) (f : EngineState S) (new : List ℕ) →
+      HasFed represents piece e f text [] old new → IsInSession represents piece e (fresh o own) →
+      (more : List ℕ) × (EngineRepresents represents piece f o own text more × (new ≡ old ++ more))
+  fed_whole o own f new h i =
+      let m = h.feeds (fresh o own) i in
+      (m.more, (subst (λ (x : List ℕ). EngineRepresents represents piece f o own x m.more) (sym (append-nil h.done) ∙ h.split) m.fed, m.appended))
 
 -- The output for a text in one chunk, and then for its end.
 pub prints_whole : (o : Options) (piece : List Judged → Judged → List ℕ) (text old mid new more : List ℕ) (differs : Bool) → mid ≡ old ++ more →
@@ -41,14 +83,19 @@ pub piece_by_settings : (s : Settings) (blank b : Bool) (j : Judged) → blank �
 piece_by_settings s blank b j e h = ap₂ (λ (x y : Bool). mark_piece x (if y then complemented j else j)) e (sym h)
 
 -- The marks of a text that was printed.
-pub marks_printed : (o : Options) (piece : List Judged → Judged → List ℕ) (text old new : List ℕ) (r : Result Bool RunFault) → old ≡ [] → is_err r ≡ false →
-    IfOk r (λ differs. PrintsBy o piece text old new) → o.settings.listing ≡ Off →
+marks_printed : (o : Options) (piece : List Judged → Judged → List ℕ) (text new : List ℕ) → PrintsBy o piece text [] new → o.settings.listing ≡ Off →
     ((before : List Judged) → (j : Judged) → piece before j ≡ mark_piece o.settings.blank (judged_by o.settings j)) →
     (ms : List ℕ) → ms ≡ read_marks (texts_of text) (texts_of new) → AreMarks o text ms
-marks_printed o piece text old new (Ok differs) none right h off alone ms read =
-    are_marks o piece text new ms h.reads alone
-    (h.printed ∙ ap₂ (λ (x : List ℕ) (l : Listing). x ++ text_by l piece h.items h.tree) none off) read
-marks_printed o piece text old new (Err f) none right h off alone ms read = cc
+marks_printed o piece text new h off alone ms read =
+    are_marks o piece text new ms h.reads alone (h.printed ∙ ap (λ (l : Listing). text_by l piece h.items h.tree) off) read
+
+-- The marks of a text that one of two printers printed.
+pub marks_either : (o : Options) (p q : List Judged → Judged → List ℕ) (text new : List ℕ) → PrintsBy o p text [] new ⊎ PrintsBy o q text [] new → o.settings.listing ≡ Off →
+    ((before : List Judged) → (j : Judged) → p before j ≡ mark_piece o.settings.blank (judged_by o.settings j)) →
+    ((before : List Judged) → (j : Judged) → q before j ≡ mark_piece o.settings.blank (judged_by o.settings j)) →
+    (ms : List ℕ) → ms ≡ read_marks (texts_of text) (texts_of new) → AreMarks o text ms
+marks_either o p q text new (inl h) off alone other ms read = marks_printed o p text new h off alone ms read
+marks_either o p q text new (inr h) off alone other ms read = marks_printed o q text new h off other ms read
 
 -- The marks that were read, whatever the options.
 pub marks_found : {X E : Type 0} (items : X → List ℕ) (plan : PlanState) (text new : List ℕ) (found : Result X E) →

@@ -20,6 +20,7 @@ mod laws;
 mod line_marks;
 mod marked;
 mod node;
+mod printing;
 mod replacement;
 mod squeezed_run;
 mod stat;

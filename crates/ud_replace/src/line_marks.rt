@@ -1,18 +1,25 @@
 //! The marks of the lines of a text: what a run makes of each.
 
-ghost use Rattle.std.specs.Prelude.{◌≡◌, [], false, IfOk, IfSome};
+ghost use Rattle.std.specs.Prelude.{◌≡◌, ◌≤◌, ◌++◌, IfOk, IfSome, OnOk, length, replicate};
+ghost use Rattle.std.specs.Prelude.{take, true};
 ghost use Rattle.ud_model.specs.text.Lines.{texts_of};
 ghost use Rattle.ud_model.specs.declared.settings.Listing.TheVariants.{Off};
 ghost use Rattle.ud_args.specs.Plans.{ForOptionsOf};
-ghost use Rattle.ud_replace.specs.Marks.{AreMarks, PrintsBy, read_mark, read_marks};
+ghost use Rattle.ud_text.specs.bulk.BulkLexemes.{IsLineStart};
+ghost use Rattle.ud_diff.specs.declared.script.TheConstants.{SAME};
+ghost use Rattle.ud_replace.specs.Marks.{AreMarks, read_mark, read_marks};
 
 use crate::folded_marks::first_line;
 use crate::marked::Marked;
+use crate::printing::print_text;
 use std::alloc::{AllocError, Global};
 use ud_args::Plan;
 use ud_diff::SAME;
-use ud_engine::{Engine, RunFault, Watched};
-use ud_sections::{Complement, Show};
+use ud_sections::Complement;
+use ud_text::{count_lines, last_line_start};
+
+/// The most bytes of lines that are compared at once.
+const BLOCK_BYTES: usize = 512;
 
 /// Returns the marks of the lines of a text without a fault; `None` if memory runs out.
 pub(crate) fn marks_of(alloc: Global, plan: &Plan, text: &[u8]) -> Option<Vec<u8>>
@@ -20,16 +27,14 @@ pub(crate) fn marks_of(alloc: Global, plan: &Plan, text: &[u8]) -> Option<Vec<u8
         o.settings.listing ≡ Off → AreMarks o text.now marks.items)) }
 {
     let settings = plan.settings();
-    let printer = Marked::new(settings.blank);
-    let mut marked = Watched::new(Vec::<u8>::new(alloc));
-    let printed = if settings.complement {
-        print_text(plan, Complement::new(printer), text, &mut marked)
+    let marked = if settings.complement {
+        let printer = Complement::new(Marked::new(settings.blank));
+        let again = Complement::new(Marked::new(settings.blank));
+        print_text(alloc, plan, printer, again, text)?
     } else {
-        print_text(plan, printer, text, &mut marked)
+        let printer = Marked::new(settings.blank);
+        print_text(alloc, plan, printer, Marked::new(settings.blank), text)?
     };
-    if printed.is_err() {
-        return None;
-    }
     marks_in(alloc, text, marked.inner().as_slice()).ok()
 }
 
@@ -46,6 +51,37 @@ fn mark_in(line: &[u8], shown: &[u8]) -> u8
     }
 }
 
+/// Returns whether two texts are the same.
+fn are_same(text: &[u8], other: &[u8]) -> bool
+    ensures { result ≡ true → text.now ≡ other.now }
+{
+    text == other
+}
+
+/// Returns the length of some whole lines that two texts begin with; 0 if none is found at once.
+fn same_lines_len(text: &[u8], marked: &[u8]) -> usize
+    ensures within { (result ≤ length text.now) × (result ≤ length marked.now) }
+    ensures same { take result text.now ≡ take result marked.now }
+    ensures whole { IsLineStart (take result text.now) }
+{
+    let len = BLOCK_BYTES.min(text.len()).min(marked.len());
+    if are_same(&text[..len], &marked[..len]) {
+        last_line_start(&text[..len])
+    } else {
+        0
+    }
+}
+
+/// Appends the marks of some lines that stay.
+fn push_same(marks: &mut Vec<u8>, lines: usize) -> Result<(), AllocError>
+    ensures { OnOk result (marks.new.items ≡ marks.old.items ++ replicate lines SAME) }
+{
+    for _line in 0..lines {
+        marks.push(SAME)?;
+    }
+    Ok(())
+}
+
 /// Returns the marks of the lines of a text, by what `Marked` printed for it.
 fn marks_in(alloc: Global, text: &[u8], marked: &[u8]) -> Result<Vec<u8>, AllocError>
     ensures { IfOk result (λ marks.
@@ -54,29 +90,18 @@ fn marks_in(alloc: Global, text: &[u8], marked: &[u8]) -> Result<Vec<u8>, AllocE
     let mut marks = Vec::new(alloc);
     let (mut rest, mut printed) = (text, marked);
     while !printed.is_empty() {
-        let (line, later) = first_line(rest);
-        let (shown, after) = first_line(printed);
-        marks.push(mark_in(line, shown))?;
-        rest = later;
-        printed = after;
+        let same = same_lines_len(rest, printed);
+        if same > 0 {
+            let (lines, later) = rest.split_at(same);
+            let (_shown, after) = printed.split_at(same);
+            push_same(&mut marks, count_lines(lines))?;
+            (rest, printed) = (later, after);
+        } else {
+            let (line, later) = first_line(rest);
+            let (shown, after) = first_line(printed);
+            marks.push(mark_in(line, shown))?;
+            (rest, printed) = (later, after);
+        }
     }
     Ok(marks)
-}
-
-/// Appends the output of a printer for a text.
-fn print_text<S: Show>(
-    plan: &Plan,
-    printer: S,
-    text: &[u8],
-    out: &mut Watched<Vec<u8>>,
-) -> Result<bool, RunFault>
-    requires not_failed { out.old.failed ≡ false }
-    ensures { ForOptionsOf plan.now (λ o. S.represents printer [] →
-        IfOk result (λ differs. PrintsBy o (S.piece printer) text.now
-        out.old.inner.items out.new.inner.items)) }
-{
-    let mut engine = Engine::new(plan, printer);
-    engine.feed(text, out)?;
-    // In its place: an engine holds the longest line.
-    engine.finish_in_place(out)
 }

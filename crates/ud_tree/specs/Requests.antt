@@ -6,11 +6,13 @@
 --   decides gs              conditions are to be decided, or their names listed
 --   IsArgumentsOf gs args   the arguments of a run
 --   IsRequestOf gs r        the request
+--   is_one_of letters c     a letter is one of some
 --   IsFaultIn gs f          a fault of the command line
 --
 -- `gs` is what the words of the command line give, one option or path after another.
 use Rattle.std.specs.Prelude.{◌≡◌, ◌⊎◌, ℕ, List, [], true, false, Some, None, map, string_bytes}
-use Rattle.std.specs.Prelude.{codes, if◌then◌else◌, not, ◌&&◌, ◌||◌, ◌∷◌, Bool}
+use Rattle.std.specs.Prelude.{codes, if◌then◌else◌, not, ◌&&◌, ◌||◌, ◌==◌, ◌∷◌, Bool}
+use Rattle.std.specs.List.{list_any}
 use Rattle.ud_model.specs.answer.CommandLine.{UsageFault, unknown_option, missing_argument}
 use Rattle.ud_model.specs.answer.CommandLine.{bad_symbol_in, bad_mode_in, too_many_files}
 use Rattle.ud_model.specs.answer.CommandLine as args
@@ -113,6 +115,10 @@ IsRequestOf gs (Run args) = (first_fault gs ≡ None) × (has_flag (codes "h") g
 abbrev pub AreGiven : List ℕ → List ℕ → List Parsed → Type 0
 AreGiven a b gs = (has_flag a gs ≡ true) × (has_flag b gs ≡ true)
 
+-- `is_one_of letters c`: `c` is one of these letters.
+abbrev pub is_one_of : List ℕ → ℕ → Bool
+is_one_of letters c = list_any (λ l. l == c) letters
+
 -- `HasUsage gs f`: the options of unifdef(1) have the fault `f`.
 abbrev pub HasUsage : List Parsed → UsageFault → Type 0
 HasUsage gs f = args.first_fault (unifdef_args gs) ≡ Some f
@@ -131,11 +137,13 @@ IsFaultIn gs (MissingArgument c) = (first_fault gs ≡ Some (lacking c)) ⊎
     HasUsage gs (missing_argument c)
 IsFaultIn gs (BadSymbol w) = IsBadWord bad_symbol_in gs (string_bytes w)
 IsFaultIn gs (BadMode w) = IsBadWord bad_mode_in gs (string_bytes w)
-IsFaultIn gs (BesideNames c) = AreGiven (c ∷ []) (codes "s") gs
+IsFaultIn gs (BesideNames c) = (is_one_of (codes "ndpBwbcKkl") c ≡ true) ×
+    AreGiven (c ∷ []) (codes "s") gs
 IsFaultIn gs SymbolsAndNames = (has_symbols gs ≡ true) × (has_flag (codes "s") gs ≡ true)
 IsFaultIn gs PruningAndComplement = AreGiven (codes "p") (codes "c") gs
 IsFaultIn gs PruningAndPlain = AreGiven (codes "p") (codes "t") gs
-IsFaultIn gs (SqueezingBeside c) = AreGiven (codes "B") (c ∷ []) gs
+IsFaultIn gs (SqueezingBeside c) = (is_one_of (codes "blct") c ≡ true) ×
+    AreGiven (codes "B") (c ∷ []) gs
 IsFaultIn gs (OptionAfterPath w) = (n : ℕ) × (first_fault gs ≡ Some (late n (string_bytes w)))
 IsFaultIn gs PathsAndInput = (has_flag (codes "0") gs ≡ true) × ¬ (paths_in gs ≡ [])
 IsFaultIn gs NoPath = ((has_flag (codes "0") gs ≡ false) × (paths_in gs ≡ [])) ⊎

@@ -1,12 +1,13 @@
 //! The arguments of unifdef-tree(1), by POSIX XBD 12.2: options first, then paths.
 
 ghost use Rattle.std.specs.Prelude.{◌≡◌, None, IfOk, IfErr, IfSome, IfNone, map, string_bytes};
-ghost use Rattle.std.specs.Prelude.{◌∷◌, [], true};
+ghost use Rattle.std.specs.Prelude.{◌∷◌, [], codes, true};
 ghost use Rattle.ud_args.specs.ParsedArgs.{parsed};
 ghost use Rattle.ud_args.specs.ParsedSettings.{IsUsageOf};
 ghost use Rattle.ud_args.specs.TreeWords.{given_in, first_fault, has_flag, unifdef_args};
 ghost use Rattle.ud_tree.specs.Requests.{IsRequestOf, IsArgumentsOf, IsFaultIn};
-ghost use Rattle.ud_tree.specs.Requests.{AreFitting, HasNoChange, LeavesLines, decides, task_of};
+ghost use Rattle.ud_tree.specs.Requests.{AreFitting, HasNoChange, LeavesLines, decides, is_one_of};
+ghost use Rattle.ud_tree.specs.Requests.{task_of};
 
 use std::alloc::Global;
 use ud_args::{
@@ -204,6 +205,7 @@ fn clash(given: &[ParsedArg<'_>]) -> Option<ArgumentFault>
 
 /// Returns a flag that says how files are changed, if one is given.
 fn beside_names(given: &[ParsedArg<'_>]) -> Option<char>
+    ensures letter { IfSome result (λ c. is_one_of (codes "ndpBwbcKkl") c ≡ true) }
     ensures given { IfSome result (λ c. has_flag (c ∷ []) (parsed given.now) ≡ true) }
     ensures fits { IfNone result (HasNoChange (parsed given.now)) }
 {
@@ -234,6 +236,7 @@ fn beside_names(given: &[ParsedArg<'_>]) -> Option<char>
 
 /// Returns a flag with which no blank lines can go, if one is given.
 fn beside_squeezing(given: &[ParsedArg<'_>]) -> Option<char>
+    ensures letter { IfSome result (λ c. is_one_of (codes "blct") c ≡ true) }
     ensures given { IfSome result (λ c. has_flag (c ∷ []) (parsed given.now) ≡ true) }
     ensures fits { IfNone result (LeavesLines (parsed given.now)) }
 {

@@ -46,27 +46,32 @@ pub(crate) fn show_file<T: Tree, W: Write, E: Write>(
     let mut output = Watched::new(Vec::<u8>::new(job.alloc));
     let mut text = Vec::new(job.alloc);
     let result = run_file(job, tree, file, &mut text, &mut output);
-    report.find_names(job, text.as_slice());
+    let text = text.as_slice();
     let ran = match result {
         Ok(ran) => ran,
-        Err(error) => return Err(error),
+        Err(error) => {
+            report.find_names(job, text);
+            return Err(error);
+        }
     };
     let name = file.name;
+    let output = output.inner().as_slice();
     if !ran.run.differs {
-        report.search(job, name, output.inner().as_slice());
+        report.find(job, name, text, output, text == output);
         return Ok(Update::Unchanged);
     }
+    report.find_names(job, text);
     if is_left_alone(&ran.stat, job.arguments.write_into) {
         return Err(ReplaceError::SeveralLinks);
     }
-    let Some(diff) = diff_of(job, name, text.as_slice(), output.inner().as_slice()) else {
+    let Some(diff) = diff_of(job, name, text, output) else {
         return Err(ReplaceError::OutOfMemory);
     };
     *edits = Edits {
         conditions: ran.run.edited,
-        lines: removed_by(Update::Replaced, text.as_slice(), output.inner().as_slice()),
+        lines: removed_by(Update::Replaced, text, output),
     };
-    report.search(job, name, output.inner().as_slice());
+    report.search(job, name, output);
     send(out, diff.as_slice());
     Ok(Update::Replaced)
 }

@@ -1,5 +1,4 @@
 -- By the search of the output.
-use Rattle.std.proofs.Common.{◌∙◌}
 use Rattle.ud_tree.proofs.report.Report.add.Goals as goal
 
 pub returns-clause-added : goal.returns-clause-added

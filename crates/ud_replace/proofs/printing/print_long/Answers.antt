@@ -1,7 +1,7 @@
 -- The engine is fed the text, and ends.
 use Rattle.std.proofs.Common.{refl}
 use Rattle.ud_replace.proofs.PrintLemmas.{fresh, finish_prints}
-use Rattle.ud_replace.proofs.line_marks.print_text.Goals as goal
+use Rattle.ud_replace.proofs.printing.print_long.Goals as goal
 
 pub returns : goal.returns
 returns g c = λ o settings table begun.
