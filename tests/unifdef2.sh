@@ -161,6 +161,15 @@ options() {
   (umask 077; gives 1 '' -DA -o private in.c)
   [ "$(stat -c %a private)" = 600 ]
   note $? 'the mode of a new file'
+  # Letters with their words attached or apart.
+  fresh
+  gives 0 '' -x2 -DA -oout.c a.c
+  has out.c a
+  gives 0 '' -Bx 2 -o out.c -UA a.c
+  has out.c b
+  gives 1 '' -m -DA a.c c.c
+  has a.c a
+  has c.c a
   # Bytes of a name and of a value, and words that begin with a hyphen.
   fresh
   local name=$'-n a\n\'"$(x)`y`\\*'
@@ -252,11 +261,17 @@ headers() {
   decides "don't /*\n#define A 2\n" "$ask" '2\n'
   decides '#include <x.h>\n#error "x"\n#\n#define\n#define 2 A\n#define B$ 1\n#define defined\n#define A 2\n' "$ask#ifdef B\n#endif\n" '2\n#ifdef B\n#endif\n'
   decides '' "$ask" "$ask"
+  # A header as autoconf writes it, whose conditions and macros with arguments decide nothing.
+  decides '/* #undef HAVE_A */\n#ifndef GUARD\n#define GUARD\n#define HAVE_B\t\t1 /* yes */\n#define E
+#define F(x) x\n#ifdef __cplusplus\n#define inline\n#endif\n#define HAVE_B 2\n#endif\n' \
+    '#ifdef HAVE_A\na\n#endif\n#if HAVE_B > 1\nb\n#endif\n#if F(1)\nf\n#endif\n#ifdef inline\ni\n#endif\n' \
+    'b\n#if F(1)\nf\n#endif\n#ifdef inline\ni\n#endif\n'
   # Several headers, and their place among the options.
   fresh
   echo '#define A' > s.h
   echo '#undef A' > u.h
   gives 1 a -fs.h in.c
+  gives 0 a -fs.h -x2 -
   gives 1 b -fs.h -f u.h in.c
   gives 1 a -UA -fs.h in.c
   gives 1 b -fs.h -UA in.c

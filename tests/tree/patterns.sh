@@ -18,6 +18,9 @@ test_rules() {
   check same "$(left_in VMS)" 't/e.tpl t/old/b.c '
   run 1 -q -UVMS -g '!old' t/old
   check same "$(left_in VMS)" 't/e.tpl '
+  run 1 -r -UVMS -g '*.tpl' t
+  says_only '1 changed, 0 unchanged, 0 faulty' '3 lines removed' '0 conditions still name a symbol'
+  check same "$(left_in VMS)" ''
 }
 
 # chooses NAMES WORD..: of a fresh tree with ${files[@]}, a run changes these, in this order.

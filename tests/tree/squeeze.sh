@@ -31,6 +31,11 @@ test_squeezed() {
     '#define X \\\n\n}\n/* x\n\n\n y */\nz;\n'
   squeezes "a;\n\n\n$gone\nb;\n$gone\n${gone}c;\n\n#if VMS || \\\\\n  X\n\nd;\n\n$gone#endif\n\n$gone" \
     'a;\n\n\nb;\n\nc;\n\n#if X\nd;\n#endif\n' -p
+  squeezes '#define X \\\n\n#ifdef VMS\nv\n#endif\n}\n/*\n\n\n*/\n' \
+    '#define X \\\n\n}\n/*\n\n\n*/\n'
+  gone='#ifdef VMS\n#endif\n'
+  squeezes "a;\n\n\n$gone\nb;\n$gone\n${gone}c;\n\n#if VMS || \\\\\n  X\nd;\n\n$gone#endif\n\n$gone" \
+    'a;\n\n\nb;\n\nc;\n\n#if X\nd;\n#endif\n' -p
 }
 
 # The counts, the diffs and the list.
