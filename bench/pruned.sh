@@ -25,6 +25,18 @@ unpacked() {
     directory=$(find "$work/tree" -mindepth 1 -maxdepth 1 -type d)
 }
 
+# squeezed OPTION..: checks that what -B makes of the copy differs from what -p made in blank lines
+# alone, and that a second run changes nothing.
+squeezed() {
+  local pruned=$directory directory=$work/copy
+  if ! run -B -p "$@" || ! diff -rB --no-dereference "$pruned" "$directory" > "$work/said" ||
+    ! run -B -p "$@" || ! grep -q '^unifdef-tree: 0 changed' "$work/said"; then
+    cat "$work/said" >&2
+    echo "pruned: -B fails: ${pruned##*/}" >&2
+    exit 1
+  fi
+}
+
 # pruned PACKAGE OPTION..: prints a row of the table.
 pruned() {
   local package=$1 directory without
@@ -33,12 +45,14 @@ pruned() {
     { echo "pruned: left out: $package: $(tail -n 1 "$work/log")" >&2; return 0; }
   run -n "$@" || true # A directive over several lines that would go is a fault without -p.
   without=$(counted 'still name')
+  rm -rf "$work/copy" && cp -a "$directory" "$work/copy"
   run -p -r "$@" || { cat "$work/said" >&2; exit 1; }
   # shellcheck disable=SC2016 # These are quotes of Markdown.
   printf '| %s | `%s` | %s | %s | %s |\n' "${directory##*/}" "$*" "$without" "$(counted 'edited')" "$(counted 'still name')"
   cut -d: -f3 "$work/listed" | sort | uniq -c >> "$work/reasons"
   run -p "$@" || { cat "$work/said" >&2; exit 1; }
   grep -q '^unifdef-tree: 0 changed' "$work/said" || { echo "pruned: a second run changes $package" >&2; exit 1; }
+  squeezed "$@"
 }
 
 # shellcheck disable=SC2016 # These too.
