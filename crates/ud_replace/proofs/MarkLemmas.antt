@@ -55,7 +55,7 @@ later_up_to s used false up = nothing_after s used (up.all refl).0 ∙ sym (no_l
 pub cut_len : (n : ℕ) (s : List ℕ) → n < length s → n ≡ length (take n s)
 cut_len n s h = sym (length-take-le n s (omega arith))
 
--- What is within the first bytes is within all.
+-- A number within the first bytes is within all.
 pub within_cut : (n r : ℕ) (s : List ℕ) → r ≤ length (take n s) → (r ≤ n) × (r ≤ length s)
 within_cut n r s h = let e = length-take n s in (omega arith, omega arith)
 
@@ -64,7 +64,7 @@ pub same_cut : (n r : ℕ) (s t : List ℕ) → take n s ≡ take n t → r ≤ 
 same_cut n r s t same within =
     sym (take-take r n s (within_cut n r s within).0) ∙ ap (take r) same ∙ take-take r n t (within_cut n r s within).0
 
--- What is within the same first bytes of two texts is within both.
+-- A number within the same first bytes of two texts is within both.
 pub within_both : (n r : ℕ) (s t : List ℕ) → take n s ≡ take n t → r ≤ length (take n s) → (r ≤ length s) × (r ≤ length t)
 within_both n r s t same h = ((within_cut n r s h).1, (within_cut n r t (subst (λ (x : List ℕ). r ≤ length x) same h)).1)
 

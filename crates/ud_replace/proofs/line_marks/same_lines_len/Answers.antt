@@ -1,4 +1,4 @@
--- The same bytes have the same whole lines.
+-- Equal bytes have equal whole lines.
 use Rattle.ud_text.specs.bulk.BulkLexemes.{at_start}
 use Rattle.ud_replace.proofs.MarkLemmas.{same_cut, within_both}
 use Rattle.ud_replace.proofs.line_marks.same_lines_len.Goals as goal
