@@ -12,16 +12,16 @@ test_names_of_conditions() {
 /*\n#if C\n*/\n#if(A)\n#endif\n'
   put src/c.h '#endif\n'
   run 2 -s src
-  prints $' 3 A\n 1 B\n 1 C' squeezed
-  says '2 files listed, 1 faulty; 3 conditions could not be listed; -r lists them'
+  prints $' 4 A\n 1 B\n 1 C\n 1 D' squeezed
+  says '2 files listed, 1 faulty; 2 conditions could not be listed; -r lists them'
   tree -s -r src
-  prints 'src/b.h:1: #if A && \
-src/b.h:3: #elif E ? 1 : 2
+  prints 'src/b.h:3: #elif E ? 1 : 2
 src/b.h:5: #ifdef X Y
- 3 A
+ 4 A
  1 B
- 1 C' squeezed
-  says '2 files listed, 1 faulty; 3 conditions could not be listed'
+ 1 C
+ 1 D' squeezed
+  says '2 files listed, 1 faulty; 2 conditions could not be listed'
   check same "$(grep -c 'names a symbol' "$work/err")" 0
   put src/c.h '#if C\n#elif D && D\n#endif\n#else\n#if C && E\n#endif\n'
   run 2 -s src/c.h
@@ -44,6 +44,43 @@ src/crlf.h:6: #elifdef A B \'
   tree -s src
   prints ' 1 FULL' squeezed
   says '1 file listed, 0 faulty; 0 conditions could not be listed'
+}
+
+# Conditions over several lines: each is listed as if it were on one.
+test_names_over_lines() {
+  fresh
+  put src/a.c '#if A && \\\n  B\n#elif C /* c\n  d */ || D\n#else \\\n\n#endif\n#ifdef E \\\n\n#endif\n'
+  run 0 -s src
+  prints $' 1 A\n 1 B\n 1 C\n 1 D\n 1 E' squeezed
+  says '1 file listed, 0 faulty; 0 conditions could not be listed'
+  run 0 -s -r -t src
+  prints 'src/a.c:1: #if A && \
+src/a.c:3: #elif C /* c
+src/a.c:8: #ifdef E \'
+  # What isn't understood even so is listed by its first line. A file with a vertical tab, a condition
+  # with a quote and one with a split word are read line by line.
+  put src/a.c '#if A && \\\n  B\n#endif\n#if C D \\\n  E\n#elif F /* x\n\n*/ G\n#endif\n#if H I\n#endif\n'
+  put src/b.c '#if A && \\\r\n  B\r\n#endif\r\n#if C D \\\r\n  E\r\n#endif\r\n#if H I\r\n#endif\r\n'
+  put src/c.c '#if A && \\\n  B\n#endif\n\v\n#if C D\n#endif\n'
+  put src/d.c '#if A && "q" \\\n  B\n#elif A \\\n\n#endif\n#if A\\\nB\n#endif\n'
+  run 0 -s -r src
+  prints 'src/a.c:4: #if C D \
+src/a.c:6: #elif F /* x
+src/a.c:10: #if H I
+src/b.c:4: #if C D \
+src/b.c:7: #if H I
+src/c.c:1: #if A && \
+src/c.c:5: #if C D
+src/d.c:1: #if A && "q" \
+src/d.c:6: #if A\
+ 3 A
+ 2 B' squeezed
+  says '4 files listed, 0 faulty; 9 conditions could not be listed'
+  # A fault has the number of its line, and then the names are those of each line.
+  put src/d.c '#if A && \\\n  B\n#elif C\n#endif\n#endif\n'
+  run 2 -s src/d.c
+  prints ' 1 C' squeezed
+  check grep -qx 'unifdef: src/d.c: 5: Inappropriate #endif' "$work/err"
 }
 
 # What still names a symbol.

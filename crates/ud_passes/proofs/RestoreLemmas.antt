@@ -42,7 +42,7 @@ line_restored l h = grind arith
 pub long_restored : (l : Line) → fits l ≡ false → restored_line l ≡ text_of l
 long_restored l h = grind arith
 
-renumbered : (l : Line) (n : ℕ) → restored_line (record l { number = n }) ≡ restored_line l
+pub renumbered : (l : Line) (n : ℕ) → restored_line (record l { number = n }) ≡ restored_line l
 renumbered l n = let k : Line = record l { number = n } in
     ap (λ (s : Scan). if fits l then restored_body l.ending l.body s.masked ++ l.ending else text_of l) (scan_after-same [] [] C k l refl refl refl)
 

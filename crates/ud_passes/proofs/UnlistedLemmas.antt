@@ -1,18 +1,26 @@
 -- Unlisted conditions: those of one line more, and of many text lines more.
-use Rattle.std.proofs.Common.{◌≡◌, ℕ, ◌+◌, List, [], ◌∷◌, ◌++◌, length, length-append, append_assoc, append-nil, Bool, true, false, if◌then◌else◌, refl, ap, arith}
-use Rattle.std.specs.List.{filter}
+use Rattle.std.proofs.Common.{◌≡◌, ℕ, ◌+◌, List, [], ◌∷◌, ◌++◌, length, length-append, append_assoc, append-nil, map, take, drop, take-append-drop, Bool, true, false, if◌then◌else◌, refl, sym, ◌∙◌, ap, ap₂, arith}
+use Rattle.std.specs.List.{filter, concat, count_by}
 use Rattle.std.proofs.lemmas.List.Elements.{filter-append}
+use Rattle.std.proofs.lemmas.List.Sums.{sum_by-append}
 use Rattle.std.proofs.lemmas.Grind.{common_steps, flat_map-append}
-use Rattle.ud_model.specs.text.Lines.{Line, whole_lines}
+use Rattle.std.proofs.lemmas.List.{take_all}
+use Rattle.std.proofs.Math.Nat.{le_refl}
+use Rattle.ud_model.specs.text.Lines.{Line, NoNewline, SplitLines, split_lines, last_line, line_at, numbered_from, lines_of, text_of}
+use Rattle.ud_model.proofs.text.LinesLemmas.{split_lines-line-prefix, split_lines-open}
+use Rattle.ud_text.specs.lines.LinesState.{UpToNewline}
+use Rattle.ud_simplified.specs.FoldedTexts.{restored_line}
 use Rattle.ud_model.specs.text.Scans.{Reading}
 use Rattle.ud_model.specs.sections.Directives.{text, content_of}
 use Rattle.ud_passes.specs.Passes.{fits, numbered_line}
 use Rattle.ud_passes.specs.Walks.{read_after, AreTexts, HaveBytes, Walked}
+use Rattle.ud_passes.specs.folding.LogicalLines.{plain_lines}
 use Rattle.ud_passes.specs.declared.names.texts.File.{File}
 use Rattle.ud_passes.specs.declared.names.texts.Found.{Found}
 use Rattle.ud_passes.specs.declared.walk.Walk.{Walk}
-use Rattle.ud_passes.specs.names.UnlistedConditions.{is_unlisted_line}
+use Rattle.ud_passes.specs.names.UnlistedConditions.{is_unlisted_line, breaks, first_body, shown_body, listed_line, listed_from}
 use Rattle.ud_passes.specs.names.UnlistedLines.{listed_text, Listed}
+use Rattle.ud_passes.proofs.RestoreLemmas.{renumbered}
 
 text_listed : (r : Reading) → content_of r.scan ≡ text → is_unlisted_line r ≡ false
 text_listed r e = grind arith
@@ -21,32 +29,104 @@ pub texts_unlisted : (rs : List Reading) → AreTexts rs → filter is_unlisted_
 texts_unlisted [] h = refl
 texts_unlisted (r ∷ rs) h = grind (arith, text_listed, texts_unlisted rs h.1)
 
-pub unlisted-append : (before rs : List Reading) → filter is_unlisted_line (before ++ rs) ≡ filter is_unlisted_line before ++ filter is_unlisted_line rs
+unlisted-append : (before rs : List Reading) → filter is_unlisted_line (before ++ rs) ≡ filter is_unlisted_line before ++ filter is_unlisted_line rs
 unlisted-append before rs = filter-append is_unlisted_line before rs
 
-pub listed-append : (lists : Bool) (file : List ℕ) (before rs : List Reading) → listed_text lists file (before ++ rs) ≡ listed_text lists file before ++ listed_text lists file rs
-listed-append lists file before rs = grind (arith, common_steps, unlisted-append, flat_map-append)
+breaks-append : (folded : Bool) (xs ys : List ℕ) → breaks folded (xs ++ ys) ≡ breaks folded xs + breaks folded ys
+breaks-append folded xs ys = sum_by-append _ xs ys
+
+lines-append : (before rs : List Reading) → plain_lines (before ++ rs) ≡ plain_lines before ++ plain_lines rs
+lines-append before rs = flat_map-append (λ (r : Reading). text_of r.line) before rs
+
+breaks-lines : (folded : Bool) (before rs : List Reading) → breaks folded (plain_lines (before ++ rs)) ≡ breaks folded (plain_lines before) + breaks folded (plain_lines rs)
+breaks-lines folded before rs = ap (λ (x : List ℕ). breaks folded x) (lines-append before rs) ∙ breaks-append folded (plain_lines before) (plain_lines rs)
+
+-- The bytes of lines.
+bytes_of_lines : (rs : List Reading) → plain_lines rs ≡ concat (map (λ (r : Reading). text_of r.line) rs)
+bytes_of_lines [] = refl
+bytes_of_lines (r ∷ rs) = ap (λ (x : List ℕ). text_of r.line ++ x) (bytes_of_lines rs)
+
+-- The list of lines, and then of others.
+from-append : (file : List ℕ) (folded : Bool) (n : ℕ) (before rs : List Reading) →
+    listed_from file folded n (before ++ rs) ≡ listed_from file folded n before ++ listed_from file folded (n + breaks folded (plain_lines before)) rs
+from-append file folded n [] rs = grind arith
+from-append file folded n (r ∷ before) rs = let m = n + breaks folded (text_of r.line) in
+    let e : m + breaks folded (plain_lines before) ≡ n + breaks folded (text_of r.line ++ plain_lines before) = omega (arith, breaks-append folded (text_of r.line) (plain_lines before)) in
+    ap (λ (x : List ℕ). listed_line file folded n r ++ x) (from-append file folded m before rs ∙ ap (λ (k : ℕ). listed_from file folded m before ++ listed_from file folded k rs) e)
+    ∙ sym (append_assoc (listed_line file folded n r) (listed_from file folded m before) _)
+
+-- Text lines aren't listed.
+texts_from : (file : List ℕ) (folded : Bool) (n : ℕ) (rs : List Reading) → AreTexts rs → listed_from file folded n rs ≡ []
+texts_from file folded n [] h = refl
+texts_from file folded n (r ∷ rs) h = grind (arith, text_listed r h.0, texts_from file folded (n + breaks folded (text_of r.line)) rs h.1)
+
+-- A line that isn't listed, and one that is, whatever its number was.
+one_unlisted : (file : List ℕ) (folded : Bool) (n : ℕ) (r : Reading) → is_unlisted_line r ≡ false → listed_from file folded n (r ∷ []) ≡ []
+one_unlisted file folded n r e = grind arith
+
+one_listed : (file : List ℕ) (folded : Bool) (n : ℕ) (r : Reading) → is_unlisted_line r ≡ true → listed_from file folded n (r ∷ []) ≡ numbered_line file n (shown_body folded r.line)
+one_listed file folded n r e = grind (arith, append-nil)
+
+shown_renumbered : (folded : Bool) (k : Line) (n : ℕ) → shown_body folded (record k { number = n }) ≡ shown_body folded k
+shown_renumbered true k n = grind (arith, renumbered)
+shown_renumbered false k n = refl
+
+-- The first line of a text.
+first_of_all : (s : List ℕ) → NoNewline s → first_body (lines_of s) ≡ (line_at 1 s).body
+unfolding split_lines
+first_of_all [] none = refl
+first_of_all (b ∷ bs) none = ap (λ (q : SplitLines). first_body (numbered_from 1 (q.whole ++ last_line q.rest))) (split_lines-open (b ∷ bs) none)
+
+first_of_up_to : (s : List ℕ) (used : ℕ) (whole : Bool) → UpToNewline s used whole → first_body (lines_of s) ≡ (line_at 1 (take used s)).body
+first_of_up_to s used true up =
+    ap (λ (x : List ℕ). first_body (lines_of x)) (sym (take-append-drop used s))
+    ∙ ap (λ (q : SplitLines). first_body (numbered_from 1 (q.whole ++ last_line q.rest))) (split_lines-line-prefix (take used s) (drop used s) (up.line refl))
+first_of_up_to s used false up =
+    first_of_all s (up.all refl).1
+    ∙ ap (λ (x : List ℕ). (line_at 1 x).body) (sym (ap (λ (k : ℕ). take k s) (up.all refl).0 ∙ take_all (length s) s (le_refl (length s))))
+
+pub first_shown : (l k : Line) (s : List ℕ) (used : ℕ) (whole : Bool) → s ≡ restored_line l → UpToNewline s used whole → k ≡ line_at 1 (take used s) → k.body ≡ shown_body true l
+first_shown l k s used whole e up is = ap (λ (x : Line). x.body) is ∙ sym (first_of_up_to s used whole up) ∙ ap (λ (x : List ℕ). first_body (lines_of x)) e
+
+-- The list of a file, if it is wanted.
+listed-append : (file : File) (before rs : List Reading) (n : ℕ) → (file.lists ≡ true → n ≡ 1 + breaks file.folded (plain_lines before)) →
+    listed_text file (before ++ rs) ≡ listed_text file before ++ (if file.lists then listed_from file.name.now file.folded n rs else [])
+listed-append file before rs n e = grind (arith, from-append)
 
 -- The place of a walk after more lines.
 module _ (file : File) (text start : List ℕ) (found : Found) (walk : Walk) (out : List ℕ) (l : Listed file text start found walk out) (next : Walk) where
-  none_more : (rs : List Reading) (n : ℕ) → filter is_unlisted_line rs ≡ [] → (file.lists ≡ true → n ≡ length rs) →
-      Walked file.mode text (l.read ++ rs) next.rest.now next.scanner → Listed file text start (record { count = found.count; number = found.number + n }) next out
-  none_more rs n e m w = grind (arith, unlisted-append, append-nil, length-append)
+  -- After the lines `rs`.
+  more_lines : (rs : List Reading) → Walked file.mode text (l.read ++ rs) next.rest.now next.scanner → (after : Found) →
+      after.count ≡ found.count + length (filter is_unlisted_line rs) → (file.lists ≡ true → after.number ≡ found.number + breaks file.folded (plain_lines rs)) →
+      (more : List ℕ) → more ≡ out ++ (if file.lists then listed_from file.name.now file.folded found.number rs else []) → Listed file text start after next more
+  more_lines rs w after counts numbers more m = record {
+    read = l.read ++ rs;
+    walked = w;
+    count_is = grind (arith, unlisted-append, length-append, counts, l.count_is);
+    number_is = λ t. omega (arith, breaks-lines file.folded l.read rs, numbers t, l.number_is t);
+    list_is = m ∙ grind (arith, append_assoc, listed-append file l.read rs found.number l.number_is, l.list_is);
+  }
 
-  pub texts_more : (bytes : List ℕ) (rs : List Reading) (n : ℕ) → AreTexts rs → HaveBytes bytes rs → (file.lists ≡ true → n ≡ length (whole_lines bytes)) →
-      Walked file.mode text (l.read ++ rs) next.rest.now next.scanner → Listed file text start (record { count = found.count; number = found.number + n }) next out
-  texts_more bytes rs n h b m w = grind (arith, unlisted-append, append-nil, length-append, texts_unlisted)
+  pub texts_more : (bytes : List ℕ) (rs : List Reading) → AreTexts rs → HaveBytes bytes rs → Walked file.mode text (l.read ++ rs) next.rest.now next.scanner → (n : ℕ) →
+      (file.lists ≡ true → n ≡ breaks file.folded bytes) → Listed file text start (record { count = found.count; number = found.number + n }) next out
+  texts_more bytes rs h b w n m = more_lines rs w (record { count = found.count; number = found.number + n }) (grind (arith, texts_unlisted rs h))
+      (λ t. grind (arith, m t, bytes_of_lines, b.bytes_are)) out (grind (arith, append-nil, texts_from file.name.now file.folded found.number rs h))
 
-  module _ (k : Line) (w : Walked file.mode text (l.read ++ read_after file.mode l.read k ∷ []) next.rest.now next.scanner) where
+  module _ (k : Line) (w : Walked file.mode text (l.read ++ read_after file.mode l.read k ∷ []) next.rest.now next.scanner) (after : Found)
+      (numbers : file.lists ≡ true → after.number ≡ found.number + breaks file.folded (text_of k)) where
     abbrev r : Reading
     r = read_after file.mode l.read k
 
-    pub line_more : is_unlisted_line r ≡ false → Listed file text start (record { count = found.count; number = found.number + 1 }) next out
-    line_more e = none_more (r ∷ []) 1 (ap (λ (b : Bool). if b then r ∷ [] else []) e) (λ t. refl) w
+    number_after : file.lists ≡ true → after.number ≡ found.number + breaks file.folded (plain_lines (r ∷ []))
+    number_after t = numbers t ∙ ap (λ (x : List ℕ). found.number + breaks file.folded x) (sym (append-nil (text_of k)))
 
-    pub line_found : is_unlisted_line r ≡ true → (count number : ℕ) → count ≡ found.count + 1 → number ≡ found.number + 1 → (more : List ℕ) →
-        more ≡ out ++ (if file.lists then numbered_line file.name.now found.number k.body else []) → Listed file text start (record { count = count; number = number }) next more
-    line_found e count number c n more m = grind (arith, length-append, append_assoc, listed-append, unlisted-append, append-nil)
+    pub line_more : is_unlisted_line r ≡ false → after.count ≡ found.count → Listed file text start after next out
+    line_more e same = more_lines (r ∷ []) w after (grind arith) number_after out (grind (arith, append-nil))
+
+    pub line_found : is_unlisted_line r ≡ true → after.count ≡ found.count + 1 → (more : List ℕ) →
+        more ≡ out ++ (if file.lists then numbered_line file.name.now found.number (shown_body file.folded k) else []) → Listed file text start after next more
+    line_found e counts more m = more_lines (r ∷ []) w after (grind arith) number_after more
+        (grind (arith, append-nil, shown_renumbered file.folded k (1 + length l.read)))
 
 pub long_line : (r : Reading) → fits r.line ≡ false → is_unlisted_line r ≡ false
 long_line r e = grind arith

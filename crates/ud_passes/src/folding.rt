@@ -13,5 +13,7 @@ mod shown;
 mod texts;
 
 pub(crate) use logical::begins;
+pub(crate) use restored::append_restored_line;
 pub use restored::restore;
+pub(crate) use shown::VERTICAL_TAB;
 pub use texts::fold;

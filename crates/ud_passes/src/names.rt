@@ -80,13 +80,21 @@ impl Names {
         self.list.extend_from_slice(list)
     }
 
-    /// Adds the conditions of a file's text that can't be listed. Its lines are read in `mode`.
+    /// Adds the conditions of a file's text that can't be listed. Its lines are read in `mode`. If
+    /// the text is `folded`, a condition is listed by the first of the lines that its line
+    /// represents.
     ///
     /// The text may have any length and any bytes. The count stops at the largest `usize`.
     ///
     /// # Errors
     /// Fails if memory runs out. Then nothing was added.
-    pub fn add_hidden(&mut self, file: &[u8], text: &[u8], mode: Mode) -> Result<(), AllocError>
+    pub fn add_hidden(
+        &mut self,
+        file: &[u8],
+        text: &[u8],
+        mode: Mode,
+        folded: bool,
+    ) -> Result<(), AllocError>
         ensures list { self.new.list.items ≡ self.old.list.items }
         ensures hidden { OnOk result
             (self.old.hidden + length (unlisted_in mode text.now) < 2 ^ 64 →
@@ -94,7 +102,8 @@ impl Names {
         ensures lists { self.new.lists_hidden ≡ self.old.lists_hidden }
         ensures hidden_list { OnOk result
             (self.new.hidden_list.items ≡ self.old.hidden_list.items ++
-            (if self.old.lists_hidden then unlisted_text file.now mode text.now else [])) }
+            (if self.old.lists_hidden then unlisted_text file.now mode folded text.now
+            else [])) }
         ensures unchanged { OnErr result ((self.new.hidden ≡ self.old.hidden) ×
             (self.new.hidden_list.items ≡ self.old.hidden_list.items)) }
     {
@@ -102,6 +111,7 @@ impl Names {
             name: file,
             mode,
             lists: self.lists_hidden,
+            folded,
         };
         let count = list_unlisted(self.alloc, file, text, &mut self.hidden_list)?;
         self.hidden = self.hidden.saturating_add(count);
@@ -135,8 +145,8 @@ fn list_unlisted(
 ) -> Result<usize, AllocError>
     ensures count { IfOk result (λ n. n ≡ length (unlisted_in file.entry.mode text.now)) }
     ensures list { list.new.items ≡ (if is_ok result then list.old.items ++
-        (if file.entry.lists then unlisted_text file.entry.name.now file.entry.mode text.now
-        else [])
+        (if file.entry.lists then unlisted_text file.entry.name.now file.entry.mode
+        file.entry.folded text.now else [])
         else list.old.items) }
 {
     let before = list.len();

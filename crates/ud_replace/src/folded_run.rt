@@ -31,7 +31,7 @@ pub fn may_fold(settings: Settings) -> bool
 ///
 /// # Errors
 /// `OutOfMemory` if memory can't be allocated.
-fn folded(alloc: Global, text: &[u8]) -> Result<Vec<u8>, ReplaceError>
+pub fn folded(alloc: Global, text: &[u8]) -> Result<Vec<u8>, ReplaceError>
     ensures { MatchResult result (λ v. v.items ≡ folded_text text.now)
         (λ e. e ≡ ReplaceError.OutOfMemory) }
 {
@@ -61,7 +61,7 @@ fn restored(alloc: Global, text: &[u8]) -> Result<Vec<u8>, ReplaceError>
 ///
 /// # Errors
 /// `OutOfMemory` if memory can't be allocated.
-fn goes_back(alloc: Global, folded: &[u8], text: &[u8]) -> Result<bool, ReplaceError>
+pub fn goes_back(alloc: Global, folded: &[u8], text: &[u8]) -> Result<bool, ReplaceError>
     ensures { MatchResult result (λ b. b ≡ spec.goes_back folded.now text.now)
         (λ e. e ≡ ReplaceError.OutOfMemory) }
 {

@@ -30,7 +30,7 @@ mod text_run;
 pub use call::{DirectoryCall, DirectoryWalk};
 pub use directory::{CreateError, Directory};
 pub use error::{ReplaceError, Update};
-pub use folded_run::may_fold;
+pub use folded_run::{folded, goes_back, may_fold};
 pub use history::History;
 pub use laws::{law_old_or_new, law_one_rename};
 pub use node::{FileId, Lookup, Node, NodeKind};

@@ -1,11 +1,11 @@
 -- Shown: lemmas on a run over a text that was read.
-use Rattle.std.proofs.Common.{◌≡◌, ◌⊎◌, ℕ, ◌<◌, ◌≤◌, List, [], ◌∷◌, ◌++◌, ◌∙◌, Bool, true, false, if◌then◌else◌, Some, Result, Ok, Err, refl, sym, ap, subst, append-nil, arith}
-use Rattle.std.proofs.lemmas.Bool.{true≢false}
+use Rattle.std.proofs.Common.{◌≡◌, ◌⊎◌, ℕ, ◌<◌, ◌≤◌, List, [], ◌∷◌, ◌++◌, ◌∙◌, Bool, true, false, if◌then◌else◌, Some, Result, Ok, Err, OnOk, refl, sym, ap, subst, append-nil, arith}
 use Rattle.ud_diff.specs.Patching.{IsDiff}
 use Rattle.ud_replace.specs.declared.error.Update.{Update}
 use Rattle.ud_replace.specs.declared.error.Update.TheVariants.{Unchanged, Replaced}
 use Rattle.ud_replace.specs.declared.error.ReplaceError.{ReplaceError}
-use Rattle.ud_replace.specs.declared.error.ReplaceError.TheVariants.{OutOfMemory, SeveralLinks}
+use Rattle.ud_replace.specs.declared.error.ReplaceError.TheVariants.{OutOfMemory, SeveralLinks, Text}
+use Rattle.ud_faults.specs.declared.run.RunFault.{RunFault}
 use Rattle.ud_replace.specs.declared.stat.FileStat.{FileStat}
 use Rattle.ud_replace.specs.declared.text_plan.TextPlan.{TextPlan}
 use Rattle.ud_replace.specs.declared.text_plan.TextRun.{TextRun}
@@ -18,7 +18,11 @@ use Rattle.ud_tree.specs.Remainders.{FindsAll}
 use Rattle.ud_tree.specs.declared.counts.Edits.{Edits}
 use Rattle.ud_tree.specs.Fates.{no_edits, removed_by}
 use Rattle.ud_tree.specs.Runs.{ReadsOne, nothing_listed, Output, made}
-use Rattle.ud_tree.specs.Shown.{WasRead, Fails, fails_over, HasDiff, ShowsFile, same, several, changed, ShowsOne, listed_by, ListsFile, names_listed}
+use Rattle.ud_simplified.specs.FoldedTexts.{folded_text}
+use Rattle.ud_passes.specs.declared.names.Names.{Names}
+use Rattle.ud_tree.specs.Lists.{Adds, AddsListed, ListsTextInto, ListsInto}
+use Rattle.ud_tree.specs.Remainders.{mode_of}
+use Rattle.ud_tree.specs.Shown.{WasRead, Fails, fails_over, HasDiff, ShowsFile, same, several, changed, ShowsOne, listed_by, ListsAsRead, fold_faulty, ListsFolded, ListsText, by_folded, by_itself, ListsFile, names_listed, unlisted}
 use Rattle.ud_io.specs.Streams.{Stream}
 use Rattle.ud_tree.specs.Writing.{WritesOne}
 use Rattle.ud_io.proofs.StreamLemmas.{sends_none}
@@ -40,20 +44,69 @@ from_nothing {o = o} {text = text} {output = output} {ran = ran} e h = subst (λ
 pub no_memory : (o : TextOptions) {name text : List ℕ} {stat : FileStat} {calls calls' : List Call} → WasRead name text stat calls calls' → Fails o name calls calls' OutOfMemory
 no_memory o {text = text} {stat = stat} was = fails_over text stat was over_memory
 
--- The list of a file that was read.
-pub lists : (o : TextOptions) (mode : Mode) (hides : Bool) {name text old output : List ℕ} {ran : TextRun} {stat : FileStat} {calls calls' : List Call} →
-    old ≡ [] → WasRead name text stat calls calls' → RunsOver o text old output ran → ListsFile o mode hides name calls calls' (Ok Unchanged) (listed_by mode hides name text output)
-lists o mode hides {text = text} {output = output} {ran = ran} {stat = stat} e was h = names_listed text output ran stat was (from_nothing e h)
+-- The list of a file that was read, and whose text has no fault.
+pub lists_into : (args : Arguments) {name text seen before output shown : List ℕ} {ran : TextRun} {stat : FileStat} {calls calls' : List Call} {old new : Names} (update : Result Update ReplaceError) →
+    ReadsOne name text calls calls' → WasRead name text stat calls calls' → before ≡ [] → ((o : TextOptions) → IsPlanned args.plan o → RunsOver o text before output ran) →
+    seen ≡ text → shown ≡ output → ListsTextInto args name seen shown old new update → ListsInto args.plan args.list_hidden name calls calls' old new update
+lists_into args {name = name} {text = text} {seen = seen} {output = output} {ran = ran} {stat = stat} {calls = calls} {calls' = calls'} {old = old} {new = new} (Ok u) read was e runs p q t =
+    subst (λ (x : Update). ListsInto args.plan args.list_hidden name calls calls' old new (Ok x)) (sym t.adds.0) (record {
+      listed = t.listed;
+      does = record {
+        text = text;
+        reads = read;
+        lists_file = λ o k. names_listed text output ran stat was (from_nothing e (runs o k))
+            (subst (λ (x : List ℕ). ListsText o (mode_of args) args.list_hidden name x output t.listed) p
+            (subst (λ (x : List ℕ). ListsText o (mode_of args) args.list_hidden name seen x t.listed) q (t.lists o k)));
+      };
+      adds = t.adds.1;
+    })
+lists_into args {name = name} {text = text} {calls = calls} {calls' = calls'} {old = old} {new = new} (Err e) read was none runs p q t =
+    subst (λ (x : ReplaceError). ListsInto args.plan args.list_hidden name calls calls' old new (Err x)) (sym t.adds.0) (record {
+      listed = record { names = t.adds.1.0; hidden = 0; hidden_list = [] };
+      does = record { text = text; reads = read; lists_file = λ o k. unlisted t.adds.1.0 (no_memory o was) };
+      adds = t.adds.1.1;
+    })
+
+-- A fact is true of a value, too.
+whatever : {X E : Type 0} {P : Type 0} (r : Result X E) → P → OnOk r P
+whatever (Ok x) h = h
+whatever (Err e) h = tt
+
+-- A text that is listed by itself.
+pub lists_itself : (args : Arguments) {name text output : List ℕ} {old new : Names} (update : Result Update ReplaceError) →
+    ((o : TextOptions) → IsPlanned args.plan o → ListsAsRead o (mode_of args) text) → AddsListed (listed_by (mode_of args) false args.list_hidden name text output) old new update →
+    ListsTextInto args name text output old new update
+lists_itself args {name = name} {text = text} {output = output} update h adds = record {
+  listed = listed_by (mode_of args) false args.list_hidden name text output;
+  lists = λ o p. whatever update (by_itself (h o p));
+  adds = adds;
+}
+
+-- A text that is listed by the folded text.
+pub lists_folded : (args : Arguments) {name text output lines names : List ℕ} {old new : Names} (update : Result Update ReplaceError) →
+    ((o : TextOptions) → IsPlanned args.plan o → (lines ≡ folded_text text) × ListsFolded o (mode_of args) text names) →
+    AddsListed (listed_by (mode_of args) true args.list_hidden name lines names) old new update → ListsTextInto args name text output old new update
+lists_folded args {name = name} {text = text} {output = output} {lines = lines} {names = names} update h adds = record {
+  listed = listed_by (mode_of args) true args.list_hidden name lines names;
+  lists = λ o p. whatever update (subst (λ (x : List ℕ). ListsText o (mode_of args) args.list_hidden name text output (listed_by (mode_of args) true args.list_hidden name x names))
+      (sym (h o p).0) (by_folded names (h o p).1));
+  adds = adds;
+}
+
+-- The folded text has a fault.
+pub read_faulty : (o : TextOptions) (mode : Mode) {text lines seen : List ℕ} {e : ReplaceError} {f : RunFault} → lines ≡ folded_text text → seen ≡ lines → e ≡ Text f →
+    FailsOver o seen e → ListsAsRead o mode text
+read_faulty o mode {seen = seen} {f = f} is eq fault h =
+    fold_faulty (subst (λ (x : List ℕ). FailsOver o x (Text f)) (eq ∙ is) (subst (λ (x : ReplaceError). FailsOver o seen x) fault h))
+
+-- Nothing was added, since memory couldn't be allocated.
+pub lists_nothing : (args : Arguments) {name text output : List ℕ} (names : Names) → ListsTextInto args name text output names names (Err OutOfMemory)
+lists_nothing args names = record { listed = nothing_listed; lists = λ o p. tt; adds = (refl, ([], grind (arith, append-nil))) }
 
 -- A list was added, or nothing.
 pub added : (b : Bool) (old more : List ℕ) → (if b then old ++ more else old) ≡ old ++ (if b then more else [])
 added true old more = refl
 added false old more = sym (append-nil old)
-
--- A whole list was added.
-pub all_added : (b : Bool) (old more all : List ℕ) → b ≡ true → more ≡ all → (if b then old ++ more else old) ≡ old ++ all
-all_added true old more all is whole = ap (λ (x : List ℕ). old ++ x) whole
-all_added false old more all is whole = absurd (true≢false (sym is))
 
 -- The diff of a text and its output is the diff of the outcome.
 pub has_diff : (o : TextOptions) (name text output seen diff : List ℕ) (ran : TextRun) → RunsOver o text [] output ran → ran.differs ≡ true → seen ≡ output →

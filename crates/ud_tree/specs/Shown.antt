@@ -7,7 +7,10 @@
 --   ShowsFile o into name calls calls' update shown edits outputs   a file was read, and its diff
 --                                    shown
 --   ShowsOne plan into name calls calls' result   the same for all options of a plan
---   listed_by mode lists name text output   what is listed of a file with these bytes
+--   listed_by mode folded lists name lines names   what is listed of a file by these lines
+--   folds mode text   a text is listed by the folded text, if that has no fault
+--   ListsFolded o mode text names, ListsAsRead o mode text   it is, or it isn't
+--   ListsText o mode lists name text output listed   what is listed of a text without a fault
 --   ListsFile o mode lists name calls calls' update listed   a file was read, and this is listed
 --   ListsOne plan lists name calls calls' update listed   the same for all options of a plan
 --
@@ -17,18 +20,21 @@ use Rattle.std.specs.Prelude.{Some, None, Result, Ok, Err, MatchResult, length}
 use Rattle.std.specs.Prelude.{if◌then◌else◌}
 use Rattle.ud_model.specs.sections.Items.{mode_by}
 use Rattle.ud_model.specs.declared.kind.Mode.{Mode}
+use Rattle.ud_model.specs.declared.kind.Mode.TheVariants.{C, Plain}
+use Rattle.ud_simplified.specs.FoldedTexts.{folded_text}
+use Rattle.ud_faults.specs.declared.run.RunFault.{RunFault}
 use Rattle.ud_diff.specs.Patching.{IsDiff}
 use Rattle.ud_replace.specs.declared.error.Update.{Update}
 use Rattle.ud_replace.specs.declared.error.Update.TheVariants.{Unchanged, Replaced}
 use Rattle.ud_replace.specs.declared.error.ReplaceError.{ReplaceError}
-use Rattle.ud_replace.specs.declared.error.ReplaceError.TheVariants.{Read}
+use Rattle.ud_replace.specs.declared.error.ReplaceError.TheVariants.{Read, Text}
 use Rattle.ud_replace.specs.declared.error.ReplaceError.TheVariants.{ChangedMeanwhile, SeveralLinks}
 use Rattle.ud_replace.specs.declared.stat.FileStat.{FileStat}
 use Rattle.ud_replace.specs.declared.text_plan.TextPlan.{TextPlan}
 use Rattle.ud_replace.specs.declared.text_plan.TextRun.{TextRun}
 use Rattle.ud_replace.specs.Calls.{Call, was_read}
 use Rattle.ud_replace.specs.TextOutcomes.{TextOptions, IsPlanned, TextOutcome, HasTextOutcome}
-use Rattle.ud_replace.specs.TextOutcomes.{RunsOver, FailsOver}
+use Rattle.ud_replace.specs.TextOutcomes.{RunsOver, FailsOver, goes_back}
 use Rattle.ud_passes.specs.names.UnlistedConditions.{unlisted_in, unlisted_text}
 use Rattle.ud_tree.specs.declared.counts.Edits.{Edits}
 use Rattle.ud_tree.specs.declared.run_file.Ran.{Ran}
@@ -102,15 +108,43 @@ pub record ShowsOne (plan : TextPlan) (into : Bool) (name : List ℕ) (calls cal
   pub shows : (o : TextOptions) → IsPlanned plan o →
       ShowsFile o into name calls calls' result.update result.shown result.edits result.outputs
 
--- `listed_by mode lists name text output`: what is listed for the file `name` with these bytes and
--- this output: its names, and its conditions whose names can't be listed, which are counted and, if
--- `lists`, listed.
-abbrev pub listed_by : Mode → Bool → List ℕ → List ℕ → List ℕ → Listed
-listed_by mode lists name text output = record {
-  names = output;
-  hidden = length (unlisted_in mode text);
-  hidden_list = if lists then unlisted_text name mode text else [];
+-- `listed_by mode folded lists name lines names`: what is listed for the file `name` if it is
+-- listed by the text `lines`, which is folded or not: these names, and the conditions of `lines`
+-- whose names can't be listed, which are counted and, if `lists`, listed.
+abbrev pub listed_by : Mode → Bool → Bool → List ℕ → List ℕ → List ℕ → Listed
+listed_by mode folded lists name lines names = record {
+  names = names;
+  hidden = length (unlisted_in mode lines);
+  hidden_list = if lists then unlisted_text name mode folded lines else [];
 }
+
+-- `folds mode text`: in C mode, folding changes the text, and restoring it gives the text back.
+abbrev pub folds : Mode → List ℕ → Bool
+folds C text = goes_back (folded_text text) text
+folds Plain text = false
+
+-- `ListsFolded o mode text names`: the text is folded, the folded text has no fault, and the run
+-- over it lists `names`.
+pub record ListsFolded (o : TextOptions) (mode : Mode) (text names : List ℕ) : Type 0 where
+  pub is_folded : folds mode text ≡ true
+  pub ran : TextRun
+  pub runs : RunsOver o (folded_text text) [] names ran
+
+-- `ListsAsRead o mode text`: the text isn't folded, or the folded text has a fault.
+pub data ListsAsRead (o : TextOptions) (mode : Mode) (text : List ℕ) : Type 0 where
+  not_folded : folds mode text ≡ false → ListsAsRead o mode text
+  fold_faulty : {f : RunFault} → FailsOver o (folded_text text) (Text f) → ListsAsRead o mode text
+
+-- `ListsText o mode lists name text output listed`: what is listed for the file `name` with this
+-- text: by the folded text, if that has no fault; else by the text itself, for which the run lists
+-- `output`.
+pub data ListsText (o : TextOptions) (mode : Mode) (lists : Bool) (name text output : List ℕ) :
+    Listed → Type 0 where
+  by_folded : (names : List ℕ) → ListsFolded o mode text names →
+      ListsText o mode lists name text output
+      (listed_by mode true lists name (folded_text text) names)
+  by_itself : ListsAsRead o mode text →
+      ListsText o mode lists name text output (listed_by mode false lists name text output)
 
 -- `ListsFile o mode lists name calls calls' update listed`: the file `name` was read, its text has
 -- no fault, the result is `Unchanged`, and this is listed. Or `Fails` is true of the error. Then
@@ -120,10 +154,10 @@ pub data ListsFile (o : TextOptions) (mode : Mode) (lists : Bool) (name : List �
   unlisted : {e : ReplaceError} (names : List ℕ) → Fails o name calls calls' e →
       ListsFile o mode lists name calls calls' (Err e)
       (record { names = names; hidden = 0; hidden_list = [] })
-  names_listed : (text output : List ℕ) (ran : TextRun) (stat : FileStat) →
+  names_listed : (text output : List ℕ) (ran : TextRun) (stat : FileStat) {listed : Listed} →
       WasRead name text stat calls calls' → RunsOver o text [] output ran →
-      ListsFile o mode lists name calls calls' (Ok Unchanged)
-      (listed_by mode lists name text output)
+      ListsText o mode lists name text output listed →
+      ListsFile o mode lists name calls calls' (Ok Unchanged) listed
 
 -- `ListsOne plan lists name calls calls' update listed`: the file `name` was read once. Its result,
 -- and what is listed for it, come from the text read, by the options of the plan. The lines are

@@ -5,10 +5,17 @@
 -- understood. An expression of only constants is understood, and has no names. All lines of the
 -- text are read in one mode. A line over the limit is a fault of its text, and doesn't count.
 --
+-- The text may be a folded one, in which a vertical tab represents a newline. Its conditions are
+-- listed by the lines of the text that was folded: by the number and the body of the first one.
+--
 -- Example: for `#if A`, `#elif B \` and `#endif` in the file `f.c`, the list is the line
--- `f.c:2: #elif B \`.
-use Rattle.std.specs.Prelude.{ℕ, List, Bool, true, false, not, ◌&&◌, ◌||◌, is_some}
-use Rattle.std.specs.List.{filter, flat_map}
+-- `f.c:2: #elif B \`. For the folded text of `#if A \`, `|| B`, `#elif C \`, `D` and `#endif` it is
+-- the line `f.c:3: #elif C \`.
+use Rattle.std.specs.Prelude.{ℕ, ◌+◌, ◌==◌, List, [], ◌∷◌, ◌++◌, Bool, true, false, not, ◌&&◌, ◌||◌}
+use Rattle.std.specs.Prelude.{is_some, count_by, if◌then◌else◌}
+use Rattle.std.specs.List.{filter}
+use Rattle.ud_model.specs.text.Bytes.{newline}
+use Rattle.ud_model.specs.text.Lines.{Line, text_of, lines_of}
 use Rattle.ud_model.specs.text.Scans.{Reading}
 use Rattle.ud_model.specs.sections.Directives.{Directive, Content, cut_keyword, directive, text}
 use Rattle.ud_model.specs.sections.Directives.{content_of, test_of}
@@ -18,6 +25,7 @@ use Rattle.ud_model.specs.aids.ReadAs.{read_as}
 use Rattle.ud_model.specs.declared.kind.Mode.{Mode}
 use Rattle.ud_model.specs.declared.kind.Test.{Test}
 use Rattle.ud_model.specs.declared.kind.Test.TheVariants.{Nonzero, Defined, Undefined, Nothing}
+use Rattle.ud_simplified.specs.FoldedTexts.{vertical_tab, restored_line}
 use Rattle.ud_passes.specs.Passes.{fits, numbered_line}
 
 -- `has_condition test`: a directive with this test has a condition.
@@ -55,10 +63,37 @@ is_unlisted_line r = fits r.line && has_unlisted (content_of r.scan)
 abbrev pub unlisted_in : Mode → List ℕ → List Reading
 unlisted_in mode bytes = filter is_unlisted_line (read_as mode bytes)
 
--- `unlisted_line file r`: the line `r` of this file, as listed.
-abbrev pub unlisted_line : List ℕ → Reading → List ℕ
-unlisted_line file r = numbered_line file r.line.number r.line.body
+-- `is_break folded b`: the byte `b` is a newline or, in a folded text, represents one.
+abbrev pub is_break : Bool → ℕ → Bool
+is_break folded b = b == newline || (folded && b == vertical_tab)
 
--- `unlisted_text file mode bytes`: the list of these lines.
-abbrev pub unlisted_text : List ℕ → Mode → List ℕ → List ℕ
-unlisted_text file mode bytes = flat_map (unlisted_line file) (unlisted_in mode bytes)
+-- `breaks folded bytes`: how many newlines the bytes have and represent.
+abbrev pub breaks : Bool → List ℕ → ℕ
+breaks folded bytes = count_by (is_break folded) bytes
+
+-- `first_body ls`: the body of the first of the lines `ls`.
+abbrev pub first_body : List Line → List ℕ
+first_body [] = []
+first_body (l ∷ ls) = l.body
+
+-- `shown_body folded l`: the body of the line `l` or, in a folded text, of the first of the lines
+-- that it represents.
+abbrev pub shown_body : Bool → Line → List ℕ
+shown_body folded l = if folded then first_body (lines_of (restored_line l)) else l.body
+
+-- `listed_line file folded n r`: the line `r` of this file with the number `n`, if it has such a
+-- condition.
+abbrev pub listed_line : List ℕ → Bool → ℕ → Reading → List ℕ
+listed_line file folded n r =
+    if is_unlisted_line r then numbered_line file n (shown_body folded r.line) else []
+
+-- `listed_from file folded n rs`: the list of those of the lines `rs`, of which the first one has
+-- the number `n`.
+abbrev pub listed_from : List ℕ → Bool → ℕ → List Reading → List ℕ
+listed_from file folded n [] = []
+listed_from file folded n (r ∷ rs) = listed_line file folded n r ++
+    listed_from file folded (n + breaks folded (text_of r.line)) rs
+
+-- `unlisted_text file mode folded bytes`: the list of the lines of a text with such a condition.
+abbrev pub unlisted_text : List ℕ → Mode → Bool → List ℕ → List ℕ
+unlisted_text file mode folded bytes = listed_from file folded 1 (read_as mode bytes)

@@ -62,7 +62,7 @@ fn append_body(
 ///
 /// # Errors
 /// Fails if memory runs out.
-fn append_restored_line(line: &Line<'_>, out: &mut Vec<u8>) -> Result<(), AllocError>
+pub(crate) fn append_restored_line(line: &Line<'_>, out: &mut Vec<u8>) -> Result<(), AllocError>
     requires fits { length (text_of (as_line line.now)) ≤ LINE_BYTES }
     requires one_line { NoNewline line.now.body.now }
     ensures grows { AppendsSome out.old.items out.new.items }

@@ -2,7 +2,7 @@
 
 ghost use Rattle.std.specs.Prelude.{◌≡◌, ◌+◌, ◌≤◌, ◌<◌, ◌^◌, ◌∷◌, ◌++◌, ℕ, List, [], length, true};
 ghost use Rattle.std.specs.Prelude.{IfOk, OnOk, if◌then◌else◌};
-ghost use Rattle.ud_model.specs.text.Lines.{NoNewline, text_of, whole_lines};
+ghost use Rattle.ud_model.specs.text.Lines.{NoNewline, text_of};
 ghost use Rattle.ud_model.specs.text.Scans.{Reading};
 ghost use Rattle.ud_model.specs.text.Scanning.{next_reading};
 ghost use Rattle.ud_model.specs.aids.LineViews.{as_line};
@@ -10,14 +10,17 @@ ghost use Rattle.ud_model.specs.declared.limits.TheConstants.{LINE_BYTES};
 ghost use Rattle.ud_model.specs.aids.ReadAs.{read_as};
 ghost use Rattle.ud_text.specs.scan.ScannerState.{ScannerRepresents};
 ghost use Rattle.ud_passes.specs.Passes.{AppendsSome, numbered_line};
-ghost use Rattle.ud_passes.specs.names.UnlistedConditions.{is_unlisted_line, unlisted_in};
+ghost use Rattle.ud_passes.specs.names.UnlistedConditions.{is_unlisted_line, unlisted_in, breaks};
+ghost use Rattle.ud_passes.specs.names.UnlistedConditions.{shown_body};
 ghost use Rattle.ud_passes.specs.names.UnlistedLines.{listed_text, Listed};
 
+use crate::folding::{VERTICAL_TAB, append_restored_line};
 use crate::lines::append_line;
 use crate::names::conditions::has_unlisted;
-use crate::walk::{LineScanner, Stretch, Walk, lines_in};
+use crate::walk::{LineScanner, Stretch, Walk};
 use std::alloc::{AllocError, Global};
 use ud_model::{Line, Mode};
+use ud_text::line_in;
 
 /// A file whose conditions are counted.
 #[derive(Clone, Copy)]
@@ -27,6 +30,8 @@ pub(crate) struct File<'a> {
     pub(crate) mode: Mode,
     /// True if the conditions are listed, too.
     pub(crate) lists: bool,
+    /// True if the text is folded.
+    pub(crate) folded: bool,
 }
 
 /// The conditions found so far.
@@ -62,35 +67,87 @@ fn read_line(
 }
 
 impl<'a> File<'a> {
-    /// Returns the number of these text lines, if lines are counted.
-    fn lines_in(self, bytes: &[u8]) -> usize
-        ensures count { self.entry.lists ≡ true → result ≡ length (whole_lines bytes.now) }
+    /// Returns how many newlines the bytes have and represent, if lines are counted.
+    fn breaks_in(self, bytes: &[u8]) -> usize
+        ensures count { self.entry.lists ≡ true → result ≡ breaks self.entry.folded bytes.now }
         ensures few { result ≤ length bytes.now }
     {
-        if self.lists { lines_in(bytes) } else { 0 }
+        if !self.lists {
+            return 0;
+        }
+        let folded = self.folded;
+        bytes
+            .iter()
+            .filter(|byte| **byte == b'\n' || folded && **byte == VERTICAL_TAB)
+            .count()
+    }
+
+    /// Returns what was found so far, after one more line.
+    fn pass(self, found: Found, line: &Line<'_>) -> Found
+        requires numbers { found.number + length (text_of (as_line line.now)) < 2 ^ 64 }
+        ensures count { result.count ≡ found.count }
+        ensures number { self.entry.lists ≡ true → result.number ≡
+            found.number + breaks self.entry.folded (text_of (as_line line.now)) }
+        ensures few { result.number ≤ found.number + length (text_of (as_line line.now)) }
+    {
+        Found {
+            number: found.number + self.breaks_in(line.body) + self.breaks_in(line.ending),
+            ..found
+        }
+    }
+
+    /// Appends a line with this number: in a folded text, the first line that it represents.
+    ///
+    /// # Errors
+    /// Fails if memory runs out.
+    fn append_shown(
+        self,
+        number: usize,
+        line: &Line<'_>,
+        out: &mut Vec<u8>,
+    ) -> Result<(), AllocError>
+        requires one_line { NoNewline line.now.body.now }
+        requires fits { length (text_of (as_line line.now)) ≤ LINE_BYTES }
+        ensures grows { AppendsSome out.old.items out.new.items }
+        ensures line { OnOk result (out.new.items ≡ out.old.items ++ numbered_line
+            self.entry.name.now number (shown_body self.entry.folded (as_line line.now))) }
+    {
+        if !self.folded {
+            return append_line(out, self.name, number, line.body);
+        }
+        let mut lines = Vec::new(*out.allocator());
+        append_restored_line(line, &mut lines)?;
+        let first = line_in(lines.as_slice(), 1);
+        append_line(out, self.name, number, first.body)
     }
 
     /// Counts a condition, and appends its line if conditions are listed.
     ///
     /// # Errors
     /// Fails if memory runs out.
-    fn add(self, found: Found, body: &[u8], out: &mut Vec<u8>) -> Result<Found, AllocError>
-        requires room { found.count + 1 < 2 ^ 64 }
-        requires numbers { found.number + 1 < 2 ^ 64 }
+    fn add(self, found: Found, line: &Line<'_>, out: &mut Vec<u8>) -> Result<Found, AllocError>
+        requires one_line { NoNewline line.now.body.now }
+        requires fits { length (text_of (as_line line.now)) ≤ LINE_BYTES }
+        requires counts { found.count + 1 < 2 ^ 64 }
+        requires numbers { found.number + length (text_of (as_line line.now)) < 2 ^ 64 }
         ensures grows { AppendsSome out.old.items out.new.items }
         ensures count { IfOk result (λ f. f.count ≡ found.count + 1) }
-        ensures number { IfOk result (λ f. f.number ≡ found.number + 1) }
+        ensures number { IfOk result (λ f. self.entry.lists ≡ true → f.number ≡
+            found.number + breaks self.entry.folded (text_of (as_line line.now))) }
+        ensures few { IfOk result (λ f.
+            f.number ≤ found.number + length (text_of (as_line line.now))) }
         ensures line { OnOk result (out.new.items ≡ out.old.items ++ (if self.entry.lists
-            then numbered_line self.entry.name.now found.number body.now else [])) }
+            then numbered_line self.entry.name.now found.number
+            (shown_body self.entry.folded (as_line line.now)) else [])) }
     {
-        let next = Found {
-            count: found.count + 1,
-            number: found.number + 1,
-        };
         if self.lists {
-            append_line(out, self.name, found.number, body)?;
+            self.append_shown(found.number, line, out)?;
         }
-        Ok(next)
+        let next = self.pass(found, line);
+        Ok(Found {
+            count: next.count + 1,
+            ..next
+        })
     }
 
     /// Takes the next lines: counts and lists those whose condition can't be listed.
@@ -105,35 +162,30 @@ impl<'a> File<'a> {
         out: &mut Vec<u8>,
     ) -> Result<Found, AllocError>
         requires some { 0 < length walk.old.rest.now }
-        requires room { found.number + length walk.old.rest.now < 2 ^ 64 }
-        requires fewer { found.count < found.number }
+        requires numbers { found.number + length walk.old.rest.now < 2 ^ 64 }
+        requires counts { found.count + length walk.old.rest.now < 2 ^ 64 }
         ensures grows { AppendsSome out.old.items out.new.items }
         ensures shorter { length walk.new.rest.now < length walk.old.rest.now }
-        ensures room { IfOk result (λ f.
+        ensures numbers { IfOk result (λ f.
             f.number + length walk.new.rest.now ≤ found.number + length walk.old.rest.now) }
-        ensures fewer { IfOk result (λ f. f.count < f.number) }
+        ensures counts { IfOk result (λ f.
+            f.count + length walk.new.rest.now ≤ found.count + length walk.old.rest.now) }
         ensures listed { IfOk result (λ f. (text start : List ℕ) →
             Listed self.entry text start found walk.old out.old.items →
             Listed self.entry text start f walk.new out.new.items) }
     {
         match walk.next(self.mode) {
             Stretch::Texts(bytes) => Ok(Found {
-                number: found.number + self.lines_in(bytes),
+                number: found.number + self.breaks_in(bytes),
                 ..found
             }),
-            Stretch::TooLong(_) => Ok(Found {
-                number: found.number + 1,
-                ..found
-            }),
+            Stretch::TooLong(line) => Ok(self.pass(found, &line)),
             Stretch::Fitting(line) => {
                 let unlisted = read_line(alloc, &mut walk.scanner, self.mode, &line)?;
                 if unlisted {
-                    return Ok(self.add(found, line.body, out)?);
+                    return Ok(self.add(found, &line, out)?);
                 }
-                Ok(Found {
-                    number: found.number + 1,
-                    ..found
-                })
+                Ok(self.pass(found, &line))
             }
         }
     }
@@ -153,8 +205,7 @@ impl<'a> File<'a> {
         ensures count { IfOk result (λ n.
             n ≡ length (unlisted_in self.entry.mode text.now)) }
         ensures list { OnOk result (out.new.items ≡ out.old.items ++
-            listed_text self.entry.lists self.entry.name.now
-            (read_as self.entry.mode text.now)) }
+            listed_text self.entry (read_as self.entry.mode text.now)) }
     {
         let mut walk = Walk::new(alloc, text);
         let mut found = Found {

@@ -6,7 +6,7 @@ use Rattle.ud_passes.proofs.names.texts.File.append_unlisted.Goals as goal
 pub loop-alloc-init : goal.loop-alloc-init
 loop-alloc-init c = record {
   grows = ([], sym (append-nil c.args.out.now.items));
-  room = let e = ap (λ (x : List ℕ). length x) c.new-walk.ensures.rest in omega (arith, e);
-  fewer = omega arith;
+  numbers = let e = ap (λ (x : List ℕ). length x) c.new-walk.ensures.rest in omega (arith, e);
+  counts = let e = ap (λ (x : List ℕ). length x) c.new-walk.ensures.rest in omega (arith, e);
   listed = first_place c.args.self c.args.text.now c.args.out.now.items c.new-walk.result (c.new-walk.ensures.walked c.args.self.mode);
 }

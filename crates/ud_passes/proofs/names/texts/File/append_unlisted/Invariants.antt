@@ -1,5 +1,5 @@
 -- The conditions of the lines so far were counted.
-use Rattle.std.proofs.Common.{◌+◌, ◌≤◌, ◌<◌, length}
+use Rattle.std.proofs.Common.{◌+◌, ◌≤◌, length}
 use Rattle.ud_passes.specs.Passes.{AppendsSome}
 use Rattle.ud_passes.specs.names.UnlistedLines.{Listed}
 use Rattle.ud_passes.proofs.names.texts.File.append_unlisted.Given as goal
@@ -7,8 +7,8 @@ use Rattle.ud_passes.proofs.names.texts.File.append_unlisted.Given as goal
 abbrev pub invariant-loop-alloc : goal.invariant-loop-alloc
 invariant-loop-alloc l = record {
   grows : AppendsSome l.fn.out.items l.out.items;
-  room : l.found.number + length l.walk.rest.now ≤ 1 + length l.text;
-  fewer : l.found.count < l.found.number;
+  numbers : l.found.number + length l.walk.rest.now ≤ 1 + length l.text;
+  counts : l.found.count + length l.walk.rest.now ≤ length l.text;
   listed : Listed l.self l.text l.fn.out.items l.found l.walk l.out.items;
 }
 
