@@ -233,9 +233,10 @@ around: manuals cases examples differences faults lines-test tree-test clients-t
 
 ## checks version, manuals, scripts, the language of
 ## comments and pages, the names that pages cite, and that
-## each edit can be applied
+## each edit can be applied, and each crate is as rt fmt
+## has it
 manuals:
-	@tools/lint.sh
+	@RT='$(RT)' tools/lint.sh
 
 ## runs ./unifdef on the cases (crates/test_runner/data)
 cases: unifdef

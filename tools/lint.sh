@@ -1,15 +1,30 @@
 #!/usr/bin/env bash
 # Checks the version, the manuals by mandoc, the scripts by shellcheck and flake8, the language of
 # comments and pages by tools/style.py, the names in pages by tools/names.py, how much there is to
-# read by tools/reading.py, and by tools/edits.py that each edit that the prover must refuse can be
-# applied. A linter that isn't there is left out.
+# read by tools/reading.py, by tools/edits.py that each edit that the prover must refuse can be
+# applied, and by `rt fmt` that the gate finds each crate in its layout. A linter that isn't there is
+# left out.
 set -u
 cd "$(dirname "$0")/.." || exit 1
 result=0
+rt=${RT:-rt}
 
 try() { "$@" || result=1; }
 has() { command -v "$1" > /dev/null || { echo "manuals: left out: $1 is not there"; false; }; }
 files() { find . \( -name .git -o -name crates \) -prune -o -type f "$@"; }
+
+# unformatted: prints the files that `rt fmt` changes in a copy of the crates.
+unformatted() {
+  local copy crate
+  copy=$(mktemp -d)
+  mkdir "$copy/.git"
+  tar -c --exclude=out HANDLES crates.txt crates | tar -x -C "$copy"
+  for crate in crates/*; do
+    (cd "$copy/$crate" && "$rt" fmt 2>&1) | sed -n "s|^rt: formatted |$crate/|p"
+  done
+  rm -rf "$copy"
+}
+
 wide() { mandoc -T ascii "$1" | sed 's/.\x08//g' | awk 'length > 80'; }
 
 # finds WHAT TEXT: a text of findings must be empty.
@@ -47,6 +62,9 @@ try python3 tools/style.py
 try python3 tools/names.py
 try python3 tools/reading.py --check docs/PROVED.md
 try python3 tools/edits.py --read
+if has "$rt"; then
+  finds 'not as rt fmt has it' "$(unformatted)"
+fi
 [ "$result" -ne 0 ] ||
   echo "manuals: ${#scripts[@]} scripts, ${#modules[@]} files of Python and all pages are in order"
 exit "$result"
