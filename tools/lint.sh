@@ -1,9 +1,9 @@
 #!/usr/bin/env bash
-# Checks the version, the manuals by mandoc, the scripts by shellcheck and flake8, the language of
-# comments and pages by tools/style.py, the names in pages by tools/names.py, how much there is to
-# read by tools/reading.py, by tools/edits.py that each edit that the prover must refuse can be
-# applied, and by `rt fmt` that the gate finds each crate in its layout. A linter that isn't there is
-# left out.
+# Checks the version, the manuals by mandoc, the scripts by shellcheck and flake8, the spelling by
+# codespell, the language of comments and pages by tools/style.py, the names in pages by
+# tools/names.py, how much there is to read by tools/reading.py, by tools/edits.py that each edit
+# that the prover must refuse can be applied, and by `rt fmt` that the gate finds each crate in its
+# layout. A linter that isn't there is left out.
 set -u
 cd "$(dirname "$0")/.." || exit 1
 result=0
@@ -57,6 +57,11 @@ done
 mapfile -t modules < <(files -name '*.py' -print | sort)
 if has flake8; then
   try flake8 "${modules[@]}"
+fi
+if has codespell; then
+  # The others are words of Rust and of mandoc, and parts of names.
+  finds codespell "$(codespell -q 3 -S 'out,data,*.svg,*.edit' \
+    -L crate,crates,fo,nd,nin,readby,te,upto ./*.md docs bench tests tools packaging lib crates)"
 fi
 try python3 tools/style.py
 try python3 tools/names.py
