@@ -5,7 +5,7 @@
 #   libunifdef-dev     what a C program is built with: unifdef.h, unifdef(3), the other libraries
 #   python3-unifdef    the module for Python
 #
-# The number in the first name is that of the library's file. Debian's own packages have other
+# The first name has the number of the library's file. Debian's own packages have other
 # names, and each can be installed beside them.
 # shellcheck source=packaging/debian.sh
 source "$(dirname "$0")/debian.sh"

@@ -40,7 +40,7 @@ $1 ($version) unstable; urgency=medium
 END
 }
 
-# kibibytes DIRECTORY: the size of its files, which isn't that of their blocks on some disk.
+# kibibytes DIRECTORY: the size of its files, not of their blocks on some disk.
 kibibytes() {
   find "$1" -type f -printf '%s\n' | awk '{ n += int(($1 + 1023) / 1024) } END { print n }'
 }

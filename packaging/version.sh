@@ -1,5 +1,5 @@
 #!/usr/bin/env bash
-# Prints the version: that of the first heading of CHANGELOG.md with a number, as "## 1.0". Fails if
+# Prints the version: the first heading of CHANGELOG.md with a number has it, as "## 1.0". Fails if
 # a file or the commit's tag doesn't agree on it. With --released, it also fails if that heading has
 # no date, as "## 1.0 (2026-12-01)" has.
 set -u

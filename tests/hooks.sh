@@ -15,7 +15,7 @@ field() {
     it == id && $1 == field { sub(/^[^:]*: */, ""); print }' "$here/.pre-commit-hooks.yaml"
 }
 
-# gives ID STATUS OUTPUT TEXT: runs a hook with -UVMS on two files, of which one has this text. An
+# gives ID STATUS OUTPUT TEXT: runs a hook with -UVMS on two files, one of them with this text. An
 # entry of the language `script` is a file of the repository.
 gives() {
   local words
@@ -38,7 +38,7 @@ gives unifdef-gone 1 $'--- a.c\n+++ a.c\n@@ -1,2 +0,0 @@\n-#ifdef VMS\n-#endif\n
 check 'unifdef-gone changes nothing' same "$(cat a.c)" $'#ifdef VMS\n#endif'
 gives unifdef-gone 1 "$fault" '#endif\n'
 
-# The expression that the default patterns of the program give, and files of which it must choose
+# The expression that the default patterns of the program give, and files from which it must choose
 # those that the program does.
 wanted=$(sed -n '/USUAL: /,/^];/s/^ *b"\*\.\(.*\)",$/\1/p' "$here/crates/ud_tree/src/patterns.rt" |
   sed 's/[.+]/\\&/g' | paste -s -d '|')

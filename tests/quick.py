@@ -74,7 +74,7 @@ def is_right(case, out):
 
 
 class Task:
-    """A task, which counts the cases of which it is right. `kind` says what it runs."""
+    """A task, which counts the cases that it gets right. `kind` says what it runs."""
 
     def __init__(self, name, kind, work, every=()):
         self.name, self.kind, self.work, self.cases, self.right = name, kind, work, list(every), 0
