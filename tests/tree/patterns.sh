@@ -9,18 +9,67 @@ test_rules() {
   fresh
   mkdir -p t/old t/lib
   put t/{a.c,old/b.c,old/f.h,lib/c.xs,d.def,e.tpl} '#ifdef VMS\nx\n#endif\ny\n'
-  run 1 -r -UVMS -g '!old' -- t
+  run 1 -q -r -UVMS -g '!old' -- t
+  says_only
   check same "$(left_in VMS)" 't/d.def t/e.tpl t/old/b.c t/old/f.h '
   run 1 -r -UVMS -g '+*.def' -g '!old' -- t
-  says_only '1 changed, 2 unchanged, 0 faulty' '3 lines removed' '0 conditions still name a symbol'
+  says_only '1 changed, 2 unchanged, 0 faulty' '3 lines removed' '0 conditions still name a symbol' \
+    '1 file of other names names a symbol, as t/e.tpl'
   check same "$(left_in VMS)" 't/e.tpl t/old/b.c t/old/f.h '
-  run 1 -q -UVMS -g '!b.c' t/old
-  check same "$(left_in VMS)" 't/e.tpl t/old/b.c '
-  run 1 -q -UVMS -g '!old' t/old
-  check same "$(left_in VMS)" 't/e.tpl '
   run 1 -r -UVMS -g '*.tpl' t
-  says_only '1 changed, 0 unchanged, 0 faulty' '3 lines removed' '0 conditions still name a symbol'
+  says_only '1 changed, 0 unchanged, 0 faulty' '3 lines removed' '0 conditions still name a symbol' \
+    '2 files of other names name a symbol, as t/old/b.c'
+  check same "$(left_in VMS)" 't/old/b.c t/old/f.h '
+  run 1 -q -UVMS -g '!b.c' t/old
+  check same "$(left_in VMS)" 't/old/b.c '
+  run 1 -q -UVMS -g '!old' t/old
   check same "$(left_in VMS)" ''
+}
+
+# tells LINE OPTION..: a run with these options says this last of files of other names, and changes
+# none of them.
+tells() {
+  local line=$1
+  find t -type f ! -name '*.c' -exec cat {} + > "$work/before"
+  shift
+  tree -x2 -r -UA "$@"
+  check same "$(sed -n '/ of other names/s/^unifdef-tree: //p' "$work/err")" "$line"
+  find t -type f ! -name '*.c' -exec cat {} + > "$work/after"
+  check cmp -s "$work/before" "$work/after"
+}
+
+test_other_names() {
+  local one='1 file of other names names a symbol, as t/b.x'
+  fresh
+  mkdir -p t/sub t/old t/.git
+  put t/a.c '#ifdef A\n#endif\n'
+  tells '' t
+  put t/b.x '# ! /bin/sh\n  #\t ifdef A isn'"'"'t /*\n'
+  tells "$one" t
+  tells "$one" -n t
+  tells "$one" -p -B -k -UB t/sub t t/a.c
+  tells "$one" t/a.c t
+  tells '' t/b.x t
+  tells '' -g '+b.x' t
+  tells '' -g '!b.*' t
+  tells '' -q t
+  tells '' -UB -iUC t/a.c
+  # The names of others don't count, nor what isn't a condition or has the name in part.
+  put t/{.git/c.x,old/c.x} '#if A\n'
+  ln -s b.x t/l.x
+  put t/d.x '#define A\n#else A\n#iff A\n#if AB || B_A\nx #if A\n#if B \\\n A\n'
+  tells "$one" -g '!old' t
+  # Only files that are text up to byte 8,192 are read.
+  { printf '%08191d' 0; printf '\0\n#if A\n'; } > t/e.x
+  tells "$one" -g '!old' t
+  { printf '%08192d' 0; printf '\0\n#if A\n'; } > t/e.x
+  tells '2 files of other names name a symbol, as t/b.x' -g '!old' t
+  put t/.x '// #if A\n/*\n#elifndef A\n'
+  tells '3 files of other names name a symbol, as t/.x' -g '!old' t
+  tells '4 files of other names name a symbol, as t/.x' t
+  find t -type f -print0 > list
+  tree -q -x2 -r -UA -0 < list
+  tells '' -0 < list
 }
 
 # chooses NAMES WORD..: of a fresh tree with ${files[@]}, a run changes these, in this order.

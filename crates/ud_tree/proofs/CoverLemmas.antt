@@ -591,11 +591,11 @@ left_kept : {patterns : List (List ℕ)} (found files : List Found) → All (IsK
 left_kept found files kept path id (inl there) = inl (stands_in found files kept path id there)
 left_kept found files kept path id (inr left) = inr left
 
--- No path is missed, and the files that were found are kept.
-pub misses_kept : (args : Arguments) (text : List ℕ) {x y : List Call} (found files : List Found) (s t : Type 0) →
-    (s → t) → All (IsKept files) found → MissesNone args text x y (IsIn found) s →
-    MissesNone args text x y (StandsIn files) t
-misses_kept args text found files s t e kept (misses_no_path none h) = misses_no_path none (record {
+-- The paths are covered, and the files that were found are kept.
+pub covers_kept : {paths patterns : List (List ℕ)} {x y : List Call} (found files : List Found) (s t : Type 0) →
+    (s → t) → All (IsKept files) found → CoversPaths paths patterns x y (IsIn found) s →
+    CoversPaths paths patterns x y (StandsIn files) t
+covers_kept {paths = paths} found files s t e kept h = record {
   calls = h.calls;
   are = h.are;
   waiting = h.waiting;
@@ -603,10 +603,16 @@ misses_kept args text found files s t e kept (misses_no_path none h) = misses_no
   begins = All-weaker (Begins h.calls (IsDue h.calls h.waiting) (IsIn found))
       (Begins h.calls (IsDue h.calls h.waiting) (StandsIn files))
       (λ p start. begins_within (λ w here. here) (λ path due. due) (stands_in found files kept) start)
-      (map (λ p. string_bytes p) args.paths.items) h.begins;
+      paths h.begins;
   visits = λ directory names answer there. visits_all_within names (λ w here. here) (λ path due. due) e (h.visits directory names answer there);
   taken = λ path node there kind. left_kept found files kept path node.id (h.taken path node there kind);
-})
+}
+
+-- No path is missed, and the files that were found are kept.
+pub misses_kept : (args : Arguments) (text : List ℕ) {x y : List Call} (found files : List Found) (s t : Type 0) →
+    (s → t) → All (IsKept files) found → MissesNone args text x y (IsIn found) s →
+    MissesNone args text x y (StandsIn files) t
+misses_kept args text found files s t e kept (misses_no_path none h) = misses_no_path none (covers_kept found files s t e kept h)
 misses_kept args text found files s t e kept (misses_no_input input h) = misses_no_input input (record {
   calls = h.calls;
   are = h.are;

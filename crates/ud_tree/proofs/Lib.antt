@@ -12,6 +12,7 @@ pub mod CatchLemmas
 pub mod DoneLemmas
 pub mod TreeLaws
 pub mod StatusLaws
+pub mod OtherLemmas
 pub mod RunLemmas
 mod ShownLemmas
 pub mod PickLemmas

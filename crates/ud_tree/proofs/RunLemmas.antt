@@ -19,6 +19,7 @@ use Rattle.ud_tree.specs.Fates.{fate_of, is_changed, is_same, is_faulty, no_edit
 use Rattle.ud_tree.specs.Runs.{FileResult, Unshown, EachFile, no_file, then_file, changed_in, faulty_in, edited_in, removed_in, shown_of, told_of, Counted, names_of, nothing_listed, listed_of, outputs_of, texts_of}
 use Rattle.ud_tree.specs.Remainders.{FindsAll, listing_of, list_of, count_of, defined_of, unnamed_in}
 use Rattle.ud_tree.specs.Unnamed.{Seeks}
+use Rattle.ud_tree.specs.Others.{FindsOthers}
 use Rattle.ud_tree.proofs.RemainderLemmas.{finds_none, finds_kept, finds_then, finds_same, not_lost}
 use Rattle.ud_tree.specs.Statuses.{tree_status}
 use Rattle.ud_tree.specs.Streams.{Source, ends_of}
@@ -255,23 +256,24 @@ sent_begun job {err = err} {r = r} {x = x} is h p = (subst (λ (q : ReportState)
 
 -- The run ends with the status of its counts.
 pub ends : (job : Job) (files : List Found) {old new : Moment} {mid : Stage} {listed : Stream}
-    {seek_report list_report end_report last_report : ReportState} {counts : Counts} (lost unwritten : Bool)
+    {seek_report sought_report list_report end_report last_report : ReportState} {counts : Counts} {others : List Found} (lost unwritten : Bool)
     (in_walk faults hidden status : ℕ) (start lists : NameLists) → start.list.items ≡ [] → start.hidden ≡ 0 →
-    start.hidden_list.items ≡ [] → hidden ≡ lists.hidden → (lost ≡ false → mid.report.has_lost ≡ false) →
+    start.hidden_list.items ≡ [] → hidden ≡ lists.hidden → (lost ≡ false → sought_report.has_lost ≡ false) →
     Seeks job.arguments.now (begun job old.err) seek_report →
     DoesFiles job files (record { calls = old.calls; out = old.out; report = seek_report }) mid counts start
-    lists → WritesList job.arguments.now lists mid.report.remaining.list lost mid.out listed →
-    TellsIf list_message lost mid.report list_report → Sends listed new.out [] → unwritten ≡ new.out.failed →
+    lists → FindsOthers job.arguments.now files mid.calls new.calls mid.report sought_report others →
+    WritesList job.arguments.now lists sought_report.remaining.list lost mid.out listed →
+    TellsIf list_message lost sought_report list_report → Sends listed new.out [] → unwritten ≡ new.out.failed →
     (new.out.failed ≡ false → new.out.unflushed ≡ false) → TellsIf write_message unwritten list_report end_report →
-    TellsEnd job.arguments.now counts faults hidden end_report last_report → new.err ≡ last_report.err →
-    new.calls ≡ mid.calls → counts.faulty ≤ faults →
+    TellsEnd job.arguments.now counts faults hidden (names_of others) end_report last_report → new.err ≡ last_report.err →
+    counts.faulty ≤ faults →
     (in_walk + (cond lost 1 0 + cond unwritten 1 0) + counts.faulty < 2 ^ 64 →
     faults ≡ in_walk + (cond lost 1 0 + cond unwritten 1 0) + counts.faulty) → (unheard : Bool) →
     unheard ≡ new.err.failed →
     status ≡ tree_status job.arguments.now.task job.arguments.now.plan.run.settings.exit_mode unheard faults
     counts.changed → EndsWriting job in_walk old files new status
-ends job files {old = old} {new = new} {end_report = end_report} {counts = counts} lost unwritten in_walk faults hidden
-    status start lists no_name none no_condition hidden_now whole_report sought_now d l t f failed flushed u e stream same few all
+ends job files {old = old} {new = new} {mid = mid} {sought_report = sought_report} {end_report = end_report} {counts = counts} {others = others} lost unwritten in_walk faults hidden
+    status start lists no_name none no_condition hidden_now whole_report sought_now d o l t f failed flushed u e stream few all
     unheard heard is =
     let w = d.does in
     let h = w.counted in
@@ -281,20 +283,24 @@ ends job files {old = old} {new = new} {end_report = end_report} {counts = count
     let left = end_report.remaining in
     let q = sought_now in
     let before = writes_then (writes_kept q.screen) w.writes in
-    let last = last_lines args counts.changed counts.unchanged faults hidden counts.edits left.count left.defined end_report.unnamed in
+    let finds = finds_same (append-nil (texts_of h.results)) (append-nil (outputs_of h.results))
+    (finds_then (texts_of h.results) [] (outputs_of h.results) [] w.finds (finds_none {new = sought_report} o.remaining o.kept o.unnamed)) in
+    let last = last_lines args counts.changed counts.unchanged faults hidden counts.edits left.count left.defined end_report.unnamed (names_of others) in
     let all_names = w.adds.names ∙ ap (λ (x : List ℕ). x ++ (listed_of h.results).names) no_name in
     let all_hidden = w.adds.hidden_list ∙ ap (λ (x : List ℕ). x ++ (listed_of h.results).hidden_list) no_condition in
     record {
       ending = record { streams = ends_of new.out new.err; shown = w.shown ++ l.listed; told = (w.told ++ of_output) ++ last; last = last; status = status };
       ends = record {
+        mid = mid.calls;
         does = record {
           done = d.done;
           is_done = done_later (λ is. still_failed f (still_failed l.sent is)) d.is_done;
           results = h.results;
-          each = subst (λ (calls : List Call). EachFile (DoesOne args) old.calls (names_of d.done) calls h.results) (sym same) h.each;
+          each = h.each;
         };
         is_lost = lost;
-        tally = record { faults = faults; hidden = hidden; edits = counts.edits; remaining = left.count; defined = left.defined; unnamed = end_report.unnamed };
+        tally = record { faults = faults; hidden = hidden; edits = counts.edits; remaining = left.count; defined = left.defined; unnamed = end_report.unnamed; others = others };
+        seeks = record { touches = o.seeks.touches; unwanted = o.seeks.unwanted; found = λ whole. o.seeks.found (whole_report whole) };
         shows = record {
           listed = l.listed;
           shown_is = ap (λ (x : List ℕ). x ++ l.listed) h.shown_is;
@@ -303,10 +309,10 @@ ends job files {old = old} {new = new} {end_report = end_report} {counts = count
               subst (λ (x : List ℕ). Tabulates (names_in x) (listed_of h.results).hidden_list l.listed) all_names
               (subst (λ (x : List ℕ). Tabulates (names_in lists.list.items) x l.listed) all_hidden (l.table is off whole));
           remains = λ other on whole wanted calls represents.
-              l.remains other on ∙ (w.finds.added (whole_report whole) wanted calls represents).list_is
+              l.remains other on ∙ (finds.added (whole_report whole) wanted calls represents).list_is
               ∙ ap (λ (s : RemainingState). s.list ++ list_of calls s.listing args (outputs_of h.results)) q.remaining;
           unsearched = λ other off. by_list args.list_remaining refl (l.is_wanted other)
-              (λ on. l.remains other on ∙ ap (λ (s : RemainingState). s.list) (w.finds.same off ∙ q.remaining));
+              (λ on. l.remains other on ∙ ap (λ (s : RemainingState). s.list) (finds.same off ∙ q.remaining));
         };
         totals = record {
           hidden = λ small. let sum = w.adds.hidden (omega (arith, none, small)) in omega (arith, hidden_now, none, sum);
@@ -315,16 +321,16 @@ ends job files {old = old} {new = new} {end_report = end_report} {counts = count
           remaining = λ whole wanted calls represents small.
               ap (λ (s : RemainingState). s.count) both.keeps.remaining
               ∙ counted_from (count_of calls args (outputs_of h.results)) (ap (λ (s : RemainingState). s.count) q.remaining)
-              (w.finds.added (whole_report whole) wanted calls represents).count_is small;
-          none_remains = λ off. ap (λ (s : RemainingState). s.count) (both.keeps.remaining ∙ w.finds.same off ∙ q.remaining);
+              (finds.added (whole_report whole) wanted calls represents).count_is small;
+          none_remains = λ off. ap (λ (s : RemainingState). s.count) (both.keeps.remaining ∙ finds.same off ∙ q.remaining);
           defined = λ whole wanted calls represents small.
               ap (λ (s : RemainingState). s.defined) both.keeps.remaining
               ∙ counted_from (defined_of calls args (outputs_of h.results)) (ap (λ (s : RemainingState). s.defined) q.remaining)
-              (w.finds.added (whole_report whole) wanted calls represents).defined_is small;
-          none_defined = λ off. ap (λ (s : RemainingState). s.defined) (both.keeps.remaining ∙ w.finds.same off ∙ q.remaining);
+              (finds.added (whole_report whole) wanted calls represents).defined_is small;
+          none_defined = λ off. ap (λ (s : RemainingState). s.defined) (both.keeps.remaining ∙ finds.same off ∙ q.remaining);
           unnamed = λ whole calls represents.
-              both.keeps.unnamed ∙ w.finds.unnamed (whole_report whole) calls represents
-              ∙ ap (unnamed_in calls args (texts_of h.results)) (q.names refl (not_lost w.finds.kept (whole_report whole)));
+              both.keeps.unnamed ∙ finds.unnamed (whole_report whole) calls represents
+              ∙ ap (unnamed_in calls args (texts_of h.results)) (q.names refl (not_lost finds.kept (whole_report whole)));
         };
         has_status = record {
           faults_are = subst (λ (b : Bool). in_walk + length (output_messages lost b) + faulty_in h.results < 2 ^ 64 → faults ≡ in_walk + length (output_messages lost b) + faulty_in h.results) failed
@@ -336,8 +342,8 @@ ends job files {old = old} {new = new} {end_report = end_report} {counts = count
         };
         tells = record {
           told_is = ap (λ (x : List ℕ). (x ++ of_output) ++ last) h.told_is ∙ ap (λ (b : Bool). (told_of h.results ++ joined (output_messages lost b)) ++ last) failed;
-          last_is = ap (λ (x : ℕ). last_lines args x counts.unchanged faults hidden counts.edits left.count left.defined end_report.unnamed) h.counts_are.changed
-              ∙ ap (λ (x : ℕ). last_lines args (changed_in h.results) x faults hidden counts.edits left.count left.defined end_report.unnamed) h.counts_are.unchanged;
+          last_is = ap (λ (x : ℕ). last_lines args x counts.unchanged faults hidden counts.edits left.count left.defined end_report.unnamed (names_of others)) h.counts_are.changed
+              ∙ ap (λ (x : ℕ). last_lines args (changed_in h.results) x faults hidden counts.edits left.count left.defined end_report.unnamed (names_of others)) h.counts_are.unchanged;
         };
       };
       written = record {
@@ -345,7 +351,7 @@ ends job files {old = old} {new = new} {end_report = end_report} {counts = count
         streams_are = refl;
         sent = sends_same (append-nil (w.shown ++ l.listed)) (sends_then (sends_then w.sent l.sent) f);
         ended = rw stream e.told;
-        tells = λ p. let told = writes_then before both.writes in let plain = plain_begun job old.err p in rw stream (sends_then (told.sent plain) (e.alone (told.plain plain).unshown));
+        tells = λ p. let told = writes_then before (writes_then (writes_kept o.screen) both.writes) in let plain = plain_begun job old.err p in rw stream (sends_then (told.sent plain) (e.alone (told.plain plain).unshown));
       };
     }
 
@@ -369,9 +375,11 @@ no_files job given {old = old} {new = new} is stream h same = record {
 ends_counted : {args : Arguments} {old new : List Call} {files : List Found} {ending : Ending} (n m : ℕ) → (m < 2 ^ 64 → n ≡ m) →
     Ends args n old files new ending → Ends args m old files new ending
 ends_counted n m same h = record {
+  mid = h.mid;
   does = h.does;
   is_lost = h.is_lost;
   tally = h.tally;
+  seeks = h.seeks;
   shows = h.shows;
   totals = h.totals;
   has_status = record {

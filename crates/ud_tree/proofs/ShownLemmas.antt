@@ -1,5 +1,5 @@
 -- Shown: lemmas on a run over a text that was read.
-use Rattle.std.proofs.Common.{◌≡◌, ◌⊎◌, ℕ, ◌<◌, ◌≤◌, List, [], ◌∷◌, ◌++◌, ◌∙◌, Bool, true, false, if◌then◌else◌, Some, Result, Ok, Err, OnOk, refl, sym, ap, subst, append-nil, arith}
+use Rattle.std.proofs.Common.{◌≡◌, ◌⊎◌, ℕ, ◌<◌, ◌≤◌, List, [], ◌∷◌, ◌++◌, ◌∙◌, Bool, true, false, if◌then◌else◌, Some, Result, Ok, Err, OnOk, refl, sym, subst, append-nil, arith}
 use Rattle.ud_diff.specs.Patching.{IsDiff}
 use Rattle.ud_replace.specs.declared.error.Update.{Update}
 use Rattle.ud_replace.specs.declared.error.Update.TheVariants.{Unchanged, Replaced}
@@ -20,9 +20,9 @@ use Rattle.ud_tree.specs.Fates.{no_edits, removed_by}
 use Rattle.ud_tree.specs.Runs.{ReadsOne, nothing_listed, Output, made}
 use Rattle.ud_simplified.specs.FoldedTexts.{folded_text}
 use Rattle.ud_passes.specs.declared.names.Names.{Names}
-use Rattle.ud_tree.specs.Lists.{Adds, AddsListed, ListsTextInto, ListsInto}
+use Rattle.ud_tree.specs.Lists.{AddsListed, ListsTextInto, ListsInto}
 use Rattle.ud_tree.specs.Remainders.{mode_of}
-use Rattle.ud_tree.specs.Shown.{WasRead, Fails, fails_over, HasDiff, ShowsFile, same, several, changed, ShowsOne, listed_by, ListsAsRead, fold_faulty, ListsFolded, ListsText, by_folded, by_itself, ListsFile, names_listed, unlisted}
+use Rattle.ud_tree.specs.Shown.{WasRead, Fails, fails_over, HasDiff, ShowsFile, same, several, changed, ShowsOne, listed_by, ListsAsRead, fold_faulty, ListsFolded, ListsText, by_folded, by_itself, names_listed, unlisted}
 use Rattle.ud_io.specs.Streams.{Stream}
 use Rattle.ud_tree.specs.Writing.{WritesOne}
 use Rattle.ud_io.proofs.StreamLemmas.{sends_none}

@@ -1,14 +1,17 @@
 -- Lines from their parts.
-use Rattle.std.proofs.Common.{◌≡◌, ℕ, ◌+◌, ◌<◌, List, [], ◌++◌, length, get_or, take, map, Bool, true, false, cond, refl, sym, ap, ◌∙◌, subst, append_assoc, append-nil, codes, decimal, ◌==◌, ◌&&◌, eqb-true, arith}
+use Rattle.std.proofs.Common.{◌≡◌, ℕ, ◌+◌, ◌<◌, List, [], ◌∷◌, ◌++◌, length, get_or, take, map, Bool, true, false, cond, None, Some, refl, sym, ap, ◌∙◌, subst, append_assoc, append-nil, codes, decimal, ◌==◌, ◌&&◌, eqb-true, arith}
 use Rattle.std.proofs.lemmas.Grind.{common_steps, flat_map-append}
-use Rattle.std.proofs.lemmas.List.{take_more, map-append}
-use Rattle.std.specs.List.{flat_map}
+use Rattle.std.proofs.lemmas.List.{take_more, map-append, length-map}
+use Rattle.std.specs.List.{flat_map, slice_get}
+use Rattle.std.specs.Prelude.{string_bytes}
 use Rattle.ud_tree.specs.Reports.{ReportState, Says}
 use Rattle.ud_tree.specs.declared.arguments.Arguments.{Arguments}
 use Rattle.ud_tree.specs.declared.counts.Counts.{Counts}
+use Rattle.ud_tree.specs.declared.walk.Found.{Found}
+use Rattle.ud_tree.specs.Runs.{names_of}
 use Rattle.ud_tree.specs.declared.arguments.Task.TheVariants.{Names}
 use Rattle.ud_io.specs.Streams.{Stream, Sends}
-use Rattle.ud_tree.specs.Summaries.{line_of, changes_line, files_text, hidden_text, summary, remaining_text, remaining_line, removed_line, removed_text, edited_line, edited_text, defined_line, defined_text, unnamed_line, TellsEnd}
+use Rattle.ud_tree.specs.Summaries.{line_of, changes_line, files_text, hidden_text, summary, remaining_text, remaining_line, removed_line, removed_text, edited_line, edited_text, defined_line, defined_text, unnamed_line, others_line, others_text, TellsEnd}
 use Rattle.ud_tree.specs.Visible.{visible}
 use Rattle.ud_io.proofs.StreamLemmas.{sends_none, sends_same, sends_then}
 
@@ -97,12 +100,27 @@ pub unnamed_sent : {A : Type 0} {a b c : Stream} (f : A → List ℕ) (names : L
 unnamed_sent f names i x name within is named h k =
     sends_same (ap (λ n. flat_map unnamed_line (map f (take i names)) ++ unnamed_line n) (append-nil name ∙ named) ∙ flat_push f unnamed_line names i x within is) (sends_then h k)
 
+-- There is no file of another name.
+pub others_none : (others : List Found) → None ≡ slice_get others 0 → others_line (names_of others) ≡ []
+others_none [] e = refl
+others_none (f ∷ fs) e = absurd cc
+
+-- The line of some.
+pub others_told : (others : List Found) (f : Found) (text path : List ℕ) → Some f ≡ slice_get others 0 → text ≡ others_text (length others) → path ≡ string_bytes f.path →
+    line_of ((decimal (length others) ++ text) ++ path) ≡ others_line (names_of others)
+others_told [] f text path e p q = absurd cc
+others_told (g ∷ fs) f text path e p q =
+    let first : f ≡ g = cc in
+    ap (λ (x : List ℕ). line_of ((decimal (length (g ∷ fs)) ++ x) ++ path)) p
+    ∙ ap (λ (n : ℕ). line_of ((decimal n ++ others_text n) ++ path)) (sym (length-map (g ∷ fs) (λ (h : Found). string_bytes h.path)))
+    ∙ ap (λ (x : List ℕ). line_of ((decimal (length (names_of (g ∷ fs))) ++ others_text (length (names_of (g ∷ fs)))) ++ x)) (q ∙ ap (λ (h : Found). string_bytes h.path) first)
+
 -- A quiet run ends with nothing.
-pub ends_quiet : (args : Arguments) (counts : Counts) (faults hidden : ℕ) (r : ReportState) → args.quiet ≡ true → TellsEnd args counts faults hidden r r
-ends_quiet args counts faults hidden r quiet = rw quiet (record { told = (r.err, sends_none r.err); alone = λ e. sends_none r.err })
+pub ends_quiet : (args : Arguments) (counts : Counts) (faults hidden : ℕ) (others : List (List ℕ)) (r : ReportState) → args.quiet ≡ true → TellsEnd args counts faults hidden others r r
+ends_quiet args counts faults hidden others r quiet = rw quiet (record { told = (r.err, sends_none r.err); alone = λ e. sends_none r.err })
 
 -- Other runs end with the lines.
-pub ends_told : (args : Arguments) (counts : Counts) (faults hidden : ℕ) {a b : ReportState} → args.quiet ≡ false →
+pub ends_told : (args : Arguments) (counts : Counts) (faults hidden : ℕ) (others : List (List ℕ)) {a b : ReportState} → args.quiet ≡ false →
     Says a b (summary args.task args.list_hidden counts.changed counts.unchanged faults hidden ++ removed_line counts.edits.lines ++ edited_line args.plan.prunes counts.edits.conditions ++
-    remaining_line args.list_remaining a.remaining.count ++ defined_line args.list_remaining a.remaining.defined ++ flat_map unnamed_line a.unnamed) → TellsEnd args counts faults hidden a b
-ends_told args counts faults hidden {a = a} {b = b} loud h = rw loud (record { told = (h.cleared, h.sent); alone = λ e. subst (λ (s : Stream). Sends s b.err _) (h.unshown e) h.sent })
+    remaining_line args.list_remaining a.remaining.count ++ defined_line args.list_remaining a.remaining.defined ++ flat_map unnamed_line a.unnamed ++ others_line others) → TellsEnd args counts faults hidden others a b
+ends_told args counts faults hidden others {a = a} {b = b} loud h = rw loud (record { told = (h.cleared, h.sent); alone = λ e. subst (λ (s : Stream). Sends s b.err _) (h.unshown e) h.sent })

@@ -27,7 +27,7 @@ use Rattle.ud_tree.proofs.DoneLemmas.{done_before}
 use Rattle.ud_tree.specs.TreeMoments.{TouchesNothing, TouchesFreshOrNone, OldOrOutput}
 
 -- A fact about each call of two parts holds of each call of both.
-each_then : {P : Call → List Call → Type 0} {old mid new : List Call} → EachCall P old mid → EachCall P mid new → EachCall P old new
+pub each_then : {P : Call → List Call → Type 0} {old mid new : List Call} → EachCall P old mid → EachCall P mid new → EachCall P old new
 each_then h no_call = h
 each_then h (then_call k p) = then_call (each_then h k) p
 
@@ -36,16 +36,16 @@ each_weaker : {P Q : Call → List Call → Type 0} {old new : List Call} → ((
 each_weaker w no_call = no_call
 each_weaker w (then_call {c = c} {calls = calls} h p) = then_call (each_weaker w h) (w c calls p)
 
-each_at : {P : Call → List Call → Type 0} {old calls new : List Call} → new ≡ calls → EachCall P old calls → EachCall P old new
+pub each_at : {P : Call → List Call → Type 0} {old calls new : List Call} → new ≡ calls → EachCall P old calls → EachCall P old new
 each_at {P = P} {old = old} e h = subst (λ (l : List Call). EachCall P old l) (sym e) h
 
 -- The calls of a walk touch no file.
-walk_touches : (calls : List WalkCall) (old : List Call) → EachCall TouchesNothing old (map walked calls ++ old)
+pub walk_touches : (calls : List WalkCall) (old : List Call) → EachCall TouchesNothing old (map walked calls ++ old)
 walk_touches [] old = no_call
 walk_touches (w ∷ calls) old = then_call (walk_touches calls old) (λ n h. true≢false (sym h))
 
 -- Reading a file touches none.
-read_touches : {name text : List ℕ} {old new : List Call} → ReadsOne name text old new → EachCall TouchesNothing old new
+pub read_touches : {name text : List ℕ} {old new : List Call} → ReadsOne name text old new → EachCall TouchesNothing old new
 read_touches {name = name} {text = text} {old = old} (reads answer is) =
     let start : EachCall TouchesNothing old old = no_call in
     each_at is (then_call start (λ n t. true≢false (sym t)))
@@ -73,7 +73,7 @@ pub run_reads : (run : Run) → ¬ (run.args.task ≡ Replace) → IsRun run →
     EachCall TouchesNothing run.old run.new
 run_reads run other (inl h) = each_at h.walk.are (walk_touches h.walk.calls run.old)
 run_reads run other (inr h) = each_then (each_at h.is_walk.are (walk_touches h.is_walk.calls run.old))
-    (reads_by run.args run.args.task refl other h.ends.does.each)
+    (each_then (reads_by run.args run.args.task refl other h.ends.does.each) h.ends.seeks.touches)
 
 -- Replacing a file touches no file but the new one, up to the rename.
 replace_touches : {o : TextOptions} {plan : TextPlan} {name text : List ℕ} {old new : List Call} {update : Result Update ReplaceError} → IsPlanned plan o →
@@ -102,7 +102,7 @@ run_renames o run p into (inl h) =
     nothing_touched (each_at h.walk.are (walk_touches h.walk.calls run.old))
 run_renames o run p into (inr h) =
     each_then (nothing_touched (each_at h.is_walk.are (walk_touches h.is_walk.calls run.old)))
-    (replaces_by run.args run.args.task p into h.ends.does.each)
+    (each_then (replaces_by run.args run.args.task p into h.ends.does.each) (nothing_touched h.ends.seeks.touches))
 
 -- Calls that touch nothing leave each file as it is.
 same_after : (c : Call) (f : Files) (n : List ℕ) → ¬ (touches c n ≡ true) → after c f n ≡ f n
@@ -229,13 +229,14 @@ apart_names (f ∷ files) h i j d below within =
     get_or-map (λ (g : Found). string_bytes g.path) (f ∷ files) j f d in_files in
     λ e. not_before_itself (get_or (f ∷ files) i f) (get_or (f ∷ files) j f) (h i j f below in_files) (sym at_i ∙ e ∙ at_j)
 
-moments_by : {o : TextOptions} (args : Arguments) (t : Task) → IsPlanned args.plan o → args.write_into ≡ false → {first : Files} {old start : List Call} {names : List (List ℕ)} {new : List Call}
+moments_by : {o : TextOptions} (args : Arguments) (t : Task) → IsPlanned args.plan o → args.write_into ≡ false → {first : Files} {old start : List Call} {names : List (List ℕ)} {new last : List Call}
     {results : List FileResult} → AllPairs Apart names → AreTrue first new → Moments o first old [] start → EachFile (DoesBy t args) start names new results →
-    EachCall (λ (c : Call) (earlier : List Call). OldOrOutput o first old (c ∷ earlier)) old new
-moments_by args Replace p into {start = start} {names = names} {new = new} {results = results} apart t m h =
-    (moments_all p (subst (λ (b : Bool). EachFile (ReplacesShowing args.plan b args.show_changes) start names new results) into h) apart t m).each
-moments_by args Diff p into apart t m h = (moments_still m (shows_touch h)).each
-moments_by args Names p into apart t m h = (moments_still m (lists_touch h)).each
+    EachCall TouchesNothing new last →
+    EachCall (λ (c : Call) (earlier : List Call). OldOrOutput o first old (c ∷ earlier)) old last
+moments_by args Replace p into {start = start} {names = names} {new = new} {results = results} apart t m h k =
+    (moments_still (moments_all p (subst (λ (b : Bool). EachFile (ReplacesShowing args.plan b args.show_changes) start names new results) into h) apart t m) k).each
+moments_by args Diff p into apart t m h k = (moments_still (moments_still m (shows_touch h)) k).each
+moments_by args Names p into apart t m h k = (moments_still (moments_still m (lists_touch h)) k).each
 
 pub run_old_or_new : (o : TextOptions) (first : Files) (run : Run) → IsPlanned run.args.plan o →
     run.args.write_into ≡ false → IsRun run → AreTrue first run.new →
@@ -245,9 +246,9 @@ run_old_or_new o first run p into (inl h) t = (moments_still (moments_none o fir
     (each_at h.walk.are (walk_touches h.walk.calls run.old))).each
 run_old_or_new o first run p into (inr h) t = let all = h.ends.does in
     moments_by run.args run.args.task p into
-    (apart_names all.done (done_before all.is_done h.is_walk.ascend)) t
+    (apart_names all.done (done_before all.is_done h.is_walk.ascend)) (true_before first h.ends.seeks.touches t)
     (moments_still (moments_none o first run.old)
-    (each_at h.is_walk.are (walk_touches h.is_walk.calls run.old))) all.each
+    (each_at h.is_walk.are (walk_touches h.is_walk.calls run.old))) all.each h.ends.seeks.touches
 
 -- The diffs of the files of a run, for one choice of options.
 each_shows : {o : TextOptions} {plan : TextPlan} {into : Bool} {old : List Call} {names : List (List ℕ)} {new : List Call} {results : List FileResult} → IsPlanned plan o →
@@ -261,6 +262,6 @@ pub run_shows : (o : TextOptions) (run : Run) → IsPlanned run.args.plan o →
 run_shows o run p diff (inl h) = no_diff (record { calls = h.walk.calls; are = h.walk.are }) h.unshown
 run_shows o run p diff (inr h) = let all = h.ends.does in
     let shows = h.ends.shows in
-    diffs h.mid h.files all.done all.results shows.listed h.is_walk all.is_done
-    (each_shows p (subst (λ (t : Task). EachFile (DoesBy t run.args) h.mid (names_of all.done) run.new all.results) diff all.each))
-    shows.shown_is (shows.is_wanted (λ names. absurd cc))
+    diffs h.mid h.ends.mid h.files all.done all.results shows.listed h.is_walk all.is_done
+    (each_shows p (subst (λ (t : Task). EachFile (DoesBy t run.args) h.mid (names_of all.done) h.ends.mid all.results) diff all.each))
+    h.ends.seeks.touches shows.shown_is (shows.is_wanted (λ names. absurd cc))

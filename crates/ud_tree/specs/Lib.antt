@@ -15,6 +15,7 @@ pub mod Covering
 pub mod CoverParts
 pub mod Catching
 pub mod TreeMoments
+pub mod Others
 pub mod TreeRuns
 pub mod TreeDiffs
 pub mod Summaries

@@ -11,12 +11,13 @@
 --   removed_line count        how many lines were removed
 --   edited_line prunes count   how many conditions were edited
 --   unnamed_line name         no condition names this symbol
---   last_lines args changed unchanged faults hidden edits remaining defined unnamed   these lines,
---                             unless quiet
---   TellsEnd args counts faults hidden old new   they were written last
+--   others_line names         how many files of other names name a symbol
+--   last_lines args changed unchanged faults hidden edits remaining defined unnamed others   these
+--                             lines, unless quiet
+--   TellsEnd args counts faults hidden others old new   they were written last
 --   EndsWith s bytes          the last bytes that were written to `s`
-use Rattle.std.specs.Prelude.{◌≡◌, ℕ, List, [], ◌++◌, Bool, false, not, ◌&&◌, ◌||◌, ◌==◌}
-use Rattle.std.specs.Prelude.{if◌then◌else◌, codes, decimal}
+use Rattle.std.specs.Prelude.{◌≡◌, ℕ, List, [], ◌∷◌, ◌++◌, Bool, false, not, ◌&&◌, ◌||◌, ◌==◌}
+use Rattle.std.specs.Prelude.{if◌then◌else◌, codes, decimal, length}
 use Rattle.std.specs.List.{flat_map}
 use Rattle.ud_tree.specs.declared.arguments.Task.{Task}
 use Rattle.ud_tree.specs.declared.arguments.Task.TheVariants.{Replace, Diff, Names}
@@ -113,29 +114,42 @@ edited_line prunes count = if prunes then line_of (decimal count ++ edited_text 
 abbrev pub unnamed_line : List ℕ → List ℕ
 unnamed_line name = line_of (codes "no condition names " ++ name)
 
+-- `others_text count`: what follows the number of files of other names that name a symbol.
+abbrev pub others_text : ℕ → List ℕ
+others_text count = plural count (codes " file of other names names a symbol, as ")
+    (codes " files of other names name a symbol, as ")
+
+-- `others_line names`: the line with the number of these files of other names, and the first of
+-- them, left out if there are none.
+abbrev pub others_line : List (List ℕ) → List ℕ
+others_line [] = []
+others_line (name ∷ names) = line_of (decimal (length (name ∷ names)) ++
+    others_text (length (name ∷ names)) ++ name)
+
 -- `EndsWith s bytes`: the last bytes written to `s` are `bytes`, up to its first failure.
 abbrev pub EndsWith : Stream → List ℕ → Type 0
 EndsWith s bytes = (mid : Stream) × Sends mid s bytes
 
--- `last_lines args changed unchanged faults hidden edits remaining defined unnamed`: the summary,
--- the lines with the numbers of removed lines, of edited conditions, of those that still name a
--- symbol, and of lines that define one, and the line of each symbol that no condition names;
--- nothing if the run is quiet.
-abbrev pub last_lines : Arguments → ℕ → ℕ → ℕ → ℕ → Edits → ℕ → ℕ → List (List ℕ) → List ℕ
-last_lines args changed unchanged faults hidden edits remaining defined unnamed =
+-- `last_lines args changed unchanged faults hidden edits remaining defined unnamed others`: the
+-- summary, the lines with the numbers of removed lines, of edited conditions, of those that still
+-- name a symbol, and of lines that define one, the line of each symbol that no condition names, and
+-- the line of the files of other names; nothing if the run is quiet.
+abbrev pub last_lines : Arguments → ℕ → ℕ → ℕ → ℕ → Edits → ℕ → ℕ → List (List ℕ) →
+    List (List ℕ) → List ℕ
+last_lines args changed unchanged faults hidden edits remaining defined unnamed others =
     if args.quiet then []
     else summary args.task args.list_hidden changed unchanged faults hidden ++
     removed_line edits.lines ++ edited_line args.plan.prunes edits.conditions ++
     remaining_line args.list_remaining remaining ++ defined_line args.list_remaining defined ++
-    flat_map unnamed_line unnamed
+    flat_map unnamed_line unnamed ++ others_line others
 
--- `TellsEnd args counts faults hidden old new`: the last lines were written, with these numbers,
--- those of conditions and definitions, and the names that the report has. Nothing else was, unless
--- a terminal showed the number of files.
+-- `TellsEnd args counts faults hidden others old new`: the last lines were written, with these
+-- numbers and files, those of conditions and definitions, and the names that the report has.
+-- Nothing else was, unless a terminal showed the number of files.
 pub record TellsEnd (args : Arguments) (counts : Counts) (faults hidden : ℕ)
-    (old new : ReportState) : Type 0 where
+    (others : List (List ℕ)) (old new : ReportState) : Type 0 where
   pub told : EndsWith new.err (last_lines args counts.changed counts.unchanged faults hidden
-      counts.edits old.remaining.count old.remaining.defined old.unnamed)
+      counts.edits old.remaining.count old.remaining.defined old.unnamed others)
   pub alone : old.is_shown ≡ false → Sends old.err new.err (last_lines args counts.changed
       counts.unchanged faults hidden counts.edits old.remaining.count old.remaining.defined
-      old.unnamed)
+      old.unnamed others)

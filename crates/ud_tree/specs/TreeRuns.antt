@@ -57,6 +57,7 @@ use Rattle.ud_io.specs.Streams.{Sends}
 use Rattle.ud_tree.specs.Summaries.{last_lines, EndsWith}
 use Rattle.ud_tree.specs.Writing.{Moment, Stage, WritesOne, ProcessesOne, WritesAll}
 use Rattle.ud_tree.specs.Covering.{StandsIn, MissesNone}
+use Rattle.ud_tree.specs.Others.{SeeksOthers}
 use Rattle.ud_tree.specs.Walks.{IsWalk}
 use Rattle.ud_tree.specs.WalkMessages.{WalkTells, joined, Stops}
 use Rattle.ud_tree.specs.Statuses.{tree_status}
@@ -132,8 +133,8 @@ pub record Ending : Type 0 where
   pub status : ℕ
 
 -- `Tally`: the numbers of faults, of conditions whose names can't be listed, of edits, of
--- conditions that still name a symbol, and of lines that define one, and the symbols that no
--- condition names.
+-- conditions that still name a symbol, and of lines that define one, the symbols that no condition
+-- names, and the files of other names that name one.
 pub record Tally : Type 0 where
   pub faults : ℕ
   pub hidden : ℕ
@@ -141,6 +142,7 @@ pub record Tally : Type 0 where
   pub remaining : ℕ
   pub defined : ℕ
   pub unnamed : List (List ℕ)
+  pub others : List Found
 
 -- `DoesAll args failed old files new`: what the arguments ask for is done with each file in turn,
 -- and nothing else. If the output has `failed`, these may be only the first files (`IsDone`).
@@ -216,14 +218,17 @@ pub record TellsAll (args : Arguments) (results : List FileResult) (is_lost : Bo
       told_of results ++ joined (output_messages is_lost ending.streams.failed) ++ ending.last
   pub last_is : ending.last ≡ last_lines args (changed_in results) (same_in results)
       tally.faults tally.hidden tally.edits tally.remaining tally.defined tally.unnamed
+      (names_of tally.others)
 
--- `Ends args in_walk old files new ending`: the files are processed. The output, the last lines,
--- the status and the messages come from their results.
+-- `Ends args in_walk old files new ending`: the files are processed, and then those of other names
+-- are sought. The output, the last lines, the status and the messages come from their results.
 pub record Ends (args : Arguments) (in_walk : ℕ) (old : List Call) (files : List Found)
     (new : List Call) (ending : Ending) : Type 0 where
-  pub does : DoesAll args ending.streams.failed old files new
+  pub mid : List Call
+  pub does : DoesAll args ending.streams.failed old files mid
   pub is_lost : Bool
   pub tally : Tally
+  pub seeks : SeeksOthers args files mid new is_lost tally.others
   pub shows : ShowsAll args does.results is_lost ending.shown
   pub totals : Totals args does.results is_lost tally
   pub has_status : HasStatus args in_walk does.results is_lost tally.faults ending

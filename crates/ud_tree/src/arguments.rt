@@ -58,6 +58,7 @@ pub struct Arguments {
 
 impl Arguments {
     ghost use Rattle.std.specs.Prelude.{◌≡◌, ◌&&◌, ◌||◌, not};
+    ghost use Rattle.ud_tree.specs.Others.{wants_others};
 
     /// Returns whether to search for conditions that still name a symbol, to list or count them.
     pub(crate) fn search_remaining(&self) -> bool
@@ -65,6 +66,13 @@ impl Arguments {
             (self.now.list_remaining || not self.now.quiet)) }
     {
         self.has_symbols && (self.list_remaining || !self.quiet)
+    }
+
+    /// Returns whether to tell of files of other names that name a symbol.
+    pub(crate) fn wants_others(&self) -> bool
+        ensures { result ≡ wants_others self.now }
+    {
+        self.has_symbols && self.list_remaining && !self.quiet && !self.from_input
     }
 }
 

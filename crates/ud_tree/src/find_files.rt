@@ -1,8 +1,8 @@
 //! Finds the files of a run: below the paths of the command line, or listed on the input.
 
 ghost use Rattle.std.specs.Prelude.{◌≡◌, ◌<◌, ◌++◌, [], map, true, false, IfOk};
-ghost use Rattle.std.specs.Prelude.{OnErr, OnOk};
-ghost use Rattle.ud_tree.specs.Covering.{IsIn, own_path, paths_of};
+ghost use Rattle.std.specs.Prelude.{OnErr, OnOk, string_bytes};
+ghost use Rattle.ud_tree.specs.Covering.{CoversPaths, IsIn, own_path, paths_of};
 ghost use Rattle.ud_tree.specs.Streams.{source_of, ReadsWhole};
 ghost use Rattle.ud_tree.specs.WalkMessages.{EndsWalk, GoesOn, ReportsWalk, StopsWalk};
 ghost use Rattle.ud_tree.specs.WalkMessages.{TakesEach, WalksAll};
@@ -67,7 +67,28 @@ fn walk_all<T: Tree, R: Read, E: Write>(
     if job.arguments.from_input {
         return add_input(job.alloc, walk, tree, input, report);
     }
-    for path in job.arguments.paths.as_slice() {
+    walk_paths(job.arguments.paths.as_slice(), walk, tree, report)
+}
+
+/// Walks over paths of the command line. Returns false if one of them has a fault. Then nothing
+/// below the paths was looked at.
+///
+/// # Errors
+/// Fails if memory runs out.
+pub(crate) fn walk_paths<T: Tree, E: Write>(
+    paths: &[String],
+    walk: &mut Walk<'_>,
+    tree: &mut T,
+    report: &mut Report<E>,
+) -> Result<bool, AllocError>
+    ensures goes_on { GoesOn (T.history tree.old) (T.history tree.new) walk.old walk.new
+        report.old report.new }
+    ensures covers { IfOk result (λ all. all ≡ true → CoversPaths (map string_bytes paths.now)
+        (map string_bytes walk.old.patterns.now) (T.history tree.old) (T.history tree.new)
+        (IsIn walk.new.found.items) (0 < report.new.faulty)) }
+    ensures refused { IfOk result (λ all. all ≡ false → 0 < report.new.faulty) }
+{
+    for path in paths {
         walk.start(tree, report, path.as_str())?;
     }
     if report.faulty() > 0 {

@@ -1,31 +1,36 @@
 //! The last lines of a run: how many files there were of each kind, how many lines were removed,
-//! how many conditions were edited, how many still name a symbol, how many lines define one, and
-//! which symbols no condition names.
+//! how many conditions were edited, how many still name a symbol, how many lines define one, which
+//! symbols no condition names, and how many files of other names name one.
 
 ghost use Rattle.std.specs.Prelude.{◌≡◌, ◌++◌, false, decimal};
 ghost use Rattle.ud_tree.specs.Reports.{Says};
 ghost use Rattle.ud_tree.specs.Summaries.{TellsEnd, changes_line, summary};
 ghost use Rattle.ud_tree.specs.Summaries.{edited_line, hidden_text, plural, remaining_line};
+ghost use Rattle.ud_tree.specs.Runs.{names_of};
 ghost use Rattle.ud_tree.specs.Summaries.{removed_line, defined_line, defined_text, line_of};
+ghost use Rattle.ud_tree.specs.Summaries.{others_line};
 
 use crate::arguments::{Arguments, Task};
 use crate::counts::Counts;
 use crate::job::Job;
 use crate::report::Report;
+use crate::walk::Found;
 use itoa::Buffer;
 use std::io::Write;
 
 /// Writes the last lines, unless the run is quiet: the counts, how many lines were removed, how
-/// many conditions were edited, how many still name a symbol, how many lines define one, and which
-/// symbols no condition names.
+/// many conditions were edited, how many still name a symbol, how many lines define one, which
+/// symbols no condition names, and how many of the files `others` there are.
 pub(crate) fn report_end<E: Write>(
     job: &Job<'_>,
     report: &mut Report<E>,
     hidden: usize,
     counts: Counts,
     faults: usize,
+    others: &[Found],
 )
-    ensures { TellsEnd job.now.arguments.now counts faults hidden report.old report.new }
+    ensures { TellsEnd job.now.arguments.now counts faults hidden (names_of others.now)
+        report.old report.new }
 {
     if job.arguments.quiet {
         return;
@@ -36,6 +41,7 @@ pub(crate) fn report_end<E: Write>(
     report_remaining(job.arguments, report);
     report_defined(job.arguments, report);
     report.report_unnamed();
+    report_others(report, others);
 }
 
 /// Writes the counts.
@@ -216,4 +222,21 @@ fn defined_text(listed: bool, count: usize) -> &'static [u8]
             b" lines of the source define a symbol; -r lists them",
         )
     }
+}
+
+/// Writes how many files of other names name a symbol, if any, and the path of the first.
+fn report_others<E: Write>(report: &mut Report<E>, others: &[Found])
+    ensures { report.old.is_shown ≡ false → Says report.old report.new
+        (others_line (names_of others.now)) }
+{
+    let Some(first) = others.first() else {
+        return;
+    };
+    let count = others.len();
+    let text = plural(
+        count,
+        b" file of other names names a symbol, as ",
+        b" files of other names name a symbol, as ",
+    );
+    report_number(report, count, text, first.path.as_bytes());
 }

@@ -16,6 +16,7 @@ mod job;
 mod last_lines;
 mod laws;
 mod list_file;
+mod other_files;
 mod paths;
 mod patterns;
 mod process_files;

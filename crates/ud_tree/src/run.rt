@@ -1,18 +1,21 @@
 //! The run over all files of a tree.
 
 ghost use Rattle.std.specs.Prelude.{◌≡◌, ◌++◌, [], true, false, OnOk};
+ghost use Rattle.std.specs.List.{AllPairs};
 ghost use Rattle.ud_passes.specs.names.NameTables.{names_in, Tabulates};
 ghost use Rattle.ud_tree.specs.Messages.{TellsIf, list_message, write_message};
 ghost use Rattle.ud_tree.specs.Statuses.{tree_status};
 ghost use Rattle.ud_tree.specs.Streams.{source_of};
 ghost use Rattle.ud_io.specs.Streams.{Sends, stream_of};
 ghost use Rattle.ud_tree.specs.TreeRuns.{EndsWriting, RunsTree};
+ghost use Rattle.ud_tree.specs.Walks.{IsBefore};
 ghost use Rattle.ud_tree.specs.Writing.{WritesList, moment};
 
 use crate::arguments::{Arguments, Task};
 use crate::find_files::find_files;
 use crate::job::Job;
 use crate::last_lines::report_end;
+use crate::other_files::find_others;
 use crate::process_files::process_files;
 use crate::report::Report;
 use crate::send::flush;
@@ -83,6 +86,7 @@ fn process_all<T: Tree, W: Write, E: Write>(
     out: &mut Watched<W>,
     err: Watched<E>,
 ) -> (Watched<E>, u8)
+    requires { AllPairs IsBefore files.now }
     ensures { EndsWriting job.now walk_faults
         (moment T.history W.contents E.contents tree.old out.old err) files.now
         (moment T.history W.contents E.contents tree.new out.new result.0) result.1 }
@@ -91,13 +95,15 @@ fn process_all<T: Tree, W: Write, E: Write>(
     report.seek_names(job);
     let mut names = Names::new(job.alloc, job.arguments.list_hidden);
     let counts = process_files(job, tree, files, out, &mut names, &mut report);
+    let others = find_others(job, tree, files, &mut report);
     let list_fault = write_lists(job, out, &mut report, &names);
     let out_fault = finish_output(out, &mut report);
     let faults = walk_faults
         .saturating_add(usize::from(list_fault))
         .saturating_add(usize::from(out_fault))
         .saturating_add(counts.faulty);
-    report_end(job, &mut report, names.hidden(), counts, faults);
+    let others = others.as_slice();
+    report_end(job, &mut report, names.hidden(), counts, faults, others);
     let err = report.into_stream();
     let status = status(job.arguments, err.failed(), faults, counts.changed);
     (err, status)

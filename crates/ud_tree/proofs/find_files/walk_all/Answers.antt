@@ -1,8 +1,4 @@
-use Rattle.std.proofs.Common.{ℕ, ◌<◌, map, refl, ap, subst, arith}
-use Rattle.ud_tree.proofs.CatchLemmas.{grows_same, catches_none, catches_then}
-use Rattle.std.specs.Prelude.{string_bytes}
-use Rattle.ud_tree.proofs.CoverLemmas.{starts_none, starts_at, covers_paths}
-use Rattle.ud_tree.proofs.WalkTellLemmas.{paths_given, paths_covered, if_ok_both, goes_none, goes_then, stops_bad, stops_by}
+use Rattle.ud_tree.proofs.WalkTellLemmas.{paths_given, paths_covered, if_ok_both, stops_bad, stops_by}
 use Rattle.ud_tree.proofs.find_files.walk_all.Goals as goal
 
 pub returns-then-job-clause-walks : goal.returns-then-job-clause-walks
@@ -12,45 +8,9 @@ returns-then-job-clause-walks g c = if_ok_both c.add_input.result
       stops = λ cut none. stops_by c.if-job.true (stops cut);
     }) c.add_input.ensures.takes c.add_input.ensures.stops
 
-pub loop-path-init : goal.loop-path-init
-loop-path-init g c = (
-  goes_none (g.T.Directory.history c.args.tree.now) c.args.walk.now c.args.report.now,
-  starts_none (g.T.Directory.history c.args.tree.now) (map (λ d. string_bytes d) c.args.walk.now.directories.items) c.args.walk.now.found.items c.args.report.now,
-  catches_none (g.T.Directory.history c.args.tree.now) c.args.walk.now c.args.walk.now (grows_same _ _ refl refl),
-)
-
-pub loop-path-preserved : goal.loop-path-preserved
-loop-path-preserved g c = (
-  goes_then c.loop-path.invariant.0 c.start.ensures.goes_on refl,
-  starts_at (λ p. string_bytes p) c.as_slice-path-items.result.now c.loop-path.path-index c.path-item.result
-      c.as_str.result.now c.loop-path-test.true c.path-item.is c.as_str.ensures.value
-      c.in_ok-start.ensures.catches.grows.stay c.loop-path.invariant.1 (rw c.loop-path.invariant.2.grows.same at c.in_ok-start.ensures.starts),
-  catches_then c.loop-path.invariant.2 c.in_ok-start.ensures.catches,
-)
-
-pub returns-in_err-start-clause-goes_on : goal.returns-in_err-start-clause-goes_on
-returns-in_err-start-clause-goes_on g c = goes_then c.loop-path.invariant.0 c.start.ensures.goes_on refl
-
-pub returns-then-faulty-gt0-clause-walks : goal.returns-then-faulty-gt0-clause-walks
-returns-then-faulty-gt0-clause-walks g c = record {
-  takes = λ is. cc;
-  stops = λ cut none. stops_bad _ none c.if-job.false (subst (λ (n : ℕ). 0 < n) c.faulty.ensures c.if-faulty-gt0.true) c.loop-path.invariant.0.told;
-}
-
-pub returns-in_err-go-clause-goes_on : goal.returns-in_err-go-clause-goes_on
-returns-in_err-go-clause-goes_on g c = goes_then c.loop-path.invariant.0 c.go.ensures.goes_on refl
-
-pub returns-clause-goes_on : goal.returns-clause-goes_on
-returns-clause-goes_on g c = goes_then c.loop-path.invariant.0 c.go.ensures.goes_on refl
-
 pub returns-clause-walks : goal.returns-clause-walks
-returns-clause-walks g c = record {
-  takes = λ all.
-      paths_covered c.args.job.now.arguments.now c.if-job.false
-      (covers_paths (λ p. string_bytes p) c.as_slice-path-items.result.now c.loop-path.path-index (omega arith)
-      (λ some. omega (arith, some, c.faulty.ensures, c.if-faulty-gt0.false)) c.loop-path.invariant.1
-      (rw c.loop-path.invariant.2.grows.same at c.in_ok-go.ensures.exhausts)
-      c.in_ok-go.ensures.catches.grows.stay (catches_then c.loop-path.invariant.2 c.in_ok-go.ensures.catches) _ (ap (map string_bytes) c.requires) (ap (map string_bytes) c.requires))
-      c.as_slice-path-items.ensures.value;
-  stops = λ is. cc;
-}
+returns-clause-walks g c = if_ok_both c.walk_paths.result
+    (λ all covers refused. record {
+      takes = λ is. paths_covered c.args.job.now.arguments.now c.if-job.false (rw c.requires at (covers is)) c.as_slice.ensures.value;
+      stops = λ bad none. stops_bad _ none c.if-job.false (refused bad) c.walk_paths.ensures.goes_on.told;
+    }) c.walk_paths.ensures.covers c.walk_paths.ensures.refused

@@ -7,7 +7,7 @@ use Rattle.ud_tree.proofs.SummaryLemmas.{ends_quiet, ends_told}
 use Rattle.ud_tree.proofs.last_lines.report_end.Goals as goal
 
 pub returns-then-job : goal.returns-then-job
-returns-then-job g c = ends_quiet c.args.job.now.arguments.now c.args.counts c.args.faults c.args.hidden c.args.report.now c.if-job.true
+returns-then-job g c = ends_quiet c.args.job.now.arguments.now c.args.counts c.args.faults c.args.hidden _ c.args.report.now c.if-job.true
 
 pub returns : goal.returns
 returns g c = let a = c.report_counts.ensures in
@@ -16,8 +16,9 @@ returns g c = let a = c.report_counts.ensures in
     let e = c.report_remaining.ensures d.hidden in
     let f = c.report_defined.ensures e.hidden in
     let h = c.report_unnamed.ensures f.hidden in
+    let o = c.report_others.ensures h.hidden in
     let names = f.keeps.unnamed ∙ e.keeps.unnamed ∙ d.keeps.unnamed ∙ b.keeps.unnamed ∙ a.keeps.unnamed in
     let same = d.keeps.remaining ∙ b.keeps.remaining ∙ a.keeps.remaining in
-    ends_told c.args.job.now.arguments.now c.args.counts c.args.faults c.args.hidden c.if-job.false
-    (says_then (says_then (says_then (says_then (says_then a b) d) (says_same (ap (λ (m : RemainingState). remaining_line c.args.job.now.arguments.now.list_remaining m.count) same) e))
-    (says_same (ap (λ (m : RemainingState). defined_line c.args.job.now.arguments.now.list_remaining m.defined) (e.keeps.remaining ∙ same)) f)) (says_same (ap (λ (ns : List (List ℕ)). flat_map unnamed_line ns) names) h))
+    ends_told c.args.job.now.arguments.now c.args.counts c.args.faults c.args.hidden _ c.if-job.false
+    (says_then (says_then (says_then (says_then (says_then (says_then a b) d) (says_same (ap (λ (m : RemainingState). remaining_line c.args.job.now.arguments.now.list_remaining m.count) same) e))
+    (says_same (ap (λ (m : RemainingState). defined_line c.args.job.now.arguments.now.list_remaining m.defined) (e.keeps.remaining ∙ same)) f)) (says_same (ap (λ (ns : List (List ℕ)). flat_map unnamed_line ns) names) h)) o)

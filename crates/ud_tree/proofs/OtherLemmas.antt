@@ -1,0 +1,141 @@
+-- The files of other names, and which of them name a symbol.
+use Rattle.std.proofs.Common.{◌≡◌, ◌⊎◌, inl, inr, ℕ, ◌<◌, ◌≤◌, ◌+◌, List, [], ◌∷◌, ◌++◌, length, get_or, map, cond, Bool, true, false, not, ◌&&◌, Option, is_some, Result, Ok, Err, is_ok, refl, sym, ap, ◌∙◌, arith, append-nil, bytes_eq, is_eq, is_lt}
+use Rattle.std.proofs.lemmas.Bool.{cases_lt}
+use Rattle.std.proofs.lemmas.Cmp.{nat_list_cmp_total}
+use Rattle.std.proofs.lemmas.List.{map-append}
+use Rattle.std.proofs.lemmas.List.Elements.{filter-append}
+use Rattle.std.proofs.lemmas.List.Folds.{list_any_at, list_any_none}
+use Rattle.std.proofs.lemmas.List.Sorted.{searchable_from_sorted}
+use Rattle.std.proofs.lemmas.Map.Text.{is_eq-slice_cmp}
+use Rattle.std.specs.Cmp.Lexicographic.{slice_cmp}
+use Rattle.std.specs.List.{AllPairs, All}
+use Rattle.std.specs.List.Sorted.{IsSearchInRange, IsBinarySearchResult, IsNonDecreasingBy}
+use Rattle.std.specs.Ordering.{nat_cmp, ordering_index, ordering_reverse}
+use Rattle.std.specs.declared.cmp.Ordering.{Ordering}
+use Rattle.std.specs.declared.cmp.Ordering.TheVariants.{Less, Equal, Greater}
+use Rattle.std.specs.Prelude.{string_bytes, filter}
+use Rattle.ud_model.specs.conditions.Table.{Argument}
+use Rattle.ud_replace.specs.declared.stat.FileStat.{FileStat}
+use Rattle.ud_replace.specs.Calls.{Call, was_read}
+use Rattle.ud_replace.specs.Moments.{EachCall}
+use Rattle.ud_tree.specs.declared.walk.Found.{Found}
+use Rattle.ud_tree.specs.Covering.{CoversPaths, IsIn}
+use Rattle.ud_tree.specs.Others.{Look, calls_of, is_among, is_named, names_symbol, any_name, ReadsOthers, WalksOthers, AreOthers, no_path}
+use Rattle.ud_tree.specs.Reports.{ReportState}
+use Rattle.ud_tree.specs.Runs.{reads}
+use Rattle.ud_tree.specs.TreeMoments.{TouchesNothing}
+use Rattle.ud_tree.specs.Walks.{IsBefore, IsFileList}
+use Rattle.ud_tree.specs.WalkMessages.{GoesOn}
+use Rattle.ud_tree.specs.declared.arguments.Arguments.{Arguments}
+use Rattle.ud_tree.specs.declared.walk.Walk.{Walk}
+use Rattle.ud_tree.proofs.CoverLemmas.{covers_kept}
+use Rattle.ud_tree.proofs.TreeLaws.{each_then, each_at, read_touches, walk_touches}
+use Rattle.ud_tree.proofs.WalkLemmas.{walk_found}
+use Rattle.ud_tree.proofs.WalkTellLemmas.{some_told}
+
+-- 1. A binary search finds the file with a path.
+
+-- How the path of a file compares with that of another one.
+abbrev pub by_path : Found → Found → Ordering
+by_path f g = slice_cmp nat_cmp (string_bytes g.path) (string_bytes f.path)
+
+-- The paths of files that ascend don't fall.
+rise : (files : List Found) (f : Found) → AllPairs IsBefore files → IsNonDecreasingBy (λ g. ordering_index (by_path f g)) files
+rise files f ascend = searchable_from_sorted nat_list_cmp_total (λ g. string_bytes g.path) files (string_bytes f.path) (λ k d low high.
+    ap is_lt (nat_list_cmp_total.antisymm (string_bytes (get_or files (k + 1) d).path) (string_bytes (get_or files k d).path)
+    ∙ ap ordering_reverse (ascend k (k + 1) d (omega arith) high)))
+
+-- Paths are equal if they compare so.
+same_path : (f g : Found) (o : Ordering) → by_path f g ≡ o → bytes_eq (string_bytes g.path) (string_bytes f.path) ≡ is_eq o
+same_path f g o is = sym (is_eq-slice_cmp (string_bytes g.path) (string_bytes f.path)) ∙ ap is_eq is
+
+-- The search answers whether one of the files has the path.
+pub is_among_searched : (files : List Found) (f : Found) (r : Result ℕ ℕ) → AllPairs IsBefore files → IsSearchInRange r (length files) → IsBinarySearchResult (by_path f) files r →
+    is_ok r ≡ is_among files f
+is_among_searched files f (Ok i) ascend within at =
+    sym (list_any_at (λ g. bytes_eq (string_bytes g.path) (string_bytes f.path)) files i f within (same_path f (get_or files i f) Equal (at f)))
+is_among_searched files f (Err i) ascend within at = sym (list_any_none (λ g. bytes_eq (string_bytes g.path) (string_bytes f.path)) files none)
+  where
+    none : All (λ g. bytes_eq (string_bytes g.path) (string_bytes f.path) ≡ false) files
+    none k d inside = by_side (cases_lt k i)
+      where
+        by_side : (k < i) ⊎ (i ≤ k) → bytes_eq (string_bytes (get_or files k d).path) (string_bytes f.path) ≡ false
+        by_side (inl low) = same_path f (get_or files k d) Less ((at (rise files f ascend)).0 k d (omega arith) low)
+        by_side (inr high) = same_path f (get_or files k d) Greater ((at (rise files f ascend)).1 k d high inside)
+
+-- 2. Files are read in turn.
+
+calls_push : (looks : List Look) (l : Look) (old : List Call) → calls_of (looks ++ l ∷ []) old ≡ was_read (string_bytes l.file.path) l.bytes l.answer ∷ calls_of looks old
+calls_push [] l old = refl
+calls_push (k ∷ looks) l old = calls_push looks l (was_read (string_bytes k.file.path) k.bytes k.answer ∷ old)
+
+-- A call that read a file touches none.
+pub touches_more : {name bytes : List ℕ} {old mid new : List Call} (answer : Option FileStat) → EachCall TouchesNothing old mid → new ≡ was_read name bytes answer ∷ mid →
+    EachCall TouchesNothing old new
+touches_more answer h is = each_then h (read_touches (reads answer is))
+
+module _ {table : List Argument} {files : List Found} where
+  -- No file was read yet.
+  pub reads_none : (calls : List Call) (others : List Found) → others ≡ [] → ReadsOthers table files [] calls calls others
+  reads_none calls others none = record { looks = []; files_are = refl; calls_are = refl; others_are = none }
+
+  -- A file of the run isn't read.
+  pub reads_among : {all others : List Found} {old new : List Call} (f : Found) → is_among files f ≡ true → ReadsOthers table files all old new others →
+      ReadsOthers table files (all ++ f ∷ []) old new others
+  reads_among {all = all} f is h = record {
+    looks = h.looks;
+    files_are = h.files_are ∙ sym (append-nil _) ∙ ap (λ (b : Bool). filter (λ g. not (is_among files g)) all ++ cond (not b) (f ∷ []) []) (sym is)
+        ∙ sym (filter-append (λ g. not (is_among files g)) all (f ∷ []));
+    calls_are = h.calls_are;
+    others_are = h.others_are;
+  }
+
+  -- Another one was read.
+  pub reads_more : {all others after : List Found} {old mid new : List Call} (f : Found) (path bytes : List ℕ) (answer : Option FileStat) (named : Bool) →
+      is_among files f ≡ false → path ≡ string_bytes f.path → ReadsOthers table files all old mid others →
+      new ≡ was_read path bytes answer ∷ mid → named ≡ (is_some answer && names_symbol table bytes) →
+      after ≡ others ++ cond named (f ∷ []) [] → ReadsOthers table files (all ++ f ∷ []) old new after
+  reads_more {all = all} {others = others} {old = old} {mid = mid} f path bytes answer named is at h call tells grown = record {
+    looks = h.looks ++ look ∷ [];
+    files_are = map-append (λ l. l.file) h.looks (look ∷ []) ∙ ap (λ (fs : List Found). fs ++ f ∷ []) h.files_are
+        ∙ ap (λ (b : Bool). filter (λ g. not (is_among files g)) all ++ cond (not b) (f ∷ []) []) (sym is)
+        ∙ sym (filter-append (λ g. not (is_among files g)) all (f ∷ []));
+    calls_are = call ∙ ap (λ (p : List ℕ). was_read p bytes answer ∷ mid) at ∙ ap (λ (cs : List Call). was_read (string_bytes f.path) bytes answer ∷ cs) h.calls_are
+        ∙ sym (calls_push h.looks look old);
+    others_are = grown ∙ ap (λ (fs : List Found). fs ++ cond named (f ∷ []) []) h.others_are ∙ ap (λ (b : Bool). map (λ l. l.file) (filter (is_named table) h.looks) ++ cond b (f ∷ []) []) tells
+        ∙ ap (λ (fs : List Found). map (λ l. l.file) (filter (is_named table) h.looks) ++ fs) (one (is_named table look))
+        ∙ sym (map-append (λ l. l.file) (filter (is_named table) h.looks) (filter (is_named table) (look ∷ [])))
+        ∙ ap (map (λ l. l.file)) (sym (filter-append (is_named table) h.looks (look ∷ [])));
+  }
+    where
+      look : Look
+      look = record { file = f; bytes = bytes; answer = answer }
+
+      one : (b : Bool) → cond b (f ∷ []) [] ≡ map (λ l. l.file) (cond b (look ∷ []) [])
+      one true = refl
+      one false = refl
+
+-- 3. The walk over files of all names.
+
+-- It touches no file.
+pub walked_touches : {calls calls' : List Call} {w w' : Walk} {r r' : ReportState} → GoesOn calls calls' w w' r r' → EachCall TouchesNothing calls calls'
+walked_touches {calls = calls} h = each_at h.finds.are (walk_touches h.finds.calls calls)
+
+-- It found all files.
+pub walked_over : {args : Arguments} {calls calls' : List Call} {w w' : Walk} {r r' : ReportState} (files : List Found) → w.found.items ≡ [] → r.faulty ≡ 0 →
+    GoesOn calls calls' w w' r r' →
+    CoversPaths (map string_bytes args.paths.items) (any_name (map string_bytes args.patterns.items)) calls calls' (IsIn w'.found.items) (0 < r'.faulty) →
+    IsFileList w'.found.items files → WalksOthers args calls calls' files
+walked_over {w' = w'} {r = r} {r' = r'} files empty none h covers l = record {
+  messages = h.told.messages;
+  walk = h.told.walk;
+  is_walk = walk_found files empty h.finds l;
+  covers = covers_kept w'.found.items files (0 < r'.faulty) (0 < length h.told.messages)
+      (λ some. some_told r.faulty r'.faulty (length h.told.messages) none h.told.counted some) l.kept covers;
+}
+
+-- A path of the command line can't be taken any more.
+pub none_walked : {table : List Argument} {args : Arguments} {files : List Found} {calls calls' : List Call} {w w' : Walk} {r r' : ReportState} {others : List Found} → r.faulty ≡ 0 →
+    GoesOn calls calls' w w' r r' → 0 < r'.faulty → others ≡ [] → AreOthers table args files calls calls' others
+none_walked {r = r} {r' = r'} none h bad empty =
+    no_path h.told.messages h.told.walk (some_told r.faulty r'.faulty (length h.told.messages) none h.told.counted bad) empty

@@ -1,0 +1,17 @@
+-- They aren't wanted.
+use Rattle.std.proofs.Common.{refl, sym, ◌∙◌, true≢false}
+use Rattle.ud_replace.specs.Moments.{no_call}
+use Rattle.ud_tree.proofs.other_files.find_others.Goals as goal
+
+pub returns-then-not-wants_others : goal.returns-then-not-wants_others
+returns-then-not-wants_others g c = record {
+  screen = record { quiet = refl; terminal = refl; shown = refl };
+  remaining = refl;
+  unnamed = refl;
+  kept = λ lost. lost;
+  seeks = record {
+    touches = no_call;
+    unwanted = λ off. (refl, c.new.ensures.items);
+    found = λ whole wanted. absurd (true≢false (sym wanted ∙ sym c.wants_others.ensures ∙ c.if-not-wants_others.true));
+  };
+}
