@@ -1,9 +1,10 @@
 -- Searches: text lines are passed, a line is taken, and a mention ends.
-use Rattle.std.proofs.Common.{◌≡◌, ℕ, ◌+◌, ◌-◌, ◌≤◌, List, [], ◌∷◌, ◌++◌, length, min, take, drop, ◌<◌, ◌^◌, length-append, length-drop, take-append-drop, Bool, true, false, Option, None, Some, is_some, refl, sym, ◌∙◌, ap, subst, append_assoc, append-nil, arith}
+use Rattle.std.proofs.Common.{◌≡◌, ℕ, ◌+◌, ◌&&◌, ◌-◌, ◌≤◌, List, [], ◌∷◌, ◌++◌, length, min, take, drop, ◌^◌, length-append, length-drop, take-append-drop, Bool, true, false, Option, None, Some, is_some, refl, sym, ◌∙◌, ap, subst, append_assoc, append-nil, arith, ap₂}
 use Rattle.std.specs.Prelude.{bytes_eq, map, filter}
 use Rattle.std.specs.List.{concat, flat_map, list_any}
 use Rattle.std.proofs.lemmas.Bool.{and_right}
 use Rattle.std.proofs.lemmas.Grind.{common_steps, flat_map-append}
+use Rattle.std.proofs.lemmas.List.{map-append, length-map}
 use Rattle.std.proofs.lemmas.List.Elements.{filter-append}
 use Rattle.ud_model.specs.text.Lines.{Line, whole_lines}
 use Rattle.ud_model.specs.text.Scans.{Reading}
@@ -16,10 +17,10 @@ use Rattle.ud_text.proofs.lemmas.bulk.QuietLineLemmas.{ended_lines}
 use Rattle.ud_passes.specs.Passes.{fits}
 use Rattle.ud_passes.specs.Walks.{reading_at, read_after, AreTexts, HaveBytes, Walked}
 use Rattle.ud_passes.specs.remaining.Definitions.{IsClear}
-use Rattle.ud_passes.specs.remaining.Mentions.{Mention, mentions_in, mentions_of, joins_next}
+use Rattle.ud_passes.specs.remaining.Mentions.{Mention, mentions_in, mentions_of, joins_next, joined_text}
 use Rattle.ud_passes.specs.remaining.ListedNames.{names_by, has_word, names_listed}
-use Rattle.ud_passes.specs.remaining.RemainingLists.{RemainingState, AddsAll, lines_for, named_count, defining_count, line_of, has_name, is_named, remaining_text}
-use Rattle.ud_passes.specs.remaining.Searches.{taken, rest_from, ended, Appends, Counts, EndsLine, Searched, IsTaken, begun_as, IsClearTo}
+use Rattle.ud_passes.specs.remaining.RemainingLists.{RemainingState, AddsAll, is_condition, is_defining, lines_for, named_count, defining_count, line_of, has_name, is_named, remaining_text}
+use Rattle.ud_passes.specs.remaining.Searches.{taken, rest_from, ended, Appends, Counts, EndsLine, Searched, IsTaken, begun_as, IsClearTo, shown_number, as_listed}
 use Rattle.ud_passes.specs.declared.remaining.mentions.Begun.{Begun}
 use Rattle.ud_passes.specs.declared.remaining.listing.Listing.{Listing}
 use Rattle.ud_passes.specs.declared.remaining.listing.Listing.TheVariants.{Counted, Texts}
@@ -69,7 +70,43 @@ module _ (table : List Argument) where
   still_clear until n rest c = let size = length-drop n rest in
       subst (λ (k : ℕ). IsClear table k (drop n rest)) (omega (arith, size)) (clear_drop table n (length rest - until) rest c)
 
--- 2. What is appended.
+-- 2. Numbers that the list doesn't show.
+
+-- What a filter leaves of mapped items.
+pub kept_names : {A B : Type 0} (f : A → B) (p : B → Bool) (q : A → Bool) → ((x : A) → q x ≡ p (f x)) → (xs : List A) → map f (filter q xs) ≡ filter p (map f xs)
+kept_names f p q h [] = refl
+kept_names f p q h (x ∷ xs) = grind (arith, h x, kept_names f p q h xs)
+
+pub shown_sum : (l : Listing) (a b c d : ℕ) → shown_number l a ≡ shown_number l b → shown_number l c ≡ shown_number l d → shown_number l (a + c) ≡ shown_number l (b + d)
+shown_sum l a b c d e f = grind arith
+
+pub seen_more : (l : Listing) (seen read rs more : List Reading) → map (as_listed l) seen ≡ map (as_listed l) read → map (as_listed l) rs ≡ map (as_listed l) more → map (as_listed l) (seen ++ rs) ≡ map (as_listed l) (read ++ more)
+seen_more l seen read rs more e f = map-append (as_listed l) seen rs ∙ ap₂ (λ (x y : List Reading). x ++ y) e f ∙ sym (map-append (as_listed l) read more)
+
+-- A mention with the number that the list shows.
+abbrev as_shown : Listing → Mention → Mention
+as_shown l m = record m { number = shown_number l m.number }
+
+joined_seen : (l : Listing) (class : Class) (goes_on : Bool) (rs : List Reading) → joined_text class goes_on (map (as_listed l) rs) ≡ joined_text class goes_on rs
+joined_seen l class false rs = refl
+joined_seen l class true [] = refl
+joined_seen l class true (r ∷ rs) = grind (arith, joined_seen l class (joins_next r) rs)
+
+module _ (table : List Argument) (l : Listing) where
+  mentions_seen : (inside : Bool) (rs : List Reading) → mentions_in table inside (map (as_listed l) rs) ≡ map (as_shown l) (mentions_in table inside rs)
+  mentions_seen true [] = refl
+  mentions_seen false [] = refl
+  mentions_seen true (r ∷ rs) = mentions_seen (joins_next r) rs
+  mentions_seen false (r ∷ rs) = grind (arith, joined_seen, mentions_seen (joins_next r) rs, mentions_seen false rs)
+
+  lines_seen : (name : List ℕ) (ms : List Mention) → lines_for table l name (map (as_shown l) ms) ≡ lines_for table l name ms
+  lines_seen name [] = refl
+  lines_seen name (m ∷ ms) = grind (arith, lines_seen name ms)
+
+count_seen : (l : Listing) (p : Mention → Bool) → ((m : Mention) → p m ≡ p (as_shown l m)) → (ms : List Mention) → length (filter p (map (as_shown l) ms)) ≡ length (filter p ms)
+count_seen l p h ms = ap (λ (xs : List Mention). length xs) (sym (kept_names (as_shown l) p p h ms)) ∙ length-map (filter p ms) (as_shown l)
+
+-- 3. What is appended.
 
 pub defining_count-append : (ms ns : List Mention) → defining_count (ms ++ ns) ≡ defining_count ms + defining_count ns
 defining_count-append ms ns = grind (arith, common_steps, filter-append)
@@ -95,6 +132,20 @@ module _ (table : List Argument) (name : List ℕ) where
 
   pub appends_more : (ms ns : List Mention) (start mid new : Search) → Appends table name ms start mid → Appends table name ns mid new → Appends table name (ms ++ ns) start new
   appends_more ms ns start mid new a b = grind (arith, common_steps, named_count-append, defining_count-append, lines_for-append)
+
+-- The mentions of lines with other numbers, which the list doesn't show.
+pub appends_seen : (table : List Argument) (name : List ℕ) (start new : Search) (seen read : List Reading) → map (as_listed start.listing) seen ≡ map (as_listed start.listing) read →
+    Appends table name (mentions_in table false seen) start new → Appends table name (mentions_in table false read) start new
+appends_seen table name start new seen read e a =
+    let l : Listing = start.listing in
+    let lines = same (lines_for table l name) (lines_seen table l name) in
+    let named = same (named_count table) (count_seen l (λ m. is_condition m.class && names_listed table m) (λ m. refl)) in
+    let defining = same defining_count (count_seen l (λ m. is_defining m.class) (λ m. refl)) in
+    grind arith
+  where
+    same : {A : Type 0} (f : List Mention → A) → ((ms : List Mention) → f (map (as_shown start.listing) ms) ≡ f ms) → f (mentions_in table false seen) ≡ f (mentions_in table false read)
+    same f h = sym (h (mentions_in table false seen)) ∙ ap f (sym (mentions_seen table start.listing false seen)) ∙ ap (λ (rs : List Reading). f (mentions_in table false rs)) e
+        ∙ ap f (mentions_seen table start.listing false read) ∙ h (mentions_in table false read)
 
 -- A word of the texts of some mentions is a word of a condition among them.
 pub texts_have : (table : List Argument) (name file : List ℕ) (ms : List Mention) → has_word (bytes_eq name) false (flat_map (line_of table Texts file) ms) ≡ list_any (has_name name) ms
@@ -131,12 +182,7 @@ counted_all {table = table} {mode = mode} {bytes = bytes} name found old new h i
   listing_is = listing;
 }
 
--- The rest of some names that are filtered by their bytes.
-pub kept_names : {A B : Type 0} (f : A → B) (p : B → Bool) (q : A → Bool) → ((x : A) → q x ≡ p (f x)) → (xs : List A) → map f (filter q xs) ≡ filter p (map f xs)
-kept_names f p q h [] = refl
-kept_names f p q h (x ∷ xs) = grind (arith, h x, kept_names f p q h xs)
-
--- 3. The places of a search.
+-- 4. The places of a search.
 
 pub none_begun : (b : Option Begun) (bytes : List ℕ) → is_some b ≡ false → begun_as b bytes ≡ None
 none_begun b bytes e = grind arith
@@ -148,18 +194,22 @@ module _ (table : List Argument) (mode : Mode) (name text : List ℕ) (start old
     (new : Search) (next : Place) (on : Walk) (clear : IsClearTo table next.until on.rest.now) where
   -- Text lines were passed.
   pub texts_searched : (bytes : List ℕ) (rs : List Reading) → AreTexts rs → DefineNothing table rs → HaveBytes bytes rs → Walked mode text (s.read ++ rs) on.rest.now on.scanner →
-      is_some place.begun ≡ false → is_some next.begun ≡ false → (count : ℕ) → count ≡ length (whole_lines bytes) → next.number ≡ place.number + count →
+      is_some place.begun ≡ false → is_some next.begun ≡ false → (count : ℕ) → shown_number old.listing count ≡ shown_number old.listing (length (whole_lines bytes)) → next.number ≡ place.number + count →
       new.list.items ≡ old.list.items → new.count ≡ old.count → new.defined ≡ old.defined → new.listing ≡ old.listing → Searched table mode name text start new next on
   texts_searched bytes rs h undefined b w none none_then count c m l k d g =
-      let parts : Goes table s.read s.found None true = λ rs. s.parts rs ∙ ap (λ (x : Option Mention). s.found ++ rest_from table x true rs) (none_begun place.begun old.after.items none) in
-      let i = s.number_is in let n = b.count_is in let o = length-append s.read rs in
+      let parts : Goes table s.seen s.found None true = λ rs. s.parts rs ∙ ap (λ (x : Option Mention). s.found ++ rest_from table x true rs) (none_begun place.begun old.after.items none) in
+      let n = b.count_is in let o = length-append s.read rs in
       record {
         read = s.read ++ rs;
         walked = w;
-        number_is = omega (arith, i, n, o, c, m);
+        number_is = ap (shown_number start.listing) m
+            ∙ shown_sum start.listing place.number (1 + length s.read) count (length (whole_lines bytes)) s.number_is (subst (λ (x : Listing). shown_number x count ≡ shown_number x (length (whole_lines bytes))) s.appends.listing_is c)
+            ∙ ap (shown_number start.listing) (omega (arith, n, o));
+        seen = s.seen ++ rs;
+        seen_is = seen_more start.listing s.seen s.read rs rs s.seen_is refl;
         clear = clear;
         found = s.found;
-        parts = λ more. goes_by_texts table s.read s.found rs h undefined parts more ∙ ap (λ (x : Option Mention). s.found ++ rest_from table x true more) (sym (none_begun next.begun new.after.items none_then));
+        parts = λ more. goes_by_texts table s.seen s.found rs h undefined parts more ∙ ap (λ (x : Option Mention). s.found ++ rest_from table x true more) (sym (none_begun next.begun new.after.items none_then));
         appends = appends_kept table name s.found start old new s.appends l k d g;
       }
 
@@ -169,15 +219,22 @@ module _ (table : List Argument) (mode : Mode) (name text : List ℕ) (start old
     abbrev r : Reading
     r = read_after mode s.read k
 
+    -- The line with the number that the search has for it.
+    abbrev seen : Reading
+    seen = reading_at mode k (scan_after s.read mode k) place.number
+
     abbrev begun_before : Option Mention
     begun_before = begun_as place.begun old.after.items
 
-    line_taken : (c : Option Begun) (goes_on : Bool) → begun_as c mid.after.items ≡ taken table begun_before r → goes_on ≡ joins_next r →
+    pub line_searched : (c : Option Begun) (goes_on : Bool) → IsTaken table begun_before seen (begun_as c mid.after.items) goes_on →
         EndsLine table name c goes_on mid new next.begun → Searched table mode name text start new next on
-    line_taken c goes_on t j e = record {
+    line_searched c goes_on i e = record {
       read = s.read ++ r ∷ [];
       walked = w;
-      number_is = let i = s.number_is in let o = length-append s.read (r ∷ []) in omega (arith, i, o, m);
+      number_is = let o = length-append s.read (r ∷ []) in
+          ap (shown_number start.listing) m ∙ shown_sum start.listing place.number (1 + length s.read) 1 1 s.number_is refl ∙ ap (shown_number start.listing) (omega (arith, o));
+      seen = s.seen ++ seen ∷ [];
+      seen_is = seen_more start.listing s.seen s.read (seen ∷ []) (r ∷ []) s.seen_is (ap (λ (n : ℕ). reading_at mode k (scan_after s.read mode k) n ∷ []) s.number_is);
       clear = clear;
       found = after.0;
       parts = after.1;
@@ -190,29 +247,25 @@ module _ (table : List Argument) (mode : Mode) (name text : List ℕ) (start old
         kept : Appends table name s.found start mid
         kept = grind arith
 
-        goes : Goes table (s.read ++ r ∷ []) s.found q goes_on
+        goes : Goes table (s.seen ++ seen ∷ []) s.found q goes_on
         goes = grind (arith, goes_by_line)
 
-        by : (b : Bool) → Goes table (s.read ++ r ∷ []) s.found q b → EndsLine table name c b mid new next.begun →
-            (found : List Mention) × Goes table (s.read ++ r ∷ []) found (begun_as next.begun new.after.items) true × Appends table name found start new
+        by : (b : Bool) → Goes table (s.seen ++ seen ∷ []) s.found q b → EndsLine table name c b mid new next.begun →
+            (found : List Mention) × Goes table (s.seen ++ seen ∷ []) found (begun_as next.begun new.after.items) true × Appends table name found start new
         by true g a = grind (arith, append-nil, appends_more, kept)
         by false g a = (
           s.found ++ ended q,
-          subst (λ (x : Option Mention). Goes table (s.read ++ r ∷ []) (s.found ++ ended q) x true) (sym a.1) (goes_by_end table (s.read ++ r ∷ []) s.found q g),
+          subst (λ (x : Option Mention). Goes table (s.seen ++ seen ∷ []) (s.found ++ ended q) x true) (sym a.1) (goes_by_end table (s.seen ++ seen ∷ []) s.found q g),
           appends_more table name s.found (ended q) start mid new kept a.0,
         )
 
-        after : (found : List Mention) × Goes table (s.read ++ r ∷ []) found (begun_as next.begun new.after.items) true × Appends table name found start new
+        after : (found : List Mention) × Goes table (s.seen ++ seen ∷ []) found (begun_as next.begun new.after.items) true × Appends table name found start new
         after = by goes_on goes e
 
-    pub line_searched : (c : Option Begun) (goes_on : Bool) → IsTaken table begun_before (reading_at mode k (scan_after s.read mode k) place.number) (begun_as c mid.after.items) goes_on →
-        EndsLine table name c goes_on mid new next.begun → Searched table mode name text start new next on
-    line_searched c goes_on i e = grind (arith, line_taken)
-
     pub long_searched : fits k ≡ false → mid.after.items ≡ old.after.items → EndsLine table name place.begun false mid new next.begun → Searched table mode name text start new next on
-    long_searched f a e = line_taken place.begun false (ap (begun_as place.begun) a ∙ sym (taken_long table begun_before r f)) (sym (joins_long r f)) e
+    long_searched f a e = line_searched place.begun false (ap (begun_as place.begun) a ∙ sym (taken_long table begun_before seen f), sym (joins_long seen f)) e
 
--- 4. The whole text.
+-- 5. The whole text.
 
 pub first_place : (table : List Argument) (mode : Mode) (name all : List ℕ) (now : Search) (until : ℕ) (walk : Walk) → until ≡ length walk.rest.now → Walked mode all [] walk.rest.now walk.scanner →
     Searched table mode name all now now (record { number = 1; begun = None; until = until }) walk
@@ -221,6 +274,8 @@ first_place table mode name all now until walk e w =
       read = [];
       walked = w;
       number_is = refl;
+      seen = [];
+      seen_is = refl;
       clear = subst (λ (n : ℕ). IsClear table n walk.rest.now) {x = 0} (omega arith) tt;
       found = [];
       parts = λ rs. refl;
@@ -232,6 +287,7 @@ pub all_searched : (table : List Argument) (mode : Mode) (name text : List ℕ) 
 all_searched table mode name text start now new place walk s e a =
     let b : Option Mention = begun_as place.begun now.after.items in
     let all : s.read ≡ read_as mode text = walk_ends mode text s.read walk.rest.now walk.scanner s.walked e in
-    let ms : s.found ++ ended b ≡ mentions_of table mode text =
-    ap (λ (x : List Mention). s.found ++ x) (sym (end_of_text table b)) ∙ sym (s.parts []) ∙ ap (λ (x : List Reading). mentions_in table false x) (append-nil s.read ∙ all) in
-    subst (λ (x : List Mention). Appends table name x start new) ms (appends_more table name s.found (ended b) start now new s.appends a)
+    let ms : s.found ++ ended b ≡ mentions_in table false s.seen =
+    ap (λ (x : List Mention). s.found ++ x) (sym (end_of_text table b)) ∙ sym (s.parts []) ∙ ap (mentions_in table false) (append-nil s.seen) in
+    subst (λ (rs : List Reading). Appends table name (mentions_in table false rs) start new) all
+    (appends_seen table name start new s.seen s.read s.seen_is (subst (λ (x : List Mention). Appends table name x start new) ms (appends_more table name s.found (ended b) start now new s.appends a)))

@@ -7,7 +7,6 @@
 
 ghost use Rattle.std.specs.Prelude.{◌≡◌, ◌+◌, ◌<◌, ◌≤◌, ◌==◌, List, [], ℕ, length, true, false};
 ghost use Rattle.std.specs.Prelude.{drop};
-ghost use Rattle.ud_model.specs.text.Lines.{whole_lines};
 ghost use Rattle.ud_model.specs.text.Scans.{Reading};
 ghost use Rattle.ud_model.specs.declared.kind.Mode.{Mode};
 ghost use Rattle.ud_passes.specs.Walks.{Walked, len_of, is_one_line, IsPrefixOf, CanBeRead};
@@ -15,7 +14,7 @@ ghost use Rattle.ud_passes.specs.Walks.{IsNext};
 
 use std::alloc::Global;
 use ud_model::{LINE_BYTES, Line, Mode};
-use ud_text::{GrowingBuffer, Scanner, count_lines, line_in};
+use ud_text::{GrowingBuffer, Scanner, line_in};
 
 /// The scanner of a walk.
 pub(crate) type LineScanner = Scanner<GrowingBuffer>;
@@ -38,14 +37,6 @@ pub(crate) struct Walk<'t> {
     rest: &'t [u8],
     /// The scanner, after the lines before.
     pub(crate) scanner: LineScanner,
-}
-
-/// Returns the number of these text lines.
-pub(crate) fn lines_in(bytes: &[u8]) -> usize
-    ensures count { result ≡ length (whole_lines bytes.now) }
-    ensures few { result ≤ length bytes.now }
-{
-    count_lines(bytes)
 }
 
 impl<'t> Walk<'t> {

@@ -12,10 +12,12 @@
 --   Appends table .. ms          the mentions among `ms` that name a listed symbol were counted
 --                                and appended
 --   EndsLine table ..            a line was taken, and its mention goes on or was appended
+--   shown_number listing n       the number `n`, or 0 if the list shows no numbers
+--   as_listed listing r          the line `r` with its number so
 --   Searched table ..            the text before a place was searched
 --   SearchesOn table ..          the text before the next place was searched, too
 use Rattle.std.specs.Prelude.{◌≡◌, ℕ, ◌+◌, ◌-◌, ◌<◌, ◌^◌, List, [], ◌∷◌, ◌++◌, length, Bool, true}
-use Rattle.std.specs.Prelude.{false, Option, Some, None}
+use Rattle.std.specs.Prelude.{false, Option, Some, None, map}
 use Rattle.ud_model.specs.text.Scans.{Reading}
 use Rattle.ud_model.specs.text.Scanning.{scan_after}
 use Rattle.ud_model.specs.aids.LineViews.{as_line, as_scan}
@@ -32,6 +34,8 @@ use Rattle.ud_passes.specs.remaining.Mentions.{shown_line, shown_of, joins_next,
 use Rattle.ud_passes.specs.remaining.Mentions.{mentions_in}
 use Rattle.ud_passes.specs.remaining.RemainingLists.{lines_for, named_count, defining_count}
 use Rattle.ud_passes.specs.remaining.RemainingLists.{remaining_count, defined_count}
+use Rattle.ud_passes.specs.declared.remaining.listing.Listing.{Listing}
+use Rattle.ud_passes.specs.declared.remaining.listing.Listing.TheVariants.{Counted, Texts}
 use Rattle.ud_passes.specs.declared.remaining.mentions.Begun.{Begun}
 use Rattle.ud_passes.specs.declared.remaining.search.Place.{Place}
 use Rattle.ud_passes.specs.declared.remaining.search.Search.{Search}
@@ -135,16 +139,31 @@ EndsLine table name b false old new c =
 abbrev pub IsClearTo : List Argument → ℕ → List ℕ → Type 0
 IsClearTo table until t = IsClear table (length t - until) t
 
+-- `shown_number listing n`: the number `n`, or 0 if the list shows no numbers of lines.
+abbrev pub shown_number : Listing → ℕ → ℕ
+shown_number Counted n = 0
+shown_number Texts n = 0
+shown_number listing n = n
+
+-- `as_listed listing r`: the line `r` with this number.
+abbrev pub as_listed : Listing → Reading → Reading
+as_listed listing r =
+    record r { line = record r.line { number = shown_number listing r.line.number } }
+
 -- `Searched table mode name text start now place walk`: the text before the walk's place was
--- searched. `start` is the search before it.
+-- searched. `start` is the search before it. The lines `seen` are those lines with the numbers that
+-- the search gave them, which may be wrong if the list shows none.
 pub record Searched (table : List Argument) (mode : Mode) (name text : List ℕ)
     (start now : Search) (place : Place) (walk : Walk) : Type 0 where
   pub read : List Reading
   pub walked : Walked mode text read walk.rest.now walk.scanner
-  pub number_is : place.number ≡ 1 + length read
+  pub number_is : shown_number start.listing place.number ≡
+      shown_number start.listing (1 + length read)
+  pub seen : List Reading
+  pub seen_is : map (as_listed start.listing) seen ≡ map (as_listed start.listing) read
   pub clear : IsClearTo table place.until walk.rest.now
   pub found : List Mention
-  pub parts : (rs : List Reading) → mentions_in table false (read ++ rs) ≡
+  pub parts : (rs : List Reading) → mentions_in table false (seen ++ rs) ≡
       found ++ rest_from table (begun_as place.begun now.after.items) true rs
   pub appends : Appends table name found start now
 

@@ -23,7 +23,7 @@ use crate::remaining::listing::Listing;
 use crate::remaining::mentions::{Begun, Class, take_line};
 use crate::remaining::names::has_listed;
 use crate::remaining::reasons::reason_of;
-use crate::walk::{LineScanner, Stretch, Walk, lines_in};
+use crate::walk::{LineScanner, Stretch, Walk};
 use std::alloc::{AllocError, Global};
 use ud_cond::Symbols;
 use ud_model::{Line, Mode};
@@ -45,7 +45,7 @@ pub(crate) struct Search {
 /// A position of a search, at the beginning of a line.
 #[derive(Clone, Copy)]
 struct Place<'t> {
-    /// The number of the next line.
+    /// The number of the next line, if the list shows numbers.
     number: usize,
     /// The mention that goes on with the next line, if any.
     begun: Option<Begun<'t>>,
@@ -276,7 +276,7 @@ impl Search {
         let most = passable_len(place, walk, until);
         match walk.next_within(mode, most) {
             Stretch::Texts(bytes) => Ok(Place {
-                number: place.number + lines_in(bytes),
+                number: place.number + self.listing.lines_in(bytes),
                 begun: None,
                 until,
             }),
