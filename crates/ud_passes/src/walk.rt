@@ -35,6 +35,8 @@ pub(crate) enum Stretch<'t> {
 pub(crate) struct Walk<'t> {
     /// The text from here on.
     rest: &'t [u8],
+    /// Text lines were just taken, so what comes next is hardly another.
+    is_stopped: bool,
     /// The scanner, after the lines before.
     pub(crate) scanner: LineScanner,
 }
@@ -48,6 +50,7 @@ impl<'t> Walk<'t> {
     {
         Walk {
             rest: text,
+            is_stopped: false,
             scanner: Scanner::growing(alloc),
         }
     }
@@ -93,7 +96,7 @@ impl<'t> Walk<'t> {
             Walked mode text read self.old.rest.now self.old.scanner →
             IsNext mode text read result self.new.rest.now self.new.scanner }
     {
-        if most == 0 {
+        if most == 0 || self.is_stopped {
             return self.next_line(mode);
         }
         let within = &self.rest[..most.min(self.rest.len())];
@@ -103,6 +106,7 @@ impl<'t> Walk<'t> {
         }
         let (bytes, rest) = self.rest.split_at(skipped);
         self.rest = rest;
+        self.is_stopped = true;
         Stretch::Texts(bytes)
     }
 
@@ -118,6 +122,7 @@ impl<'t> Walk<'t> {
             Walked mode text read self.old.rest.now self.old.scanner →
             IsNext mode text read result self.new.rest.now self.new.scanner }
     {
+        self.is_stopped = false;
         let line = line_in(self.rest, 1);
         let used = line.body.len() + line.ending.len();
         self.rest = self.rest.split_at(used).1;
