@@ -1,9 +1,9 @@
 -- Unlisted conditions: those of one line more, and of many text lines more.
-use Rattle.std.proofs.Common.{◌≡◌, ℕ, ◌+◌, List, [], ◌∷◌, ◌++◌, length, length-append, append_assoc, append-nil, map, take, drop, take-append-drop, Bool, true, false, if◌then◌else◌, refl, sym, ◌∙◌, ap, ap₂, arith}
-use Rattle.std.specs.List.{filter, concat, count_by}
+use Rattle.std.proofs.Common.{◌≡◌, ℕ, ◌+◌, List, [], ◌∷◌, ◌++◌, length, length-append, append_assoc, append-nil, map, take, drop, take-append-drop, Bool, true, false, if◌then◌else◌, refl, sym, ◌∙◌, ap, arith}
+use Rattle.std.specs.List.{filter, concat}
 use Rattle.std.proofs.lemmas.List.Elements.{filter-append}
 use Rattle.std.proofs.lemmas.List.Sums.{sum_by-append}
-use Rattle.std.proofs.lemmas.Grind.{common_steps, flat_map-append}
+use Rattle.std.proofs.lemmas.Grind.{flat_map-append}
 use Rattle.std.proofs.lemmas.List.{take_all}
 use Rattle.std.proofs.Math.Nat.{le_refl}
 use Rattle.ud_model.specs.text.Lines.{Line, NoNewline, SplitLines, split_lines, last_line, line_at, numbered_from, lines_of, text_of}

@@ -1,5 +1,5 @@
 -- UnlistedLines: what the code knows of a text up to some line.
-use Rattle.std.specs.Prelude.{◌≡◌, ℕ, ◌+◌, List, [], ◌++◌, length, Bool, true, if◌then◌else◌}
+use Rattle.std.specs.Prelude.{◌≡◌, ℕ, ◌+◌, List, [], ◌++◌, length, true, if◌then◌else◌}
 use Rattle.std.specs.List.{filter}
 use Rattle.ud_model.specs.text.Scans.{Reading}
 use Rattle.ud_passes.specs.Walks.{Walked}
