@@ -72,7 +72,7 @@ module _ (table : List Argument) where
 
 -- 2. Numbers that the list doesn't show.
 
--- What a filter leaves of mapped items.
+-- The filtered items, mapped.
 pub kept_names : {A B : Type 0} (f : A → B) (p : B → Bool) (q : A → Bool) → ((x : A) → q x ≡ p (f x)) → (xs : List A) → map f (filter q xs) ≡ filter p (map f xs)
 kept_names f p q h [] = refl
 kept_names f p q h (x ∷ xs) = grind (arith, h x, kept_names f p q h xs)

@@ -36,3 +36,9 @@ pub record StayedTo (table : List Argument) (rules : Rules) (text : List ℕ) (w
   pub done : List ℕ
   pub pruned : Pruned table rules text [] 0 walk done
   pub folded : (l : LogicalLine) → Folded text [] l None walk done
+
+-- `StaysOn table rules old new`: if the lines of a text before the place `old` stay, then so do
+-- those before the place `new`.
+abbrev pub StaysOn : List Argument → Rules → Walk → Walk → Type 0
+StaysOn table rules old new =
+    (text : List ℕ) → StayedTo table rules text old → StayedTo table rules text new

@@ -1,7 +1,7 @@
 //! Texts that `fold` and `prune` leave as they are: no directive goes on to another line, and no
 //! condition is edited. Most files are such texts, and then nothing has to be copied.
 
-ghost use Rattle.std.specs.Prelude.{◌≡◌, ◌<◌, ◌≤◌, ◌∷◌, ◌++◌, List, [], ℕ, length, true, IfOk};
+ghost use Rattle.std.specs.Prelude.{◌≡◌, ◌<◌, ◌≤◌, ◌∷◌, ◌++◌, List, [], length, true, IfOk};
 ghost use Rattle.std.specs.Prelude.{OnOk};
 ghost use Rattle.ud_model.specs.text.Lines.{NoNewline, text_of};
 ghost use Rattle.ud_model.specs.text.Scans.{Reading};
@@ -13,7 +13,7 @@ ghost use Rattle.ud_text.specs.scan.ScannerState.{ScannerRepresents};
 ghost use Rattle.ud_model.specs.conditions.Table.{Argument};
 ghost use Rattle.ud_cond.specs.symbols.SymbolTable.{TableRepresents};
 ghost use Rattle.ud_cond.specs.CondViews.{as_rules};
-ghost use Rattle.ud_passes.specs.UntouchedTexts.{IsUntouched, LeavesNext, StayedTo};
+ghost use Rattle.ud_passes.specs.UntouchedTexts.{IsUntouched, LeavesNext, StaysOn};
 
 use crate::folding::begins;
 use crate::pruning::LineEditor;
@@ -62,9 +62,8 @@ fn step(
 ) -> Result<bool, AllocError>
     requires some { 0 < length walk.old.rest.now }
     ensures shorter { length walk.new.rest.now < length walk.old.rest.now }
-    ensures stay { IfOk result (λ stay. stay ≡ true → (text : List ℕ) (calls : List Argument) →
-        TableRepresents symbols.now calls → StayedTo calls (as_rules rules) text walk.old →
-        StayedTo calls (as_rules rules) text walk.new) }
+    ensures stay { IfOk result (λ stay. stay ≡ true → (calls : List Argument) →
+        TableRepresents symbols.now calls → StaysOn calls (as_rules rules) walk.old walk.new) }
 {
     match walk.next(Mode::C) {
         Stretch::Texts(_) => Ok(true),

@@ -9,6 +9,7 @@
 --   ExtendsMention table line .. p q    `q` is the mention `p` after a line with its scan
 --   IsTaken table p r q goes_on  `q` is the mention after the line `r`
 --   MentionsNext table mode s ..    the line that the scanner `s` reads next was taken
+--   AppendsLine table ..         the line of a mention was appended
 --   Appends table .. ms          the mentions among `ms` that name a listed symbol were counted
 --                                and appended
 --   EndsLine table ..            a line was taken, and its mention goes on or was appended
@@ -32,8 +33,9 @@ use Rattle.ud_passes.specs.remaining.Definitions.{IsClear}
 use Rattle.ud_passes.specs.remaining.Mentions.{Mention, mention_by, mention_on, with_text}
 use Rattle.ud_passes.specs.remaining.Mentions.{shown_line, shown_of, joins_next, joined_text}
 use Rattle.ud_passes.specs.remaining.Mentions.{mentions_in}
-use Rattle.ud_passes.specs.remaining.RemainingLists.{lines_for, named_count, defining_count}
-use Rattle.ud_passes.specs.remaining.RemainingLists.{remaining_count, defined_count}
+use Rattle.ud_passes.specs.remaining.RemainingLists.{line_of, lines_for, named_count}
+use Rattle.ud_passes.specs.remaining.RemainingLists.{defining_count, remaining_count}
+use Rattle.ud_passes.specs.remaining.RemainingLists.{defined_count}
 use Rattle.ud_passes.specs.declared.remaining.listing.Listing.{Listing}
 use Rattle.ud_passes.specs.declared.remaining.listing.Listing.TheVariants.{Counted, Texts}
 use Rattle.ud_passes.specs.declared.remaining.mentions.Begun.{Begun}
@@ -103,6 +105,12 @@ MentionsNext table mode s line place after t more = (before : List Reading) →
     ScannerRepresents s before → IsTaken table (begun_as place.begun after)
     (reading_at mode (as_line line) (scan_after before mode (as_line line)) place.number)
     (begun_as t.begun more) t.goes_on
+
+-- `AppendsLine table name b old new`: the line of the mention `b` of the file `name` was appended.
+-- The search `old` has its text.
+abbrev pub AppendsLine : List Argument → List ℕ → Begun → Search → Search → Type 0
+AppendsLine table name b old new = new.list.items ≡ old.list.items ++
+    line_of table old.listing name (as_mention b old.after.items)
 
 -- `Appends table name ms old new`: the mentions among `ms` of the file `name` that name a listed
 -- symbol were appended. Conditions and definitions were counted, unless their count is at its

@@ -12,9 +12,9 @@ ghost use Rattle.ud_text.specs.scan.ScannerState.{ScannerRepresents};
 ghost use Rattle.ud_cond.specs.symbols.SymbolTable.{TableRepresents};
 ghost use Rattle.ud_passes.specs.Passes.{AppendsSome};
 ghost use Rattle.ud_passes.specs.remaining.ListedNames.{names_by};
-ghost use Rattle.ud_passes.specs.remaining.RemainingLists.{line_of, is_condition, is_defining};
-ghost use Rattle.ud_passes.specs.remaining.Searches.{as_mention, begun_as, MentionsNext, ended};
-ghost use Rattle.ud_passes.specs.remaining.Searches.{Appends, EndsLine, SearchesOn, IsClearTo};
+ghost use Rattle.ud_passes.specs.remaining.RemainingLists.{is_condition, is_defining};
+ghost use Rattle.ud_passes.specs.remaining.Searches.{begun_as, MentionsNext, ended, EndsLine};
+ghost use Rattle.ud_passes.specs.remaining.Searches.{Appends, AppendsLine, SearchesOn, IsClearTo};
 ghost use Rattle.ud_passes.specs.remaining.Mentions.{mentions_of};
 
 use crate::remaining::definitions::clear_len;
@@ -171,9 +171,8 @@ impl Search {
         ensures defined { self.new.defined ≡ self.old.defined }
         ensures listing { self.new.listing ≡ self.old.listing }
         ensures line { OnOk result ((calls : List Argument) →
-            TableRepresents symbols.now calls → self.new.list.items ≡ self.old.list.items ++
-            line_of calls self.old.listing name.now
-            (as_mention begun.entry self.old.after.items)) }
+            TableRepresents symbols.now calls →
+            AppendsLine calls name.now begun.entry self.old self.new) }
     {
         let after = self.after.as_slice();
         match self.listing {
