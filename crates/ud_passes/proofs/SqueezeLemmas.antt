@@ -14,7 +14,7 @@ use Rattle.ud_passes.specs.Passes.{fits}
 use Rattle.ud_passes.specs.Walks.{read_after, Walked}
 use Rattle.ud_passes.specs.declared.walk.Walk.{Walk}
 use Rattle.ud_passes.specs.declared.squeezing.places.Place.{Place}
-use Rattle.ud_passes.specs.squeezing.SqueezedTexts.{is_gap, after_stay, scanned_place, long_place, end_place, place_of, places, parts, last_part, left, first_ones, stay_flags, kept_lines, first_flag, later_flags}
+use Rattle.ud_passes.specs.squeezing.SqueezedTexts.{is_gap, after_stay, scanned_place, bare_place, place_of, places, parts, last_part, left, first_ones, stay_flags, kept_lines, first_flag, later_flags}
 use Rattle.ud_passes.specs.squeezing.Squeezing.{Placed, gaps_of}
 use Rattle.ud_passes.proofs.WalkLemmas.{walk_ends}
 
@@ -65,7 +65,7 @@ module _ (text ms : List ℕ) (walk : Walk) (left : List ℕ) (out : List Place)
   }
 
   pub long_placed : Walked C text (p.read ++ read_after C p.read k ∷ []) next.rest.now next.scanner → (after : List ℕ) → after ≡ after_stay left → (new : List Place) →
-      fits k ≡ false → (gap : Bool) → gap ≡ is_gap left → (place : Place) → place ≡ long_place gap → new ≡ out ++ place ∷ [] → Placed text ms next after new
+      fits k ≡ false → (gap : Bool) → gap ≡ is_gap left → (place : Place) → place ≡ bare_place gap false → new ≡ out ++ place ∷ [] → Placed text ms next after new
   long_placed w after a new f gap g place l e = grind (arith, line_placed w after a new)
 
   pub short_placed : Walked C text (p.read ++ read_after C p.read k ∷ []) next.rest.now next.scanner → (after : List ℕ) → after ≡ after_stay left → (new : List Place) →
@@ -76,9 +76,9 @@ pub none_placed : (text ms : List ℕ) (walk : Walk) → Walked C text [] walk.r
 none_placed text ms walk w = record { read = []; walked = w; rest = λ rs. refl }
 
 pub all_placed : (text ms : List ℕ) (walk : Walk) (left : List ℕ) (out : List Place) → Placed text ms walk left out → walk.rest.now ≡ [] → (gap : Bool) → gap ≡ is_gap left →
-    (place : Place) → place ≡ end_place gap → (new : List Place) → new ≡ out ++ place ∷ [] → new ≡ places ms (read_as C text)
+    (place : Place) → place ≡ bare_place gap true → (new : List Place) → new ≡ out ++ place ∷ [] → new ≡ places ms (read_as C text)
 all_placed text ms walk left out p e gap g place l new n =
-    n ∙ ap (λ (x : Place). out ++ x ∷ []) (l ∙ ap end_place g) ∙ sym (p.rest [])
+    n ∙ ap (λ (x : Place). out ++ x ∷ []) (l ∙ ap (λ (b : Bool). bare_place b true) g) ∙ sym (p.rest [])
     ∙ ap (λ (rs : List Reading). places ms rs) (append-nil p.read ∙ walk_ends C text p.read walk.rest.now walk.scanner p.walked e)
 
 -- 4. Stretches.

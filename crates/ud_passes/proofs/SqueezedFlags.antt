@@ -1,7 +1,7 @@
 -- Squeezed flags: only blank lines go, and none without a gap.
 use Rattle.std.proofs.Common.{◌≡◌, ℕ, zero, suc, ◌+◌, ◌-◌, List, [], ◌∷◌, ◌++◌, length, min, replicate, Bool, true, false, if◌then◌else◌, append_assoc, append-nil, length-append, refl, sym, ◌∙◌, ap, ap₂, subst, arith}
 use Rattle.std.specs.List.{concat, list_all}
-use Rattle.std.proofs.lemmas.List.{length-replicate}
+use Rattle.std.proofs.lemmas.List.{length-replicate, replicate-append-replicate}
 use Rattle.ud_model.specs.text.Lines.{texts_of}
 use Rattle.ud_model.specs.text.Scans.{Reading}
 use Rattle.ud_model.specs.aids.ReadAs.{read_as}
@@ -73,56 +73,26 @@ only_blanks ms output = blanks_after ms (read_as C output) true [] [] refl tt
 
 -- 2. Without a gap none goes.
 
-AllTrue : List Bool → Type 0
-AllTrue [] = Unit {0}
-AllTrue (f ∷ fs) = (f ≡ true) × AllTrue fs
+one_part : (n k : ℕ) → parts n (replicate k false) false ≡ (n + k) ∷ []
+one_part n zero = grind arith
+one_part n (suc k) = grind (arith, one_part (suc n) k)
 
-AllFalse : List Bool → Type 0
-AllFalse [] = Unit {0}
-AllFalse (f ∷ fs) = (f ≡ false) × AllFalse fs
-
-false_more : (gaps : List Bool) (g : Bool) → AllFalse gaps → g ≡ false → AllFalse (gaps ++ g ∷ [])
-unfolding AllFalse
-false_more [] g a e = (e, tt)
-false_more (f ∷ gaps) g a e = (a.0, false_more gaps g a.1 e)
-
-true_ones : (n : ℕ) (fs : List Bool) → AllTrue fs → AllTrue (replicate n true ++ fs)
-unfolding AllTrue
-true_ones zero fs a = a
-true_ones (suc n) fs a = (refl, true_ones n fs a)
-
-one_part : (n : ℕ) (gaps : List Bool) (below : Bool) → AllFalse gaps → below ≡ false → parts n gaps below ≡ (n + length gaps) ∷ []
-unfolding AllFalse
-one_part n [] below a e = grind arith
-one_part n (g ∷ gaps) below a e = grind (arith, one_part (suc n) gaps below a.1 e)
-
-all_left : (opens closes : Bool) (n : ℕ) → left opens closes (n ∷ []) ≡ n
-all_left opens closes n = grind arith
-
-all_ones : (n : ℕ) → first_ones n n ≡ replicate n true
-all_ones n = let a : min n n ≡ n = grind arith in let b : n - n ≡ 0 = omega arith in
-    ap₂ (λ (x y : ℕ). replicate x true ++ replicate y false) a b ∙ append-nil (replicate n true)
-
-stretch_stays : (opens closes : Bool) (gaps : List Bool) (below : Bool) → AllFalse gaps → below ≡ false → first_ones (length gaps) (left opens closes (parts 0 gaps below)) ≡ replicate (length gaps) true
-stretch_stays opens closes gaps below a e =
-    ap (λ (ps : List ℕ). first_ones (length gaps) (left opens closes ps)) (one_part 0 gaps below a e ∙ ap (λ (n : ℕ). n ∷ []) (let z : 0 + length gaps ≡ length gaps = omega arith in z))
-    ∙ ap (λ (n : ℕ). first_ones (length gaps) n) (all_left opens closes (length gaps)) ∙ all_ones (length gaps)
+-- All lines of a stretch without a gap stay.
+stretch : (opens closes gap : Bool) → gap ≡ false → (n : ℕ) (fs : List Bool) →
+    first_ones (length (replicate n false)) (left opens closes (parts 0 (replicate n false) gap)) ++ true ∷ fs ≡ replicate n true ++ true ∷ fs
+stretch opens closes gap e n fs = ap (λ (xs : List Bool). xs ++ true ∷ fs)
+    (ap (λ (g : Bool). first_ones (length (replicate n false)) (left opens closes (parts 0 (replicate n false) g))) e
+    ∙ ap₂ (λ (x : ℕ) (ps : List ℕ). first_ones x (left opens closes ps)) (length-replicate n false) (one_part 0 n)
+    ∙ ap (first_ones n) (let all : left opens closes ((0 + n) ∷ []) ≡ n = grind arith in all)
+    ∙ ap₂ (λ (x y : ℕ). replicate x true ++ replicate y false) (let a : min n n ≡ n = grind arith in a) (let b : n - n ≡ 0 = omega arith in b) ∙ append-nil (replicate n true))
 
 no_gap : (ms : List ℕ) → list_all stays ms ≡ true → (is_gap ms ≡ false) × (list_all stays (after_stay ms) ≡ true)
 no_gap [] h = (refl, refl)
 no_gap (m ∷ ms) h = grind arith
 
-place_gap : (gap : Bool) (r : Reading) → (place_of gap r).gap ≡ gap
-place_gap gap r = grind arith
-
-all_stay : (ms : List ℕ) (rs : List Reading) → list_all stays ms ≡ true → (opens : Bool) (gaps : List Bool) → AllFalse gaps → AllTrue (stay_flags opens gaps (places ms rs))
-unfolding AllTrue AllFalse
-all_stay ms [] h opens gaps a =
-    subst (λ (fs : List Bool). AllTrue (fs ++ true ∷ [])) (sym (stretch_stays opens true gaps (is_gap ms) a (no_gap ms h).0)) (true_ones (length gaps) (true ∷ []) (refl, tt))
-all_stay ms (r ∷ rs) h opens gaps a =
-    by (place_of (is_gap ms) r).blank
-    (λ more. all_stay (after_stay ms) rs (no_gap ms h).1 opens (gaps ++ (place_of (is_gap ms) r).gap ∷ []) more)
-    (all_stay (after_stay ms) rs (no_gap ms h).1 (place_of (is_gap ms) r).opens [] tt)
+all_stay : (ms : List ℕ) (rs : List Reading) → list_all stays ms ≡ true → (opens : Bool) (n : ℕ) → stay_flags opens (replicate n false) (places ms rs) ≡ replicate (n + suc (length rs)) true
+all_stay ms [] h opens n = stretch opens true (is_gap ms) (no_gap ms h).0 n [] ∙ replicate-append-replicate n 1 true
+all_stay ms (r ∷ rs) h opens n = by (place_of (is_gap ms) r).blank (all_stay (after_stay ms) rs (no_gap ms h).1)
   where
     p : Place
     p = place_of (is_gap ms) r
@@ -131,21 +101,20 @@ all_stay ms (r ∷ rs) h opens gaps a =
     later = places (after_stay ms) rs
 
     none : p.gap ≡ false
-    none = place_gap (is_gap ms) r ∙ (no_gap ms h).0
+    none = let gap : p.gap ≡ is_gap ms = grind arith in gap ∙ (no_gap ms h).0
 
-    by : (b : Bool) → (AllFalse (gaps ++ p.gap ∷ []) → AllTrue (stay_flags opens (gaps ++ p.gap ∷ []) later)) → AllTrue (stay_flags p.opens [] later) →
-        AllTrue (if b then stay_flags opens (gaps ++ p.gap ∷ []) later
-        else first_ones (length gaps) (left opens p.closes (parts 0 gaps p.gap)) ++ true ∷ stay_flags p.opens [] later)
-    by true on new = on (false_more gaps p.gap a none)
-    by false on new = subst (λ (fs : List Bool). AllTrue (fs ++ true ∷ stay_flags p.opens [] later)) (sym (stretch_stays opens p.closes gaps p.gap a none))
-        (true_ones (length gaps) (true ∷ stay_flags p.opens [] later) (refl, new))
+    by : (b : Bool) → ((opens : Bool) (n : ℕ) → stay_flags opens (replicate n false) later ≡ replicate (n + suc (length rs)) true) → (if b then stay_flags opens (replicate n false ++ p.gap ∷ []) later
+        else first_ones (length (replicate n false)) (left opens p.closes (parts 0 (replicate n false) p.gap)) ++ true ∷ stay_flags p.opens [] later) ≡ replicate (n + suc (suc (length rs))) true
+    by true i = ap (λ (gaps : List Bool). stay_flags opens gaps later) (ap (λ (g : Bool). replicate n false ++ g ∷ []) none ∙ replicate-append-replicate n 1 false)
+        ∙ i opens (n + 1) ∙ ap (λ (m : ℕ). replicate m true) (omega arith)
+    by false i = stretch opens p.closes p.gap none n (stay_flags p.opens [] later) ∙ ap (λ (fs : List Bool). replicate n true ++ true ∷ fs) (i p.opens 0)
+        ∙ replicate-append-replicate n (suc (0 + suc (length rs))) true ∙ ap (λ (m : ℕ). replicate m true) (omega arith)
 
-all_kept : (fs : List Bool) (ls : List (List ℕ)) → AllTrue fs → kept_lines fs ls ≡ ls
-unfolding AllTrue
-all_kept fs [] a = refl
-all_kept [] (l ∷ ls) a = ap (λ (x : List (List ℕ)). l ∷ x) (all_kept [] ls a)
-all_kept (f ∷ fs) (l ∷ ls) a = grind (arith, all_kept fs ls a.1)
+all_kept : (n : ℕ) (ls : List (List ℕ)) → kept_lines (replicate n true) ls ≡ ls
+all_kept n [] = refl
+all_kept zero (l ∷ ls) = ap (λ (x : List (List ℕ)). l ∷ x) (all_kept zero ls)
+all_kept (suc n) (l ∷ ls) = ap (λ (x : List (List ℕ)). l ∷ x) (all_kept n ls)
 
 pub stays_same : (ms output : List ℕ) → list_all stays ms ≡ true → squeezed_text ms output ≡ output
-unfolding AllFalse
-stays_same ms output h = ap concat (all_kept (flags_in ms output) (texts_of output) (all_stay ms (read_as C output) h true [] tt)) ∙ sym (lines_exist output).joined
+stays_same ms output h = ap (λ (fs : List Bool). concat (kept_lines fs (texts_of output))) (all_stay ms (read_as C output) h true 0)
+    ∙ ap concat (all_kept (0 + suc (length (read_as C output))) (texts_of output)) ∙ sym (lines_exist output).joined

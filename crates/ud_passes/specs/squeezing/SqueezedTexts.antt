@@ -99,22 +99,18 @@ scanned_place gap body scan = record {
   closes = closes scan;
 }
 
--- `long_place gap`: a line over the limit.
-abbrev pub long_place : Bool → Place
-long_place gap = record { gap = gap; blank = false; opens = false; closes = false }
-
--- `end_place gap`: the end of the output.
-abbrev pub end_place : Bool → Place
-end_place gap = record { gap = gap; blank = false; opens = false; closes = true }
+-- `bare_place gap closes`: a line over the limit or, if it closes, the end of the output.
+abbrev pub bare_place : Bool → Bool → Place
+bare_place gap closes = record { gap = gap; blank = false; opens = false; closes = closes }
 
 -- `place_of gap r`: the line `r`.
 abbrev pub place_of : Bool → Reading → Place
-place_of gap r = if fits r.line then scanned_place gap r.line.body r.scan else long_place gap
+place_of gap r = if fits r.line then scanned_place gap r.line.body r.scan else bare_place gap false
 
 -- `places ms rs`: the lines `rs` of the output for an input whose lines have the marks `ms`, and
 -- the end.
 abbrev pub places : List ℕ → List Reading → List Place
-places ms [] = end_place (is_gap ms) ∷ []
+places ms [] = bare_place (is_gap ms) true ∷ []
 places ms (r ∷ rs) = place_of (is_gap ms) r ∷ places (after_stay ms) rs
 
 -- 3. Stretches.

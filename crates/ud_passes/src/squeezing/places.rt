@@ -14,8 +14,7 @@ ghost use Rattle.ud_model.specs.declared.limits.TheConstants.{LINE_BYTES};
 ghost use Rattle.ud_text.specs.scan.ScannerState.{ScannerRepresents};
 ghost use Rattle.ud_passes.specs.squeezing.SqueezedTexts as spec;
 ghost use Rattle.ud_passes.specs.squeezing.SqueezedTexts.{has_role, begins_group, ends_group};
-ghost use Rattle.ud_passes.specs.squeezing.SqueezedTexts.{scanned_place, long_place, end_place};
-ghost use Rattle.ud_passes.specs.squeezing.SqueezedTexts.{is_gap, after_stay};
+ghost use Rattle.ud_passes.specs.squeezing.SqueezedTexts.{scanned_place, bare_place};
 ghost use Rattle.ud_passes.specs.squeezing.Squeezing.{Placed};
 
 use crate::squeezing::marks::{after_stay, is_gap};
@@ -133,7 +132,7 @@ fn step<'m>(
     match walk.next_within(Mode::C, 0) {
         Stretch::Texts(_) => Ok(marks),
         Stretch::TooLong(_) => {
-            places.push(long_place(gap))?;
+            places.push(bare_place(gap, false))?;
             Ok(after_stay(marks))
         }
         Stretch::Fitting(line) => {
@@ -144,27 +143,15 @@ fn step<'m>(
     }
 }
 
-/// Returns the place of a line over the limit.
-fn long_place(gap: bool) -> Place
-    ensures { result ≡ long_place gap }
+/// Returns the place of a line over the limit or, if it closes, the end of an output.
+fn bare_place(gap: bool, closes: bool) -> Place
+    ensures { result ≡ bare_place gap closes }
 {
     Place {
         gap,
         blank: false,
         opens: false,
-        closes: false,
-    }
-}
-
-/// Returns the end of an output.
-fn end_place(gap: bool) -> Place
-    ensures { result ≡ end_place gap }
-{
-    Place {
-        gap,
-        blank: false,
-        opens: false,
-        closes: true,
+        closes,
     }
 }
 
@@ -183,6 +170,6 @@ pub(crate) fn places_in(alloc: Global, text: &[u8], marks: &[u8]) -> Result<Vec<
     'lines: while !walk.is_at_end() {
         left = step(&mut walk, left, &mut places)?;
     }
-    places.push(end_place(is_gap(left)))?;
+    places.push(bare_place(is_gap(left), true))?;
     Ok(places)
 }

@@ -1,7 +1,6 @@
 //! Stretches of blank lines, and how many lines of each stay.
 
 ghost use Rattle.std.specs.Prelude.{◌≡◌, ◌++◌, [], ◌∷◌, length, true, Bool, OnOk, IfOk, replicate};
-ghost use Rattle.std.specs.Prelude.{if◌then◌else◌};
 ghost use Rattle.ud_passes.specs.squeezing.SqueezedTexts as spec;
 ghost use Rattle.ud_passes.specs.squeezing.SqueezedTexts.{parts, first_ones, stay_flags};
 ghost use Rattle.ud_passes.specs.squeezing.Squeezing.{gaps_of};
@@ -24,21 +23,16 @@ fn first_part(stretch: &[Place]) -> usize
     count
 }
 
-/// Returns how many lines there are after the last gap and before a line, if there were `count`
-/// before the gap that it may have.
-fn since_gap(gap: bool, count: usize) -> usize
-    ensures { result ≡ (if gap then 0 else count) }
-{
-    if gap { 0 } else { count }
-}
-
 /// Returns the length of the last part of a stretch; the line below has a gap before it or not.
 fn last_part(stretch: &[Place], below: bool) -> usize
     ensures { result ≡ spec.last_part (parts 0 (gaps_of stretch.now) below) }
 {
     let mut count = 0;
     for place in stretch {
-        count = since_gap(place.gap, count) + 1;
+        if place.gap {
+            count = 0;
+        }
+        count += 1;
     }
     if below { 0 } else { count }
 }
@@ -88,17 +82,6 @@ fn push_flags(flags: &mut Vec<bool>, count: usize, flag: bool) -> Result<(), All
     Ok(())
 }
 
-/// Appends the flags of so many lines, of which the first ones stay.
-///
-/// # Errors
-/// Fails if memory runs out.
-fn push_first_ones(flags: &mut Vec<bool>, count: usize, stay: usize) -> Result<(), AllocError>
-    ensures { OnOk result (flags.new.items ≡ flags.old.items ++ first_ones count stay) }
-{
-    push_flags(flags, stay.min(count), true)?;
-    push_flags(flags, count.saturating_sub(stay), false)
-}
-
 /// Appends the flags of a stretch and of the line below, which stays. The line above opens or not.
 ///
 /// # Errors
@@ -113,7 +96,9 @@ fn push_stretch(
         (first_ones (length stretch.now)
         (spec.left opens below.closes (parts 0 (gaps_of stretch.now) below.gap)) ++ true ∷ [])) }
 {
-    push_first_ones(flags, stretch.len(), left(opens, stretch, below))?;
+    let (count, stay) = (stretch.len(), left(opens, stretch, below));
+    push_flags(flags, stay.min(count), true)?;
+    push_flags(flags, count.saturating_sub(stay), false)?;
     flags.push(true)?;
     Ok(())
 }

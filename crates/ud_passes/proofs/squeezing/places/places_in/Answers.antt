@@ -13,4 +13,4 @@ lines-init c = subst (λ (out : List Place). Placed c.args.text.now c.args.marks
 
 pub returns : goal.returns
 returns c = all_placed c.args.text.now c.args.marks.now c.lines.walk c.lines.left.now c.lines.places.items c.lines.invariant
-    (nothing_left c.lines.walk.rest.now (sym c.is_at_end.ensures ∙ c.lines-test.false)) _ c.is_gap.ensures _ c.end_place.ensures _ c.in_ok-push.ensures.items
+    (nothing_left c.lines.walk.rest.now (sym c.is_at_end.ensures ∙ c.lines-test.false)) _ c.is_gap.ensures _ c.bare_place.ensures _ c.in_ok-push.ensures.items

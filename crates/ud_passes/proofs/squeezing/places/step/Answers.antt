@@ -11,7 +11,7 @@ pub returns-in_ok-push-in-TooLong-clause-placed : goal.returns-in_ok-push-in-Too
 returns-in_ok-push-in-TooLong-clause-placed c = λ text ms p.
     let n = c.in-TooLong.ensures.next text p.read p.walked in
     long_placed text ms c.args.walk.now c.args.marks.now c.args.places.now.items p c.next_within.new.self (as_line c.in-TooLong.field-0) n.1 _ c.after_stay.ensures _ n.0
-    _ c.is_gap-gap.ensures _ c.long_place.ensures c.in_ok-push-in-TooLong.ensures.items
+    _ c.is_gap-gap.ensures _ c.bare_place.ensures c.in_ok-push-in-TooLong.ensures.items
 
 pub returns-in_ok-push-in-Fitting-clause-placed : goal.returns-in_ok-push-in-Fitting-clause-placed
 returns-in_ok-push-in-Fitting-clause-placed c = λ text ms p.
