@@ -1,17 +1,14 @@
 -- Mentions: a line more, and the end of a mention.
-use Rattle.std.proofs.Common.{◌≡◌, List, [], ◌∷◌, ◌++◌, true, false, Option, Some, None, ap, arith}
+use Rattle.std.proofs.Common.{◌≡◌, List, [], true, false, Option, Some, None, ap, arith}
 use Rattle.std.proofs.lemmas.Grind.{common_steps}
 use Rattle.ud_model.specs.text.Scans.{Reading}
-use Rattle.ud_model.specs.sections.Directives.{Directive, Content, directive, text, content_of}
+use Rattle.ud_model.specs.sections.Directives.{Directive, Content, directive, text}
 use Rattle.ud_model.specs.conditions.Table.{Argument}
 use Rattle.ud_passes.specs.Passes.{fits}
 use Rattle.ud_passes.specs.remaining.Definitions.{is_definition}
-use Rattle.ud_passes.specs.remaining.Mentions.{Mention, joins_next, mention_at, mention_by, mentions_in, class_of, shown_after}
+use Rattle.ud_passes.specs.remaining.Mentions.{Mention, joins_next, mention_at, mention_by, class_of, shown_after}
 use Rattle.ud_passes.specs.declared.remaining.mentions.Class.TheVariants.{Definition}
 use Rattle.ud_passes.specs.remaining.Searches.{extended, taken, rest_from, ended}
-
-pub joins_fitting : (r : Reading) → fits r.line ≡ true → r.scan.joins_after ≡ joins_next r
-joins_fitting r e = grind arith
 
 pub joins_long : (r : Reading) → fits r.line ≡ false → joins_next r ≡ false
 joins_long r e = grind arith
@@ -25,21 +22,9 @@ module _ (table : List Argument) where
   pub taken_long : (p : Option Mention) (r : Reading) → fits r.line ≡ false → taken table p r ≡ p
   taken_long p r e = grind (arith, common_steps)
 
-  -- A line more.
-  pub one_line : (p : Option Mention) (r : Reading) (rs : List Reading) → rest_from table p true (r ∷ rs) ≡ rest_from table (taken table p r) (joins_next r) rs
-  one_line p r rs = grind (arith, common_steps)
-
-  -- A mention that has ended.
-  pub end_here : (p : Option Mention) (rs : List Reading) → rest_from table p false rs ≡ ended p ++ rest_from table None true rs
-  end_here p rs = grind (arith, common_steps)
-
   -- The text has ended.
   pub end_of_text : (p : Option Mention) → rest_from table p true [] ≡ ended p
   end_of_text p = grind (arith, common_steps)
-
-  -- A text line that defines nothing has no mention.
-  pub text_line : (r : Reading) (rs : List Reading) → content_of r.scan ≡ text → is_definition table r ≡ false → mentions_in table false (r ∷ rs) ≡ mentions_in table false rs
-  text_line r rs e d = grind arith
 
   -- The mention on a line that fits.
   pub undefined_text : (r : Reading) (content : Content) → text ≡ content → is_definition table r ≡ false → None ≡ mention_by table r content

@@ -25,12 +25,11 @@ use Rattle.ud_passes.specs.declared.remaining.mentions.Begun.{Begun}
 use Rattle.ud_passes.specs.declared.remaining.listing.Listing.{Listing}
 use Rattle.ud_passes.specs.declared.remaining.listing.Listing.TheVariants.{Counted, Texts}
 use Rattle.ud_passes.specs.declared.remaining.mentions.Class.{Class}
-use Rattle.ud_passes.specs.declared.remaining.mentions.Class.TheVariants.{Condition, Definition, Closing}
 use Rattle.ud_passes.specs.declared.remaining.search.Search.{Search}
 use Rattle.ud_passes.specs.declared.remaining.search.Place.{Place}
 use Rattle.ud_passes.specs.declared.walk.Walk.{Walk}
 use Rattle.ud_passes.proofs.DefinitionLemmas.{clear_drop, DefineNothing, lines_clear}
-use Rattle.ud_passes.proofs.MentionLemmas.{one_line, end_here, end_of_text, text_line, taken_long, joins_long}
+use Rattle.ud_passes.proofs.MentionLemmas.{end_of_text, taken_long, joins_long}
 use Rattle.ud_passes.proofs.NameLemmas.{has_word-newline}
 use Rattle.ud_passes.proofs.WalkLemmas.{walk_ends}
 
@@ -42,10 +41,10 @@ Goes table before found p goes_on = (rs : List Reading) → mentions_in table fa
 
 module _ (table : List Argument) where
   pub goes_by_line : (before : List Reading) (found : List Mention) (p : Option Mention) (r : Reading) → Goes table before found p true → Goes table (before ++ r ∷ []) found (taken table p r) (joins_next r)
-  goes_by_line before found p r h = grind (arith, common_steps, one_line)
+  goes_by_line before found p r h = grind (arith, common_steps)
 
   pub goes_by_end : (before : List Reading) (found : List Mention) (p : Option Mention) → Goes table before found p false → Goes table before (found ++ ended p) None true
-  goes_by_end before found p h = grind (arith, common_steps, end_here)
+  goes_by_end before found p h = grind (arith, common_steps)
 
   pub goes_by_texts : (before : List Reading) (found : List Mention) (rs : List Reading) → AreTexts rs → DefineNothing table rs → Goes table before found None true → Goes table (before ++ rs) found None true
   goes_by_texts before found rs h d g =
@@ -53,7 +52,7 @@ module _ (table : List Argument) where
     where
       none : (rs : List Reading) → AreTexts rs → DefineNothing table rs → (more : List Reading) → mentions_in table false (rs ++ more) ≡ mentions_in table false more
       none [] h d more = refl
-      none (r ∷ rs) h d more = grind (arith, text_line, none rs h.1 d.1 more)
+      none (r ∷ rs) h d more = grind (arith, none rs h.1 d.1 more)
 
   -- Clear lines define nothing.
   pub texts_clear : (until : ℕ) (bytes rest : List ℕ) (rs : List Reading) → IsClearTo table until rest → length bytes ≤ length rest - until → bytes ≡ take (length bytes) rest →
@@ -150,13 +149,7 @@ appends_seen table name start new seen read e a =
 -- A word of the texts of some mentions is a word of a condition among them.
 pub texts_have : (table : List Argument) (name file : List ℕ) (ms : List Mention) → has_word (bytes_eq name) false (flat_map (line_of table Texts file) ms) ≡ list_any (has_name name) ms
 texts_have table name file [] = refl
-texts_have table name file (m ∷ ms) = by m.class refl (texts_have table name file ms)
-  where
-    by : (class : Class) → m.class ≡ class → has_word (bytes_eq name) false (flat_map (line_of table Texts file) ms) ≡ list_any (has_name name) ms →
-        has_word (bytes_eq name) false (flat_map (line_of table Texts file) (m ∷ ms)) ≡ list_any (has_name name) (m ∷ ms)
-    by (Condition kind) is more = grind (arith, append_assoc, has_word-newline)
-    by Definition is more = grind arith
-    by Closing is more = grind arith
+texts_have table name file (m ∷ ms) = grind (arith, append_assoc, has_word-newline, texts_have table name file ms)
 
 -- So a word of the texts of all mentions is a word of a condition that names a listed symbol.
 pub texts_name : {table : List Argument} {file : List ℕ} {old new : Search} (mode : Mode) (bytes : List ℕ) → Appends table file (mentions_of table mode bytes) old new → old.list.items ≡ [] →

@@ -34,7 +34,7 @@ pub(crate) enum Stretch<'t> {
 #[derive(Drop)]
 pub(crate) struct Walk<'t> {
     /// The text from here on.
-    rest: &'t [u8],
+    pub(crate) rest: &'t [u8],
     /// Text lines were just taken, so what comes next is hardly another.
     is_stopped: bool,
     /// The scanner, after the lines before.
@@ -60,13 +60,6 @@ impl<'t> Walk<'t> {
         ensures { result ≡ (length self.now.rest.now == 0) }
     {
         self.rest.is_empty()
-    }
-
-    /// Returns the text from here on.
-    pub(crate) fn rest(&self) -> &'t [u8]
-        ensures { result.now ≡ self.now.rest.now }
-    {
-        self.rest
     }
 
     /// Takes the next lines: text lines if any come next, else one line.

@@ -9,19 +9,12 @@ ghost use Rattle.ud_cond.specs.symbols.SymbolTable.{TableRepresents};
 ghost use Rattle.ud_passes.specs.remaining.Definitions as spec;
 ghost use Rattle.ud_model.specs.text.Bytes.{skip_white, leading_word};
 ghost use Rattle.ud_model.specs.conditions.Conditions.{is_listed};
-ghost use Rattle.ud_passes.specs.remaining.Definitions.{is_definer, IsClear};
+ghost use Rattle.ud_passes.specs.remaining.Definitions.{IsClear};
 
 use crate::remaining::names::is_listed;
 use memchr::memchr;
 use ud_cond::Symbols;
 use ud_model::bytes::{is_word_byte, skip_white, word_len};
-
-/// Returns whether a word begins a definition.
-fn is_definer(word: &[u8]) -> bool
-    ensures { result ≡ is_definer word.now }
-{
-    word == b"define".as_slice() || word == b"undef".as_slice()
-}
 
 /// Returns whether a text begins, after white space, with the name of a symbol. Most names begin
 /// with a byte that no symbol begins with.
@@ -50,7 +43,8 @@ fn defines_after(symbols: &Symbols, text: &[u8]) -> bool
     }
     let text = skip_white(text);
     let (word, after) = text.split_at(word_len(text));
-    is_definer(word) && begins_with_name(symbols, after)
+    let defines = word == b"define".as_slice() || word == b"undef".as_slice();
+    defines && begins_with_name(symbols, after)
 }
 
 /// Returns whether a line begins with a `#` and a definition of a symbol.

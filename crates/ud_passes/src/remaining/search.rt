@@ -108,11 +108,10 @@ fn clear_until(symbols: &Symbols, walk: &Walk<'_>, until: usize) -> usize
     ensures { (calls : List Argument) → TableRepresents symbols.now calls →
         IsClearTo calls until walk.now.rest.now → IsClearTo calls result walk.now.rest.now }
 {
-    let rest = walk.rest();
-    if until < rest.len() {
+    if until < walk.rest.len() {
         return until;
     }
-    rest.len() - clear_len(symbols, rest)
+    walk.rest.len() - clear_len(symbols, walk.rest)
 }
 
 /// Returns how many bytes of text lines may be skipped at once: none if a mention goes on, else all
@@ -124,7 +123,7 @@ fn passable_len(place: Place<'_>, walk: &Walk<'_>, until: usize) -> usize
     if place.begun.is_some() {
         return 0;
     }
-    walk.rest().len().saturating_sub(until)
+    walk.rest.len().saturating_sub(until)
 }
 
 impl Search {

@@ -45,20 +45,14 @@ pub(crate) fn after_stay(marks: &[u8]) -> &[u8]
 pub(crate) fn first_flag(flags: &[bool]) -> bool
     ensures { result ≡ first_flag flags.now }
 {
-    match flags.first() {
-        Some(flag) => *flag,
-        None => true,
-    }
+    *flags.first().unwrap_or(&true)
 }
 
 /// Returns the flags after the first one.
 pub(crate) fn later_flags(flags: &[bool]) -> &[bool]
     ensures { result.now ≡ later_flags flags.now }
 {
-    match flags.split_first() {
-        Some((_flag, later)) => later,
-        None => flags,
-    }
+    flags.get(1..).unwrap_or(&[])
 }
 
 /// Returns the marks with the flags of the lines that stayed: such a line has the mark `SQUEEZED`

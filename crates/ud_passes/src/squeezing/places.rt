@@ -54,10 +54,7 @@ fn opens_block(masked: &[u8]) -> bool
 fn closes_block(masked: &[u8]) -> bool
     ensures { result ≡ starts_with_byte 125 (skip_white masked.now) }
 {
-    match skip_white(masked).first() {
-        Some(byte) => *byte == b'}',
-        None => false,
-    }
+    skip_white(masked).first() == Some(&b'}')
 }
 
 /// Returns whether a line has a directive that begins a group.
@@ -66,8 +63,7 @@ fn opens_group(scan: &Scan<'_>) -> bool
 {
     match directive(scan) {
         Ok(Some(found)) => !matches!(found.kind.role(), Role::EndifLine),
-        Ok(None) => false,
-        Err(_) => false,
+        _ => false,
     }
 }
 
@@ -77,8 +73,7 @@ fn closes_group(scan: &Scan<'_>) -> bool
 {
     match directive(scan) {
         Ok(Some(found)) => !matches!(found.kind.role(), Role::IfGroup),
-        Ok(None) => false,
-        Err(_) => false,
+        _ => false,
     }
 }
 

@@ -3,7 +3,7 @@
 ghost use Rattle.std.specs.Prelude.{◌≡◌, ◌++◌, OnOk, IfOk, if◌then◌else◌, []};
 ghost use Rattle.std.specs.List.{concat};
 ghost use Rattle.ud_model.specs.text.Lines.{texts_of};
-ghost use Rattle.ud_passes.specs.squeezing.SqueezedTexts.{flags_in, kept_lines};
+ghost use Rattle.ud_passes.specs.squeezing.SqueezedTexts.{kept_lines};
 ghost use Rattle.ud_passes.specs.squeezing.SqueezedTexts.{squeezed_text, squeezed_marks};
 
 use crate::squeezing::marks::{first_flag, later_flags, marks_with};
@@ -55,18 +55,6 @@ fn kept_lines(alloc: Global, output: &[u8], flags: &[bool]) -> Result<Vec<u8>, A
     Ok(out)
 }
 
-/// Returns whether each line of an output stays.
-///
-/// # Errors
-/// Fails if memory runs out.
-fn flags_in(alloc: Global, output: &[u8], marks: &[u8]) -> Result<Vec<bool>, AllocError>
-    ensures { IfOk result (λ flags. flags.items ≡ flags_in marks.now output.now) }
-{
-    let places = places_in(alloc, output, marks)?;
-    let flags = stay_flags(alloc, places.as_slice())?;
-    Ok(flags)
-}
-
 /// Returns an output without the blank lines that only stood there because of lines that went, and
 /// the marks of the lines of the input for this text.
 ///
@@ -81,7 +69,8 @@ pub fn squeeze(alloc: Global, output: &[u8], marks: &[u8]) -> Result<Squeezed, A
     ensures text { IfOk result (λ s. s.text.items ≡ squeezed_text marks.now output.now) }
     ensures marks { IfOk result (λ s. s.marks.items ≡ squeezed_marks marks.now output.now) }
 {
-    let flags = flags_in(alloc, output, marks)?;
+    let places = places_in(alloc, output, marks)?;
+    let flags = stay_flags(alloc, places.as_slice())?;
     let text = kept_lines(alloc, output, flags.as_slice())?;
     let marks = marks_with(alloc, marks, flags.as_slice())?;
     Ok(Squeezed { text, marks })
