@@ -1,11 +1,11 @@
 -- Cells: parts of a condition's text, and the rest of them.
 use Rattle.std.proofs.Common.{◌≡◌, ℕ, ◌-◌, List, [], ◌∷◌, ◌++◌, length, map, take, drop, Bool, not, ◌||◌, if◌then◌else◌, refl, arith}
 use Rattle.std.proofs.lemmas.List.{take-map, drop-map, map-append}
-use Rattle.std.specs.Prelude.{Result, IfOk, OnOk}
+use Rattle.std.specs.Prelude.{Result, IfOk}
 use Rattle.std.proofs.lemmas.Grind.{common_steps}
 use Rattle.ud_model.specs.text.Bytes.{are_white, skip_white}
 use Rattle.ud_model.specs.text.Lexemes.{Cell, shown}
-use Rattle.ud_model.specs.conditions.Tokens.{Token, at_end, unreadable, found, next_token}
+use Rattle.ud_model.specs.conditions.Tokens.{Token, at_end, found, next_token}
 use Rattle.ud_simplified.specs.ResidualTexts.{left_from, ends_operand}
 use Rattle.ud_passes.specs.pruning.Cells.{AreCells, SameLeft, byte_of}
 
@@ -39,9 +39,6 @@ module _ (prev operand f : Bool) (flags : List Bool) (cells : List Cell) where
   pub end_left : next_token (map shown cells) ≡ at_end → left_from prev operand (f ∷ flags) cells ≡ cells
   end_left e = grind arith
 
-  pub unread_left : next_token (map shown cells) ≡ unreadable → left_from prev operand (f ∷ flags) cells ≡ cells
-  unread_left e = grind arith
-
 no_token : next_token [] ≡ at_end
 unfolding next_token
 no_token = refl
@@ -68,10 +65,6 @@ same_on b s e f h = grind arith
 
 pub same_then : {b s c t d u : List ℕ} {xs ys zs : List Cell} → SameLeft b s xs c t ys → SameLeft c t ys d u zs → SameLeft b s xs d u zs
 same_then p q = grind arith
-
--- A result has a fact if each of its values has it.
-pub ok_all : {A E B S : Type 0} {R Q : A → Type 0} (r : Result A E) → OnOk r B → OnOk r S → IfOk r R → ((p : A) → B → S → R p → Q p) → IfOk r Q
-ok_all r b s x f = grind arith
 
 pub if_ok : {A E : Type 0} {R Q : A → Type 0} (r : Result A E) → IfOk r R → ((p : A) → R p → Q p) → IfOk r Q
 if_ok r x f = grind arith

@@ -53,22 +53,15 @@ shown_lines_more (x ∷ y ∷ front) q r = grind (arith, append_assoc, shown_lin
 pub plain_lines_more : (rs : List Reading) (r : Reading) → plain_lines (rs ++ r ∷ []) ≡ plain_lines rs ++ text_of r.line
 plain_lines_more rs r = grind (arith, flat_map-append, append-nil)
 
--- Lines that begin with a directive and end alike are foldable if their line is shown so.
-pub foldable_if : (group : List Reading) → begins_directive group ≡ true → are_alike group (last_ending group) ≡ true → is_foldable group ≡ is_line_shown (folded_line group) (shown_lines group)
-foldable_if group b a = grind arith
-
 -- 2. Lines that form no line.
 
 alike_there : (xs : List Reading) (r : Reading) (more : List Reading) (e : List ℕ) → are_alike (xs ++ r ∷ more) e ≡ true → r.line.ending ≡ e
 alike_there [] r more e h = grind (arith, bytes_eq-Decides)
 alike_there (x ∷ xs) r more e h = alike_there xs r more e (grind arith)
 
-part_length : (r : Reading) → length r.line.body ≤ length (continued_part r)
-part_length r = grind (arith, common_steps)
-
 body_length : (xs : List Reading) (r : Reading) (more : List Reading) → length r.line.body ≤ length (folded_body (xs ++ r ∷ more))
 body_length [] r [] = omega arith
-body_length [] r (m ∷ more) = grind (arith, part_length, length-append)
+body_length [] r (m ∷ more) = grind (arith, common_steps, length-append)
 body_length (x ∷ []) r more = grind (arith, length-append, body_length [] r more)
 body_length (x ∷ y ∷ xs) r more = grind (arith, length-append, body_length (y ∷ xs) r more)
 
@@ -127,10 +120,6 @@ rest_after r rs e = grind (arith, append_assoc)
 pub rest_first : (r : Reading) (rs : List Reading) → is_foldable (r ∷ continued rs) ≡ false → rest_from [] (r ∷ rs) ≡ text_of r.line ++ rest_from [] rs
 rest_first r rs f = grind (arith, rest_after, append_assoc, stays)
 
--- No line continues the line.
-pub not_continued : (rs : List Reading) → FollowsBy false rs → continued rs ≡ []
-not_continued rs h = grind arith
-
 -- A line that no line continues.
 rest_alone : (r : Reading) (rs : List Reading) → continued rs ≡ [] → r.scan.joins_before ≡ false → rest_from [] (r ∷ rs) ≡ text_of r.line ++ rest_from [] rs
 rest_alone r rs e j = grind (arith, no_newline-take, append-nil)
@@ -150,7 +139,7 @@ module _ (r : Reading) (old : List ℕ) (l : LogicalLine) where
 
   -- No logical line of several lines begins on the line.
   pub takes_line : (new : List ℕ) → new ≡ old ++ text_of r.line → (not r.scan.joins_before && r.scan.joins_after && is_directive (content_of r.scan)) ≡ false → FoldsReading r [] old l None new
-  takes_line new e n = grind (arith, takes_none, rest_after, false≢true, rest_first, text_stays, rest_alone, not_continued)
+  takes_line new e n = grind (arith, takes_none, rest_after, false≢true, rest_first, text_stays, rest_alone)
 
   pub takes_begun : (b : Last) → IsLogical l b (r ∷ []) → r.scan.joins_before ≡ false → r.scan.joins_after ≡ true → FoldsReading r [] old l (Some b) old
   takes_begun b i j a = record {
@@ -233,7 +222,7 @@ logical_more l m b c group r part break i j e p k pl bo sh = let q : Reading = i
 pub folded_as : (l : LogicalLine) (b : Last) (group : List Reading) (bytes : List ℕ) (shown : Bool) → IsLogical l b group → bytes ≡ (l.body.items ++ b.line.body.now) ++ b.line.ending.now →
     ((k : Line) → bytes ≡ text_of k → b.line.ending.now ≡ k.ending → NoNewline k.body → is_ending k.ending ≡ true → shown ≡ is_line_shown k l.shown.items) →
     is_ending b.line.ending.now ≡ true → (if shown then bytes else l.plain.items) ≡ folded_bytes group
-folded_as l b group bytes shown i e h n = grind (arith, folded_body_last, last_ending_last, no_newline-append, foldable_if)
+folded_as l b group bytes shown i e h n = grind (arith, folded_body_last, last_ending_last, no_newline-append)
 
 pub other_in : (l : LogicalLine) (b : Last) (group : List Reading) → IsLogical l b group → (r : Reading) (more : List Reading) → bytes_eq r.line.ending b.line.ending.now ≡ false → is_foldable (group ++ r ∷ more) ≡ false
 other_in l b group i r more n = grind (arith, other_stays)

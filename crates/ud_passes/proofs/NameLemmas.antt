@@ -19,11 +19,6 @@ module _ (test : List ℕ → Bool) where
       test word ≡ false → has_word test false rest ≡ has_word test false after
   has_word-skip rest word after b bs r e w a n = grind (arith, has_word-word)
 
-  -- A word that passes.
-  pub has_word-found : (rest word : List ℕ) (b : ℕ) (bs : List ℕ) → rest ≡ b ∷ bs → is_word_byte b ≡ true → word ≡ leading_word rest →
-      test word ≡ true → has_word test false rest ≡ true
-  has_word-found rest word b bs r e w y = grind (arith, has_word-word)
-
   -- No word goes on over a newline.
   word-newline : (t more : List ℕ) → leading_word (t ++ newline ∷ more) ≡ leading_word t
   word-newline [] more = refl

@@ -45,9 +45,6 @@ module _ (table : List Argument) (rules : Rules) where
       new ≡ old ++ (if edited then bytes else text_of r.line) → (new ≡ old ++ pruned_bytes table rules r) × (edited ≡ is_edited table rules r)
   next_edited r edited bytes old new f i e = grind (arith, pruned_short, bytes_eq-Decides)
 
-  pub next_long : (r : Reading) (old new : List ℕ) → fits r.line ≡ false → new ≡ old ++ text_of r.line → (new ≡ old ++ pruned_bytes table rules r) × (false ≡ is_edited table rules r)
-  next_long r old new f e = grind (arith, pruned_long, not_edited)
-
   -- A text line stays.
   text_bytes : (r : Reading) → content_of r.scan ≡ text → pruned_bytes table rules r ≡ text_of r.line
   unfolding pruned_line
@@ -79,9 +76,6 @@ module _ (table : List Argument) (rules : Rules) where
   abbrev pieces : List Reading → List ℕ
   pieces rs = concat (map (pruned_bytes table rules) rs)
 
-  pieces-append : (before rs : List Reading) → pieces (before ++ rs) ≡ pieces before ++ pieces rs
-  pieces-append before rs = grind (arith, map-append, concat-append)
-
   count-append : (before rs : List Reading) → edited_among table rules (before ++ rs) ≡ edited_among table rules before + edited_among table rules rs
   count-append [] rs = omega arith
   count-append (q ∷ before) rs = grind (arith, count-append before rs)
@@ -97,7 +91,7 @@ module _ (table : List Argument) (rules : Rules) where
   -- The place of a walk after more lines.
   module _ (text start : List ℕ) (count : ℕ) (walk : Walk) (out : List ℕ) (l : Pruned table rules text start count walk out) (next : Walk) (more : List ℕ) where
     lines_more : (rs : List Reading) (n : ℕ) → n ≡ count + edited_among table rules rs → more ≡ out ++ pieces rs → Walked C text (l.read ++ rs) next.rest.now next.scanner → Pruned table rules text start n next more
-    lines_more rs n c e w = grind (arith, count-append, append_assoc, pieces-append)
+    lines_more rs n c e w = grind (arith, count-append, append_assoc, map-append, concat-append)
 
     pub texts_more : (bytes : List ℕ) (rs : List Reading) → AreTexts rs → HaveBytes bytes rs → more ≡ out ++ bytes → Walked C text (l.read ++ rs) next.rest.now next.scanner → Pruned table rules text start count next more
     texts_more bytes rs h b e w = grind (arith, texts_stay, lines_more)
@@ -110,7 +104,7 @@ module _ (table : List Argument) (rules : Rules) where
       line_more n edited c s e = lines_more (r ∷ []) n (c ∙ ap (λ (b : Bool). count + (if b then 1 else 0)) s) (e ∙ ap (λ (x : List ℕ). out ++ x) (sym (append-nil (pruned_bytes table rules r)))) w
 
       pub long_more : fits k ≡ false → more ≡ out ++ text_of k → Pruned table rules text start count next more
-      long_more f e = grind (arith, next_long, line_more)
+      long_more f e = grind (arith, pruned_long, not_edited, line_more)
 
       -- The line is scanned as the first of a text, unless the line before joins it.
       alone : IsScannedAlone (scan_after l.read C k) k

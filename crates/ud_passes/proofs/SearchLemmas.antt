@@ -20,7 +20,7 @@ use Rattle.ud_passes.specs.remaining.Definitions.{IsClear}
 use Rattle.ud_passes.specs.remaining.Mentions.{Mention, mentions_in, mentions_of, joins_next, joined_text}
 use Rattle.ud_passes.specs.remaining.ListedNames.{names_by, has_word, names_listed}
 use Rattle.ud_passes.specs.remaining.RemainingLists.{RemainingState, AddsAll, is_condition, is_defining, lines_for, named_count, defining_count, line_of, has_name, is_named, remaining_text}
-use Rattle.ud_passes.specs.remaining.Searches.{taken, rest_from, ended, Appends, Counts, EndsLine, Searched, IsTaken, begun_as, IsClearTo, shown_number, as_listed}
+use Rattle.ud_passes.specs.remaining.Searches.{rest_from, ended, Appends, Counts, EndsLine, Searched, IsTaken, begun_as, IsClearTo, shown_number, as_listed}
 use Rattle.ud_passes.specs.declared.remaining.mentions.Begun.{Begun}
 use Rattle.ud_passes.specs.declared.remaining.listing.Listing.{Listing}
 use Rattle.ud_passes.specs.declared.remaining.listing.Listing.TheVariants.{Counted, Texts}
@@ -40,9 +40,6 @@ abbrev pub Goes : List Argument → List Reading → List Mention → Option Men
 Goes table before found p goes_on = (rs : List Reading) → mentions_in table false (before ++ rs) ≡ found ++ rest_from table p goes_on rs
 
 module _ (table : List Argument) where
-  pub goes_by_line : (before : List Reading) (found : List Mention) (p : Option Mention) (r : Reading) → Goes table before found p true → Goes table (before ++ r ∷ []) found (taken table p r) (joins_next r)
-  goes_by_line before found p r h = grind (arith, common_steps)
-
   pub goes_by_end : (before : List Reading) (found : List Mention) (p : Option Mention) → Goes table before found p false → Goes table before (found ++ ended p) None true
   goes_by_end before found p h = grind (arith, common_steps)
 
@@ -107,16 +104,7 @@ count_seen l p h ms = ap (λ (xs : List Mention). length xs) (sym (kept_names (a
 
 -- 3. What is appended.
 
-pub defining_count-append : (ms ns : List Mention) → defining_count (ms ++ ns) ≡ defining_count ms + defining_count ns
-defining_count-append ms ns = grind (arith, common_steps, filter-append)
-
 module _ (table : List Argument) (name : List ℕ) where
-  pub lines_for-append : (listing : Listing) (ms ns : List Mention) → lines_for table listing name (ms ++ ns) ≡ lines_for table listing name ms ++ lines_for table listing name ns
-  lines_for-append listing ms ns = grind (arith, filter-append, flat_map-append)
-
-  pub named_count-append : (ms ns : List Mention) → named_count table (ms ++ ns) ≡ named_count table ms + named_count table ns
-  named_count-append ms ns = grind (arith, common_steps, filter-append)
-
   pub appends_none : (old new : Search) → new.list.items ≡ old.list.items → new.count ≡ old.count → new.defined ≡ old.defined → new.listing ≡ old.listing → Appends table name [] old new
   appends_none old new l c d g = grind (arith, common_steps)
 
@@ -130,7 +118,7 @@ module _ (table : List Argument) (name : List ℕ) where
   appends_kept ms start old new a l c d g = grind arith
 
   pub appends_more : (ms ns : List Mention) (start mid new : Search) → Appends table name ms start mid → Appends table name ns mid new → Appends table name (ms ++ ns) start new
-  appends_more ms ns start mid new a b = grind (arith, common_steps, named_count-append, defining_count-append, lines_for-append)
+  appends_more ms ns start mid new a b = grind (arith, common_steps, filter-append, flat_map-append)
 
 -- The mentions of lines with other numbers, which the list doesn't show.
 pub appends_seen : (table : List Argument) (name : List ℕ) (start new : Search) (seen read : List Reading) → map (as_listed start.listing) seen ≡ map (as_listed start.listing) read →
@@ -241,7 +229,7 @@ module _ (table : List Argument) (mode : Mode) (name text : List ℕ) (start old
         kept = grind arith
 
         goes : Goes table (s.seen ++ seen ∷ []) s.found q goes_on
-        goes = grind (arith, goes_by_line)
+        goes = grind (arith, common_steps)
 
         by : (b : Bool) → Goes table (s.seen ++ seen ∷ []) s.found q b → EndsLine table name c b mid new next.begun →
             (found : List Mention) × Goes table (s.seen ++ seen ∷ []) found (begun_as next.begun new.after.items) true × Appends table name found start new

@@ -60,13 +60,6 @@ texts_from : (file : List ℕ) (folded : Bool) (n : ℕ) (rs : List Reading) →
 texts_from file folded n [] h = refl
 texts_from file folded n (r ∷ rs) h = grind (arith, text_listed r h.0, texts_from file folded (n + breaks folded (text_of r.line)) rs h.1)
 
--- A line that isn't listed, and one that is, whatever its number was.
-one_unlisted : (file : List ℕ) (folded : Bool) (n : ℕ) (r : Reading) → is_unlisted_line r ≡ false → listed_from file folded n (r ∷ []) ≡ []
-one_unlisted file folded n r e = grind arith
-
-one_listed : (file : List ℕ) (folded : Bool) (n : ℕ) (r : Reading) → is_unlisted_line r ≡ true → listed_from file folded n (r ∷ []) ≡ numbered_line file n (shown_body folded r.line)
-one_listed file folded n r e = grind (arith, append-nil)
-
 shown_renumbered : (folded : Bool) (k : Line) (n : ℕ) → shown_body folded (record k { number = n }) ≡ shown_body folded k
 shown_renumbered true k n = grind (arith, renumbered)
 shown_renumbered false k n = refl

@@ -6,7 +6,7 @@ use Rattle.ud_model.specs.conditions.Tokens.{next_token, found}
 use Rattle.ud_simplified.specs.ResidualTexts.{left_from, ends_operand}
 use Rattle.ud_cond.specs.CondViews.{as_token}
 use Rattle.ud_passes.specs.pruning.Cells.{AreCells, byte_of}
-use Rattle.ud_passes.proofs.CellLemmas.{cells_count, found_left, end_left, unread_left, none_left, two_appended, all_appended, same_on, ok_all}
+use Rattle.ud_passes.proofs.CellLemmas.{cells_count, found_left, end_left, none_left, two_appended, all_appended, same_on}
 use Rattle.ud_passes.proofs.pruning.left_texts.append_token.Goals as goal
 
 pub returns-in_ok-append_if-in-Found-2-clause-left : goal.returns-in_ok-append_if-in-Found-2-clause-left
@@ -39,8 +39,8 @@ returns-in_ok-append_if-in-Found-2-clause-left c = λ cells flags a.
 
 pub returns-in-AtEnd-clause-left : goal.returns-in-AtEnd-clause-left
 returns-in-AtEnd-clause-left c =
-    grind (arith, common_steps, ok_all, same_on, end_left, none_left, all_appended)
+    grind (arith, common_steps, same_on, end_left, none_left, all_appended)
 
 pub returns-in-Unreadable-clause-left : goal.returns-in-Unreadable-clause-left
 returns-in-Unreadable-clause-left c =
-    grind (arith, common_steps, ok_all, same_on, unread_left, none_left, all_appended)
+    grind (arith, common_steps, same_on, none_left, all_appended)
