@@ -4,6 +4,7 @@ use Rattle.std.specs.List.{concat}
 use Rattle.std.proofs.lemmas.Grind.{common_steps}
 use Rattle.std.proofs.lemmas.List.{take_all, drop_all, replicate-append-replicate}
 use Rattle.std.proofs.lemmas.Bool.Decides.{nat_tests}
+use Rattle.std.proofs.lemmas.Simd.{map-map}
 use Rattle.std.proofs.lemmas.Slice.Eq.{bytes_eq-Decides}
 use Rattle.std.proofs.Math.Nat.{le_refl}
 use Rattle.ud_model.specs.text.Lines.{NoNewline, IsWhole, IsUnterminated, AreFormed, SplitLines, split_lines, texts_of, last_line, text_of, whole_lines, partial_line}
@@ -116,10 +117,8 @@ first_stay-none stay = grind (arith, common_steps)
 pub unfolded-next : (ms : List ℕ) (i : ℕ) (folded printed : List (List ℕ)) → i < length ms →
     unfolded (drop i ms) folded printed ≡ marks_for (get_or ms i 0) (first_text folded) (first_text printed) ++
     unfolded (drop (i + 1) ms) (later_texts folded) (if stays (get_or ms i 0) then later_texts printed else printed)
-unfolded-next ms i folded printed h = ap (λ (x : List ℕ). unfolded x folded printed) (drop-next ms i 0 h)
-  where
-    drop-next : (xs : List ℕ) (k d : ℕ) → k < length xs → drop k xs ≡ get_or xs k d ∷ drop (k + 1) xs
-    drop-next xs k d h = rw add-one (drop-cons xs k d h)
+unfolded-next ms i folded printed h = let next : drop i ms ≡ get_or ms i 0 ∷ drop (i + 1) ms = rw add-one (drop-cons ms i 0 h) in
+    ap (λ (x : List ℕ). unfolded x folded printed) next
 
 -- The lines of a text that isn't empty.
 pub texts_of-next : (s : List ℕ) → ¬ (length s ≡ 0) → texts_of s ≡ first_text (texts_of s) ∷ later_texts (texts_of s)
@@ -220,13 +219,9 @@ read_all f e (ends xs t h) = sym h.are
 judged_texts : {o : Options} {text : List ℕ} {xs : List (Item Reading)} {t : Tree Reading} → ReadsAs o text xs t None →
     map (λ (j : Judged). text_of j.line) (judged_lines xs (marks t)) ≡ texts_of text
 judged_texts {o} {text} {xs} {t} h =
-    map-after (judged_lines xs (marks t))
+    sym (map-map text_of (λ (j : Judged). j.line) (judged_lines xs (marks t)))
     ∙ ap (map text_of) (judged_all xs (marks t) (length_marks true t ∙ ap length (read_lines h)) ∙ read_all None refl h)
     ∙ map-lines_of text
-  where
-    map-after : (js : List Judged) → map (λ (j : Judged). text_of j.line) js ≡ map text_of (map (λ (j : Judged). j.line) js)
-    map-after [] = refl
-    map-after (j ∷ js) = ap (λ (ls : List (List ℕ)). text_of j.line ∷ ls) (map-after js)
 
 -- The marks of a text, read from what a printer of marks prints for it.
 pub are_marks : (o : Options) (piece : List Judged → Judged → List ℕ) (text new ms : List ℕ) {xs : List (Item Reading)} {t : Tree Reading} → ReadsAs o text xs t None →

@@ -26,12 +26,12 @@ module _ {S : Type 0} (represents : S → List Judged → Type 0) (piece : S →
   fed_none = record {
     done = [];
     split = refl;
-    feeds = λ s h. record {
-      more = [];
-      fed = subst (λ (x : List ℕ). EngineRepresents represents piece e s.options s.pieces (s.text ++ []) x) (sym (append-nil s.printed))
-          (subst (λ (x : List ℕ). EngineRepresents represents piece e s.options s.pieces x s.printed) (sym (append-nil s.text)) h);
-      appended = sym (append-nil old);
-    };
+    feeds = λ s h. (
+      [],
+      subst (λ (x : List ℕ). EngineRepresents represents piece e s.options s.pieces (s.text ++ []) x) (sym (append-nil s.printed))
+          (subst (λ (x : List ℕ). EngineRepresents represents piece e s.options s.pieces x s.printed) (sym (append-nil s.text)) h),
+      sym (append-nil old),
+    );
   }
 
   -- The next chunk was fed.
@@ -44,22 +44,21 @@ module _ {S : Type 0} (represents : S → List Judged → Type 0) (piece : S →
     split = append_assoc h.done chunk later ∙ ap (λ (x : List ℕ). h.done ++ x) cut ∙ h.split;
     feeds = λ s i.
         let m = h.feeds s i in
-        let k = feeds (record s { text = s.text ++ h.done; printed = s.printed ++ m.more }) m.fed in
-        record {
-          more = m.more ++ k.more;
-          fed = subst (λ (x : List ℕ). EngineRepresents represents piece g s.options s.pieces (s.text ++ (h.done ++ chunk)) x) (append_assoc s.printed m.more k.more)
-              (subst (λ (x : List ℕ). EngineRepresents represents piece g s.options s.pieces x ((s.printed ++ m.more) ++ k.more)) (append_assoc s.text h.done chunk) k.fed);
-          appended = k.appended ∙ ap (λ (x : List ℕ). x ++ k.more) m.appended ∙ append_assoc old m.more k.more;
-        };
+        let k = feeds (record s { text = s.text ++ h.done; printed = s.printed ++ m.0 }) m.1 in (
+          m.0 ++ k.more,
+          subst (λ (x : List ℕ). EngineRepresents represents piece g s.options s.pieces (s.text ++ (h.done ++ chunk)) x) (append_assoc s.printed m.0 k.more)
+              (subst (λ (x : List ℕ). EngineRepresents represents piece g s.options s.pieces x ((s.printed ++ m.0) ++ k.more)) (append_assoc s.text h.done chunk) k.fed),
+          k.appended ∙ ap (λ (x : List ℕ). x ++ k.more) m.2 ∙ append_assoc old m.0 k.more,
+        );
   }
 
   -- The whole text was fed.
   pub fed_whole : (o : Options) (own : List Judged → Judged → List ℕ) (f : EngineState S) (new : List ℕ) →
       HasFed represents piece e f text [] old new → IsInSession represents piece e (fresh o own) →
-      (more : List ℕ) × (EngineRepresents represents piece f o own text more × (new ≡ old ++ more))
+      (more : List ℕ) × EngineRepresents represents piece f o own text more × (new ≡ old ++ more)
   fed_whole o own f new h i =
       let m = h.feeds (fresh o own) i in
-      (m.more, (subst (λ (x : List ℕ). EngineRepresents represents piece f o own x m.more) (sym (append-nil h.done) ∙ h.split) m.fed, m.appended))
+      (m.0, subst (λ (x : List ℕ). EngineRepresents represents piece f o own x m.0) (sym (append-nil h.done) ∙ h.split) m.1, m.2)
 
 -- The output for a text in one chunk, and then for its end.
 pub prints_whole : (o : Options) (piece : List Judged → Judged → List ℕ) (text old mid new more : List ℕ) (differs : Bool) → mid ≡ old ++ more →

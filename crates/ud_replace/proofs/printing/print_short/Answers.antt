@@ -16,7 +16,7 @@ returns g c = λ o settings table begun all. elim c.if-all.branch [
         no_text = refl;
         no_output = refl;
       })) in
-      rw w.out-is (prints_whole o (g.S.Show.piece c.args.printer) c.args.text.now _ _ _ fed.0 _ fed.1.1
-      (w.in_ok-finish_in_place.ensures.finishes (record { options = o; pieces = g.S.Show.piece c.args.printer; text = c.args.text.now; printed = fed.0 }) fed.1.0))
+      rw w.out-is (prints_whole o (g.S.Show.piece c.args.printer) c.args.text.now _ _ _ fed.0 _ fed.2
+      (w.in_ok-finish_in_place.ensures.finishes (record { options = o; pieces = g.S.Show.piece c.args.printer; text = c.args.text.now; printed = fed.0 }) fed.1))
   | else-all w ↦ cc
 ]
