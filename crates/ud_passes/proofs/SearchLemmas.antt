@@ -105,9 +105,6 @@ count_seen l p h ms = ap (λ (xs : List Mention). length xs) (sym (kept_names (a
 -- 3. What is appended.
 
 module _ (table : List Argument) (name : List ℕ) where
-  pub appends_none : (old new : Search) → new.list.items ≡ old.list.items → new.count ≡ old.count → new.defined ≡ old.defined → new.listing ≡ old.listing → Appends table name [] old new
-  appends_none old new l c d g = grind (arith, common_steps)
-
   -- An unlisted mention.
   pub appends_unlisted : (found : Option Begun) (b : Begun) (after : List ℕ) (old new : Search) → found ≡ Some b → names_by table b.class after ≡ false →
       new.list.items ≡ old.list.items → new.count ≡ old.count → new.defined ≡ old.defined → new.listing ≡ old.listing → Appends table name (ended (begun_as found after)) old new
@@ -168,9 +165,6 @@ counted_all {table = table} {mode = mode} {bytes = bytes} name found old new h i
 pub none_begun : (b : Option Begun) (bytes : List ℕ) → is_some b ≡ false → begun_as b bytes ≡ None
 none_begun b bytes e = grind arith
 
-pub none_if : {A : Type 0} (b : Option A) (most : ℕ) → (is_some b ≡ true → most ≡ 0) → (most ≡ 0 → false ≡ true) → is_some b ≡ false
-none_if b most p q = grind arith
-
 module _ (table : List Argument) (mode : Mode) (name text : List ℕ) (start old : Search) (place : Place) (walk : Walk) (s : Searched table mode name text start old place walk)
     (new : Search) (next : Place) (on : Walk) (clear : IsClearTo table next.until on.rest.now) where
   -- Text lines were passed.
@@ -209,7 +203,7 @@ module _ (table : List Argument) (mode : Mode) (name text : List ℕ) (start old
 
     pub line_searched : (c : Option Begun) (goes_on : Bool) → IsTaken table begun_before seen (begun_as c mid.after.items) goes_on →
         EndsLine table name c goes_on mid new next.begun → Searched table mode name text start new next on
-    line_searched c goes_on i e = record {
+    line_searched c goes_on i e = let after = by goes_on goes e in record {
       read = s.read ++ r ∷ [];
       walked = w;
       number_is = let o = length-append s.read (r ∷ []) in
@@ -240,9 +234,6 @@ module _ (table : List Argument) (mode : Mode) (name text : List ℕ) (start old
           appends_more table name s.found (ended q) start mid new kept a.0,
         )
 
-        after : (found : List Mention) × Goes table (s.seen ++ seen ∷ []) found (begun_as next.begun new.after.items) true × Appends table name found start new
-        after = by goes_on goes e
-
     pub long_searched : fits k ≡ false → mid.after.items ≡ old.after.items → EndsLine table name place.begun false mid new next.begun → Searched table mode name text start new next on
     long_searched f a e = line_searched place.begun false (ap (begun_as place.begun) a ∙ sym (taken_long table begun_before seen f), sym (joins_long seen f)) e
 
@@ -260,7 +251,7 @@ first_place table mode name all now until walk e w =
       clear = subst (λ (n : ℕ). IsClear table n walk.rest.now) {x = 0} (omega arith) tt;
       found = [];
       parts = λ rs. refl;
-      appends = appends_none table name now now refl refl refl refl;
+      appends = grind (arith, common_steps, append-nil);
     }
 
 pub all_searched : (table : List Argument) (mode : Mode) (name text : List ℕ) (start now new : Search) (place : Place) (walk : Walk) → Searched table mode name text start now place walk → walk.rest.now ≡ [] →

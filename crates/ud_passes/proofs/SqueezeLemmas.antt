@@ -4,17 +4,15 @@ use Rattle.std.proofs.lemmas.List.{take_more, length-map, map-append, take_all, 
 use Rattle.std.specs.List.{concat}
 use Rattle.ud_model.specs.text.Lines.{Line, SplitLines, texts_of, last_line, split_lines}
 use Rattle.ud_model.specs.text.Scans.{Reading}
-use Rattle.ud_model.specs.text.Scanning.{scan_after}
 use Rattle.ud_model.specs.aids.ReadAs.{read_as}
 use Rattle.ud_model.specs.declared.kind.Mode.TheVariants.{C}
 use Rattle.ud_model.proofs.text.LinesLemmas.{split_lines-line-prefix}
 use Rattle.ud_text.specs.lines.LinesState.{UpToNewline}
 use Rattle.ud_text.proofs.lemmas.scan.LongerTextLemmas.{one_text}
-use Rattle.ud_passes.specs.Passes.{fits}
 use Rattle.ud_passes.specs.Walks.{read_after, Walked}
 use Rattle.ud_passes.specs.declared.walk.Walk.{Walk}
 use Rattle.ud_passes.specs.declared.squeezing.places.Place.{Place}
-use Rattle.ud_passes.specs.squeezing.SqueezedTexts.{is_gap, after_stay, scanned_place, bare_place, place_of, places, parts, last_part, left, first_ones, stay_flags, kept_lines, first_flag, later_flags}
+use Rattle.ud_passes.specs.squeezing.SqueezedTexts.{is_gap, after_stay, bare_place, place_of, places, parts, last_part, left, first_ones, stay_flags, kept_lines, first_flag, later_flags}
 use Rattle.ud_passes.specs.squeezing.Squeezing.{Placed, gaps_of}
 use Rattle.ud_passes.proofs.WalkLemmas.{walk_ends}
 
@@ -63,14 +61,6 @@ module _ (text ms : List ℕ) (walk : Walk) (left : List ℕ) (out : List Place)
         ∙ sym (append_assoc out (place_of (is_gap left) (read_after C p.read k) ∷ []) (places (after_stay left) rs))
         ∙ ap₂ (λ (xs : List Place) (l : List ℕ). xs ++ places l rs) (sym e) (sym a);
   }
-
-  pub long_placed : Walked C text (p.read ++ read_after C p.read k ∷ []) next.rest.now next.scanner → (after : List ℕ) → after ≡ after_stay left → (new : List Place) →
-      fits k ≡ false → (gap : Bool) → gap ≡ is_gap left → (place : Place) → place ≡ bare_place gap false → new ≡ out ++ place ∷ [] → Placed text ms next after new
-  long_placed w after a new f gap g place l e = grind (arith, line_placed w after a new)
-
-  pub short_placed : Walked C text (p.read ++ read_after C p.read k ∷ []) next.rest.now next.scanner → (after : List ℕ) → after ≡ after_stay left → (new : List Place) →
-      fits k ≡ true → (gap : Bool) → gap ≡ is_gap left → (place : Place) → place ≡ scanned_place gap k.body (scan_after p.read C k) → new ≡ out ++ place ∷ [] → Placed text ms next after new
-  short_placed w after a new f gap g place l e = grind (arith, line_placed w after a new)
 
 pub none_placed : (text ms : List ℕ) (walk : Walk) → Walked C text [] walk.rest.now walk.scanner → Placed text ms walk ms []
 none_placed text ms walk w = record { read = []; walked = w; rest = λ rs. refl }

@@ -38,9 +38,6 @@ length-first_ones n k = let a = length-append (replicate (min k n) true) (replic
     let b = length-replicate (min k n) true in let c = length-replicate (n - k) false in
     grind arith
 
-place_blank : (gap : Bool) (r : Reading) → (place_of gap r).blank ≡ true → is_blank_line r.line.body r.scan ≡ true
-place_blank gap r e = grind arith
-
 blanks_after : (ms : List ℕ) (rs : List Reading) (opens : Bool) (gaps : List Bool) (qs : List Reading) → length gaps ≡ length qs → AllBlank qs →
     OnlyBlanks (stay_flags opens gaps (places ms rs)) (qs ++ rs)
 unfolding AllBlank OnlyBlanks
@@ -63,7 +60,7 @@ blanks_after ms (r ∷ rs) opens gaps qs e a =
         else first_ones (length gaps) (left opens p.closes (parts 0 gaps p.gap)) ++ true ∷ stay_flags p.opens [] later) (qs ++ r ∷ rs)
     by true h on new = let more : length (gaps ++ p.gap ∷ []) ≡ length (qs ++ r ∷ []) = length-append gaps (p.gap ∷ []) ∙ ap (λ (n : ℕ). n + 1) e ∙ sym (length-append qs (r ∷ [])) in
         subst (λ (xs : List Reading). OnlyBlanks (stay_flags opens (gaps ++ p.gap ∷ []) later) xs) (append_assoc qs (r ∷ []) rs)
-        (on more (blank_more qs r a (place_blank (is_gap ms) r h)))
+        (on more (blank_more qs r a (grind (arith, h))))
     by false h on new = blanks_both _ (true ∷ stay_flags p.opens [] later) qs (r ∷ rs) (length-first_ones (length gaps) _ ∙ e) a
         ((λ f. let z : true ≡ false = f in cc), new)
 

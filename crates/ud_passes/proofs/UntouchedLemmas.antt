@@ -14,8 +14,7 @@ use Rattle.ud_simplified.specs.FoldedTexts.{has_tab, folded_lines}
 use Rattle.ud_text.specs.scan.ScannerState.{ScannerState, ScannerRepresents}
 use Rattle.ud_passes.specs.Passes.{fits}
 use Rattle.ud_passes.specs.Walks.{read_after, AreTexts, HaveBytes, Walked}
-use Rattle.ud_passes.specs.folding.Folding.{FoldsReading, rest_from}
-use Rattle.ud_passes.specs.folding.LogicalLines.{plain_lines}
+use Rattle.ud_passes.specs.folding.Folding.{FoldsReading}
 use Rattle.ud_passes.specs.pruning.Passing.{Pruned}
 use Rattle.ud_passes.specs.pruning.PrunedTexts.{pruned_bytes, edited_among}
 use Rattle.ud_passes.specs.UntouchedTexts.{IsUntouched, LeavesNext, StayedTo}
@@ -37,12 +36,6 @@ all_bytes : (bytes : List ℕ) → concat (map (λ (r : Reading). text_of r.line
 all_bytes bytes =
     ap concat (sym (map-map text_of (λ (r : Reading). r.line) (read_as C bytes)) ∙ ap (map text_of) (lines_read [] (lines_of bytes))) ∙ lines_join bytes
 
-no_lines : (old more : List ℕ) (group : List Reading) → group ≡ [] → old ++ more ≡ (old ++ plain_lines group) ++ more
-no_lines old more group e = grind (arith, append-nil)
-
-no_rest : (old : List ℕ) (group : List Reading) → group ≡ [] → old ≡ old ++ rest_from group []
-no_rest old group e = grind (arith, append-nil)
-
 module _ (table : List Argument) (rules : Rules) (text : List ℕ) where
   pub first_stayed : (walk : Walk) → Walked C text [] walk.rest.now walk.scanner → StayedTo table rules text walk
   first_stayed walk w = record { done = []; pruned = first_place table rules text [] walk w; folded = λ l. first_folded text [] l walk w }
@@ -63,7 +56,7 @@ module _ (table : List Argument) (rules : Rules) (text : List ℕ) where
       whole = bytes ∙ unedited table rules (read_as C text) (sym count) ∙ all_bytes text
 
       lines : s.done ≡ folded_lines (read_as C text)
-      lines = all_folded text [] l None walk s.done s.done (s.folded l) e (no_rest s.done (s.folded l).group (s.folded l).is_group)
+      lines = all_folded text [] l None walk s.done s.done (s.folded l) e (let none = (s.folded l).is_group in grind (arith, append-nil))
 
       by : (tab : Bool) → (if tab then text else folded_lines (read_as C text)) ≡ text
       by true = refl
@@ -90,7 +83,7 @@ module _ (table : List Argument) (rules : Rules) (text : List ℕ) where
 
       pub long_stayed : fits k ≡ false → StayedTo table rules text next
       long_stayed e = line_stayed (long_more table rules text [] 0 walk s.done s.pruned next (s.done ++ text_of k) k (h s.pruned.read s.pruned.walked) e refl)
-          (λ l. let g = s.folded l in long_taken (read_after C g.read k) s.done l None g.group (s.done ++ text_of k) e g.is_group tt (no_lines s.done (text_of k) g.group g.is_group) l)
+          (λ l. let g = s.folded l in long_taken (read_after C g.read k) s.done l None g.group (s.done ++ text_of k) e g.is_group tt (let none = g.is_group in grind (arith, append-nil)) l)
 
       pub short_stayed : (t : ScannerState) → ((read : List Reading) → Walked C text read walk.rest.now walk.scanner → ScannerRepresents t read) → LeavesNext table rules t k → StayedTo table rules text next
       short_stayed t q n = line_stayed (line_pruned table rules text [] 0 walk s.done s.pruned next (s.done ++ text_of k) k (h s.pruned.read s.pruned.walked) 0 false refl t (q s.pruned.read s.pruned.walked) (n.unedited s.done))

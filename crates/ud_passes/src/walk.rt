@@ -35,7 +35,7 @@ pub(crate) enum Stretch<'t> {
 pub(crate) struct Walk<'t> {
     /// The text from here on.
     pub(crate) rest: &'t [u8],
-    /// Text lines were just taken, so what comes next is hardly another.
+    /// Text lines were taken last, so another is hardly next.
     is_stopped: bool,
     /// The scanner, after the lines before.
     pub(crate) scanner: LineScanner,
@@ -62,7 +62,7 @@ impl<'t> Walk<'t> {
         self.rest.is_empty()
     }
 
-    /// Takes the next lines: text lines if any come next, else one line.
+    /// Takes the next lines: text lines, or one line.
     pub(crate) fn next(&mut self, mode: Mode) -> Stretch<'t>
         requires some { 0 < length self.old.rest.now }
         ensures some { 0 < len_of result }
@@ -75,8 +75,8 @@ impl<'t> Walk<'t> {
         self.next_within(mode, self.rest.len())
     }
 
-    /// Takes the next lines: text lines of at most `most` bytes in all if any come next, else one
-    /// line.
+    /// Takes the next lines: text lines of at most `most` bytes in all, or one line. After text
+    /// lines comes one line.
     pub(crate) fn next_within(&mut self, mode: Mode, most: usize) -> Stretch<'t>
         requires some { 0 < length self.old.rest.now }
         ensures one { most ≡ 0 → is_one_line result ≡ true }

@@ -1,12 +1,11 @@
 -- Text lines, or one line.
-use Rattle.std.proofs.Common.{◌++◌, ◌+◌, List, ℕ, length, ◌∙◌, ap}
+use Rattle.std.proofs.Common.{◌++◌, ◌+◌, List, ℕ, length, ◌∙◌, ap, arith}
 use Rattle.ud_model.specs.text.Lines.{Line, text_of}
 use Rattle.ud_model.specs.text.Splicing.{c_run_of}
 use Rattle.ud_model.specs.aids.LineViews.{as_line}
 use Rattle.ud_model.specs.declared.kind.Mode.TheVariants.{C}
 use Rattle.ud_model.proofs.text.ScanLaws.{joins_before-code}
 use Rattle.ud_passes.specs.Walks.{read_after}
-use Rattle.ud_passes.proofs.SearchLemmas.{none_if}
 use Rattle.ud_passes.proofs.FoldLemmas.{if_some, long_taken, line_folded, texts_folded}
 use Rattle.ud_passes.proofs.folding.texts.step.Goals as goal
 
@@ -15,7 +14,7 @@ pub returns-in_ok-extend_from_slice-in-Texts-clause-folded :
 returns-in_ok-extend_from_slice-in-Texts-clause-folded c = λ text start s.
     let n = c.in-Texts.ensures.next text s.read s.walked in
     texts_folded text start c.args.logical.now c.args.begun c.args.walk.now c.args.out.now.items s c.args.logical.now c.next_within.new.self _
-    (none_if c.args.begun _ c.passable_len.ensures c.in-Texts.ensures.one) c.in-Texts.bytes.now n.0 n.1 n.2 n.3 c.in_ok-extend_from_slice-in-Texts.ensures.items
+    (grind (arith, c.passable_len.ensures, c.in-Texts.ensures.one)) c.in-Texts.bytes.now n.0 n.1 n.2 n.3 c.in_ok-extend_from_slice-in-Texts.ensures.items
 
 pub returns-in_ok-append_line-in-TooLong-clause-folded :
     goal.returns-in_ok-append_line-in-TooLong-clause-folded

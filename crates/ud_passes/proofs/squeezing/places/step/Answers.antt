@@ -1,22 +1,23 @@
 -- One line.
-use Rattle.std.proofs.Common.{length}
+use Rattle.std.proofs.Common.{length, arith}
 use Rattle.std.proofs.lemmas.Bool.{le-leb}
 use Rattle.ud_model.specs.text.Lines.{text_of}
 use Rattle.ud_model.specs.aids.LineViews.{as_line}
 use Rattle.ud_model.specs.declared.limits.TheConstants.{LINE_BYTES}
-use Rattle.ud_passes.proofs.SqueezeLemmas.{long_placed, short_placed}
+use Rattle.ud_passes.proofs.SqueezeLemmas.{line_placed}
 use Rattle.ud_passes.proofs.squeezing.places.step.Goals as goal
 
 pub returns-in_ok-push-in-TooLong-clause-placed : goal.returns-in_ok-push-in-TooLong-clause-placed
 returns-in_ok-push-in-TooLong-clause-placed c = λ text ms p.
     let n = c.in-TooLong.ensures.next text p.read p.walked in
-    long_placed text ms c.args.walk.now c.args.marks.now c.args.places.now.items p c.next_within.new.self (as_line c.in-TooLong.field-0) n.1 _ c.after_stay.ensures _ n.0
-    _ c.is_gap-gap.ensures _ c.bare_place.ensures c.in_ok-push-in-TooLong.ensures.items
+    line_placed text ms c.args.walk.now c.args.marks.now c.args.places.now.items p c.next_within.new.self (as_line c.in-TooLong.field-0) n.1 _ c.after_stay.ensures _
+    (grind (arith, n.0, c.is_gap-gap.ensures, c.bare_place.ensures, c.in_ok-push-in-TooLong.ensures.items))
 
 pub returns-in_ok-push-in-Fitting-clause-placed : goal.returns-in_ok-push-in-Fitting-clause-placed
 returns-in_ok-push-in-Fitting-clause-placed c = λ text ms p.
     let n = c.in-Fitting.ensures.next text p.read p.walked in
-    short_placed text ms c.args.walk.now c.args.marks.now c.args.places.now.items p _ (as_line c.in-Fitting.line)
+    let fits = le-leb (length (text_of (as_line c.in-Fitting.line))) LINE_BYTES c.in-Fitting.ensures.readable.1 in
+    let place = c.in_ok-place-in-Fitting.ensures.place p.read n.0 in
+    line_placed text ms c.args.walk.now c.args.marks.now c.args.places.now.items p _ (as_line c.in-Fitting.line)
     (n.1 c.read_place.new.scanner (c.in_ok-place-in-Fitting.ensures.represents p.read n.0)) _ c.after_stay-in-Fitting.ensures _
-    (le-leb (length (text_of (as_line c.in-Fitting.line))) LINE_BYTES c.in-Fitting.ensures.readable.1)
-    _ c.is_gap-gap.ensures _ (c.in_ok-place-in-Fitting.ensures.place p.read n.0) c.in_ok-push-in-Fitting.ensures.items
+    (grind (arith, fits, place, c.is_gap-gap.ensures, c.in_ok-push-in-Fitting.ensures.items))

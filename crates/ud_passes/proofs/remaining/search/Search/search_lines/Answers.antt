@@ -2,7 +2,7 @@
 use Rattle.std.proofs.Common.{List, ℕ, refl, sym, subst, arith}
 use Rattle.ud_model.specs.aids.LineViews.{as_line}
 use Rattle.ud_passes.specs.remaining.Searches.{IsClearTo}
-use Rattle.ud_passes.proofs.SearchLemmas.{texts_clear, still_clear, texts_searched, line_searched, long_searched, none_if}
+use Rattle.ud_passes.proofs.SearchLemmas.{texts_clear, still_clear, texts_searched, line_searched, long_searched}
 use Rattle.ud_passes.proofs.remaining.search.Search.search_lines.Goals as goal
 
 pub returns-in-Texts-clause-searched : goal.returns-in-Texts-clause-searched
@@ -14,7 +14,7 @@ returns-in-Texts-clause-searched c = λ calls h text start s.
     texts_searched calls c.args.mode c.args.name.now text start c.args.self.now c.args.place c.args.walk.now s c.args.self.now _ c.next_within.new.self
     (subst (IsClearTo calls c.clear_until-until.result) (sym c.next_within.ensures.rest) (still_clear calls c.clear_until-until.result _ rest clear)) c.in-Texts.bytes.now n.0 n.1
     (texts_clear calls c.clear_until-until.result c.in-Texts.bytes.now rest n.0 clear (omega arith) front.1 n.2) n.2 n.3
-    (none_if c.args.place.begun _ c.passable_len-most.ensures.begun c.in-Texts.ensures.one) refl c.lines_in.result c.lines_in.ensures.count refl refl refl refl refl
+    (grind (arith, c.passable_len-most.ensures.begun, c.in-Texts.ensures.one)) refl c.lines_in.result c.lines_in.ensures.count refl refl refl refl refl
 
 pub returns-in_ok-end_line-in-TooLong-clause-searched : goal.returns-in_ok-end_line-in-TooLong-clause-searched
 returns-in_ok-end_line-in-TooLong-clause-searched c = λ calls h text start s.
