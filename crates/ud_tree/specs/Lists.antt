@@ -2,12 +2,15 @@
 --
 --   Adds old new listed   what is listed of some files was added to `old`, which is then `new`
 --   AddsListed listed old new update   this was added, or memory couldn't be allocated
+--   FoldsToList args text listed result   a text is listed by the folded text, or by itself
 --   ListsTextInto args name text output old new update   what is listed of a text was added
 --   ListsInto plan lists name calls calls' old new update   a file was read, and this was added
 --
 -- `calls` and `calls'` are the calls before and after, the newest first.
 use Rattle.std.specs.Prelude.{◌≡◌, ℕ, ◌+◌, ◌<◌, ◌^◌, List, [], ◌++◌, Bool, Result, OnOk}
-use Rattle.std.specs.Prelude.{MatchResult}
+use Rattle.std.specs.Prelude.{MatchResult, MatchOption, Option}
+use Rattle.std.specs.Global.{Vec}
+use Rattle.ud_simplified.specs.FoldedTexts.{folded_text}
 use Rattle.ud_passes.specs.declared.names.Names.{Names}
 use Rattle.ud_replace.specs.declared.error.Update.{Update}
 use Rattle.ud_replace.specs.declared.error.Update.TheVariants.{Unchanged}
@@ -19,7 +22,7 @@ use Rattle.ud_replace.specs.TextOutcomes.{TextOptions, IsPlanned}
 use Rattle.ud_tree.specs.declared.arguments.Arguments.{Arguments}
 use Rattle.ud_tree.specs.Remainders.{mode_of}
 use Rattle.ud_tree.specs.Runs.{Listed}
-use Rattle.ud_tree.specs.Shown.{ListsText, ListsOne}
+use Rattle.ud_tree.specs.Shown.{ListsText, ListsOne, ListsAsRead, ListsFolded}
 
 -- `Adds old new listed`: the names and the conditions were added. They are counted if a machine can
 -- count them.
@@ -36,6 +39,16 @@ AddsListed listed old new update =
     MatchResult update (λ u. (u ≡ Unchanged) × Adds old new listed)
     (λ e. (e ≡ OutOfMemory) × ((names : List ℕ) ×
     Adds old new (record { names = names; hidden = 0; hidden_list = [] })))
+
+-- `FoldsToList args text listed result`: `text` is listed by the folded text, which is the
+-- result, with the names `listed`; or it is listed by itself. Or memory couldn't be allocated.
+abbrev pub FoldsToList : Arguments → List ℕ → List ℕ → Result (Option (Vec ℕ)) ReplaceError →
+    Type 0
+FoldsToList args text listed result =
+    (o : TextOptions) → IsPlanned args.plan o → MatchResult result (λ folded. MatchOption folded
+    (ListsAsRead o (mode_of args) text)
+    (λ lines. (lines.items ≡ folded_text text) × ListsFolded o (mode_of args) text listed))
+    (λ e. e ≡ OutOfMemory)
 
 -- `ListsTextInto args name text output old new update`: what is listed of the text of the file
 -- `name`, for which the run lists `output`, was added to `old`.

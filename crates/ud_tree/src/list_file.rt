@@ -3,12 +3,10 @@
 //! A file in C is listed by its folded text, in which each directive is on one line. If that has a
 //! fault, or isn't restored to the file's text, it is listed by the text itself.
 
-ghost use Rattle.std.specs.Prelude.{◌≡◌, [], false, MatchResult, MatchOption};
-ghost use Rattle.ud_simplified.specs.FoldedTexts.{folded_text};
-ghost use Rattle.ud_replace.specs.TextOutcomes.{TextOptions, IsPlanned};
-ghost use Rattle.ud_tree.specs.Lists.{AddsListed, ListsInto, ListsTextInto};
+ghost use Rattle.std.specs.Prelude.{◌≡◌, [], false};
+ghost use Rattle.ud_tree.specs.Lists.{AddsListed, FoldsToList, ListsInto, ListsTextInto};
 ghost use Rattle.ud_tree.specs.Remainders.{mode_of};
-ghost use Rattle.ud_tree.specs.Shown.{ListsAsRead, ListsFolded, listed_by};
+ghost use Rattle.ud_tree.specs.Shown.{listed_by};
 
 use crate::job::Job;
 use crate::run_file::run_file;
@@ -97,11 +95,7 @@ fn list_folded(
 ) -> Result<Option<Vec<u8>>, ReplaceError>
     requires not_failed { listed.old.failed ≡ false }
     requires none { listed.old.inner.items ≡ [] }
-    ensures { (o : TextOptions) → IsPlanned job.now.arguments.now.plan o → MatchResult result
-        (λ lines. MatchOption lines (ListsAsRead o (mode_of job.now.arguments.now) text.now)
-        (λ v. (v.items ≡ folded_text text.now) × ListsFolded o
-        (mode_of job.now.arguments.now) text.now listed.new.inner.items))
-        (λ e. e ≡ ReplaceError.OutOfMemory) }
+    ensures { FoldsToList job.now.arguments.now text.now listed.new.inner.items result }
 {
     if matches!(job.mode(), Mode::Plain) {
         return Ok(None);
