@@ -3,7 +3,7 @@
 -- The first arguments are evidence: `opened file path facts` and `updates file path facts` that a
 -- file was opened after a look found these facts, `looked` and `shows` as in `Evidence`, `starts b
 -- a` that `b` is the file `a` at its start, and `remaining` what is to be read of a file.
-use Rattle.std.specs.Prelude.{◌≡◌, ℕ, List, true, Option}
+use Rattle.std.specs.Prelude.{◌≡◌, ◌⊎◌, ℕ, List, true, Option}
 use Rattle.ud_replace.specs.declared.node.NodeKind.TheVariants.{File}
 use Rattle.ud_replace.specs.declared.stat.FileStat.{FileStat}
 use Rattle.ud_tree.specs.declared.disk.facts.Facts.{Facts}
@@ -55,6 +55,15 @@ pub record IsReadAgain {F : Type 0} (looked : List ℕ → Facts → Type 0)
   pub facts : stat ≡ found.stat
   pub starts_at : starts start file
   pub reads : ReadsAll (remaining start) (remaining after) stat.version.size text
+
+-- `HasRead .. path text stat`: a regular file was opened at `path` and read (`IsRead`), or the open
+-- one was read again (`IsReadAgain`).
+abbrev pub HasRead : {F : Type 0} → (F → List ℕ → Facts → Type 0) → (List ℕ → Facts → Type 0) →
+    (F → Facts → Type 0) → (F → F → Type 0) → (F → Option (List ℕ)) → List ℕ → List ℕ →
+    FileStat → Type 0
+HasRead opened looked shows starts remaining path text stat =
+    IsRead opened shows remaining path text stat ⊎
+    IsReadAgain looked shows starts remaining path text stat
 
 -- `OpensToWrite .. path file`: `file` was opened for reading and writing after a look at `path`
 -- found a regular file, and a look at `path` found this file.

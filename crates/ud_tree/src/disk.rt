@@ -5,7 +5,7 @@
 //! name can be read. `System` has the calls of the system, and the files beside it say what they
 //! are used for.
 
-ghost use Rattle.std.specs.Prelude.{◌≡◌, ◌↔◌, ◌∷◌, ◌⊎◌, [], IfOk, IfSome, MatchResult, OnOk};
+ghost use Rattle.std.specs.Prelude.{◌≡◌, ◌↔◌, ◌∷◌, [], IfOk, IfSome, MatchResult, OnOk};
 ghost use Rattle.std.specs.Prelude.{None, Some, false, true};
 ghost use Rattle.std.specs.IoError.{error_kind};
 ghost use Rattle.std.specs.Io.{WritesAtMost};
@@ -14,7 +14,7 @@ ghost use Rattle.ud_replace.specs.CallRecords.{walk_call_of};
 ghost use Rattle.ud_tree.specs.Changing.{HasBytes};
 ghost use Rattle.ud_tree.specs.Creating.{IsNew};
 ghost use Rattle.ud_tree.specs.Naming.{At};
-ghost use Rattle.ud_tree.specs.Opening.{IsFound, IsRead, IsReadAgain, OpensToWrite};
+ghost use Rattle.ud_tree.specs.Opening.{HasRead, IsFound, OpensToWrite};
 
 mod calls;
 mod changing;
@@ -111,8 +111,7 @@ impl<'s, S: System> Disk<'s, S> {
     fn read_at(&mut self, name: &[u8], text: &mut Vec<u8>) -> io::Result<FileStat>
         requires empty { text.old.items ≡ [] }
         ensures read { IfOk result (λ stat. At name.now self.new.directories.entered (λ place.
-            IsRead S.File.opened S.File.shows S.File.remaining place text.new.items stat ⊎
-            IsReadAgain S.looked S.File.shows S.File.is_start_of S.File.remaining place
+            HasRead S.File.opened S.looked S.File.shows S.File.is_start_of S.File.remaining place
             text.new.items stat)) }
         ensures calls { self.new.history.calls ≡ self.old.history.calls }
     {
