@@ -21,16 +21,14 @@ pub judges_same : {o : TextOptions} {into : Bool} {name fresh text before left :
 judges_same h is = same h.outcome h.runs h.faultless (sym h.differs_is ∙ is) refl
 
 -- A text whose output differs is replaced by it.
-pub judges_differs : {o : TextOptions} {into : Bool} {name fresh text before left output : List ℕ} {stat : FileStat} {old new : List Call} {ran : TextRun} {r : Result Update ReplaceError} →
-    before ≡ [] → RunsOver o text before left ran → ran.differs ≡ true → output ≡ left → Puts into name fresh text output stat old new r →
-    Judges o into name fresh text stat old new r
-judges_differs {o = o} {into = into} {name = name} {fresh = fresh} {text = text} {before = before} {left = left} {stat = stat} {old = old} {new = new} {ran = ran} {r = r} none h is e p =
-    let whole : RunsOver o text [] left ran = subst (λ (b : List ℕ). RunsOver o text b left ran) none h in
-    differs whole.outcome whole.runs whole.faultless (sym whole.differs_is ∙ is)
-    (subst (λ (t : List ℕ). Puts into name fresh text t stat old new r) (e ∙ whole.appended) p)
+pub judges_differs : {o : TextOptions} {into : Bool} {name fresh text left output : List ℕ} {stat : FileStat} {old new : List Call} {ran : TextRun} {r : Result Update ReplaceError} →
+    RunsOver o text [] left ran → ran.differs ≡ true → output ≡ left → Puts into name fresh text output stat old new r → Judges o into name fresh text stat old new r
+judges_differs {into = into} {name = name} {fresh = fresh} {text = text} {stat = stat} {old = old} {new = new} {r = r} h is e p =
+    differs h.outcome h.runs h.faultless (sym h.differs_is ∙ is) (subst (λ (t : List ℕ). Puts into name fresh text t stat old new r) (e ∙ h.appended) p)
 
 -- The output that was appended to nothing is that of the text.
-pub is_output : {o : TextOptions} {text before left : List ℕ} {ran : TextRun} {n : ℕ} → before ≡ [] → n ≡ ran.edited → RunsOver o text before left ran → IsOutputOf o text left n
-is_output {o = o} {text = text} {left = left} {ran = ran} none e h =
-    let whole : RunsOver o text [] left ran = subst (λ (b : List ℕ). RunsOver o text b left ran) none h in
-    output_of whole.outcome whole.runs whole.appended (e ∙ whole.edited_is)
+pub from_nothing : {o : TextOptions} {text before left : List ℕ} {ran : TextRun} → before ≡ [] → RunsOver o text before left ran → RunsOver o text [] left ran
+from_nothing {o = o} {text = text} {left = left} {ran = ran} e h = subst (λ (b : List ℕ). RunsOver o text b left ran) e h
+
+pub is_output : {o : TextOptions} {text left : List ℕ} {ran : TextRun} → RunsOver o text [] left ran → IsOutputOf o text left ran.edited
+is_output h = output_of h.outcome h.runs h.appended h.edited_is

@@ -6,6 +6,7 @@ pub mod Printing
 pub mod FoldedMarks
 pub mod TextOutcomes
 pub mod SqueezedRuns
+pub mod KeptTexts
 pub mod UnprunedRuns
 pub mod FoldedRuns
 pub mod Replacing

@@ -27,6 +27,8 @@ use Rattle.ud_replace.specs.declared.stat.FileStat.{FileStat}
 use Rattle.ud_replace.specs.declared.replacement.Target.{Target}
 use Rattle.ud_replace.specs.Calls.{Call, was_read, asked, made, overwrote, removed}
 use Rattle.ud_replace.specs.Stats.{is_of}
+use Rattle.ud_replace.specs.declared.kept.Kept.{Kept}
+use Rattle.ud_replace.specs.KeptTexts.{output_of}
 use Rattle.ud_replace.specs.TextOutcomes.{TextOptions, TextOutcome, HasTextOutcome, IsOutputOf}
 use Rattle.ud_replace.specs.Filling.{Confirms, Fills}
 
@@ -146,7 +148,9 @@ abbrev pub ReplacesAt : TextOptions → Target → List ℕ → List Call → Li
     Result Update ReplaceError → Type 0
 ReplacesAt o t = Replaces o t.write_into t.id t.name.now t.fresh.now
 
--- `KeepsAt o target old new r text output edited`: the calls of `Keeps` for this target.
+-- `KeepsAt o target old new r kept`: the calls of `Keeps` for this target, with what was kept.
 abbrev pub KeepsAt : TextOptions → Target → List Call → List Call → Result Update ReplaceError →
-    List ℕ → List ℕ → ℕ → Type 0
-KeepsAt o t = Keeps o t.write_into t.id t.name.now t.fresh.now
+    Kept → Type 0
+KeepsAt o t old new r kept =
+    Keeps o t.write_into t.id t.name.now t.fresh.now old new r kept.text.items (output_of kept)
+    kept.edited

@@ -5,9 +5,10 @@
 //! it is opened for writing. Rejected: taking the text anew if the bytes differ, since a second run
 //! does that.
 
-ghost use Rattle.std.specs.Prelude.{◌≡◌, ◌<◌, ℕ, List, [], true, false, is_ok, if◌then◌else◌};
+ghost use Rattle.std.specs.Prelude.{◌≡◌, ◌<◌, ℕ, List, [], true, false, is_ok};
 ghost use Rattle.ud_replace.specs.Calls.{Call};
 ghost use Rattle.ud_replace.specs.Filling.{LooksAgain, Confirms, Fills};
+ghost use Rattle.ud_replace.specs.KeptTexts.{IsFresh, output_of};
 ghost use Rattle.ud_replace.specs.Replacing.{Overwrites, RenamesAt, PutsAt, JudgesAt, ReplacesAt};
 ghost use Rattle.ud_replace.specs.Replacing.{KeepsAt};
 ghost use Rattle.ud_replace.specs.TextOutcomes.{TextOptions, IsPlanned, IsOutputOf};
@@ -15,13 +16,11 @@ ghost use Rattle.ud_replace.specs.TextOutcomes.{TextOptions, IsPlanned, IsOutput
 use crate::append::append_all;
 use crate::directory::{CreateError, Directory};
 use crate::error::{ReplaceError, Update};
+use crate::kept::Kept;
 use crate::node::FileId;
-use crate::squeezed_run::run_text;
 use crate::stat::FileStat;
 use crate::text_plan::TextPlan;
-use crate::text_run::stays;
 use std::alloc::Global;
-use ud_engine::Watched;
 
 /// A file to replace.
 #[derive(Clone, Copy)]
@@ -87,107 +86,63 @@ pub fn replace<F: Directory>(
     ensures calls { (text : List ℕ) × ((o : TextOptions) → IsPlanned plan.now o →
         ReplacesAt o target.now text (F.history directory.old) (F.history directory.new) result) }
 {
-    let mut text = Vec::new(alloc);
-    let mut out = Watched::new(Vec::<u8>::new(alloc));
-    let mut edited = 0;
-    let mut same = false;
-    replace_keeping(
-        alloc,
-        plan,
-        directory,
-        target,
-        &mut text,
-        &mut out,
-        &mut edited,
-        &mut same,
-    )
+    let mut kept = Kept::new(alloc);
+    replace_keeping(alloc, plan, directory, target, &mut kept)
 }
 
-/// Replaces a file as `replace` does. Leaves its text in `text` and the output for it in `out`,
-/// which must be empty before, and in `edited` the number of edited conditions of the output. The
-/// output is for the text that was read, even if the file is unchanged. If `same` is then true, the
-/// output is the text itself, and isn't left in `out`.
+/// Replaces a file as `replace` does, and keeps its text and the output for it. The output is for
+/// the text that was read, even if the file is unchanged.
 ///
 /// # Errors
-/// As `replace`. `text` then has what was read, if reading failed too. `out` may have any bytes,
-/// and `edited` any number.
+/// As `replace`. What was read is then kept, if reading failed too, with any output.
 pub fn replace_keeping<F: Directory>(
     alloc: Global,
     plan: &TextPlan,
     directory: &mut F,
     target: &Target<'_>,
-    text: &mut Vec<u8>,
-    out: &mut Watched<Vec<u8>>,
-    edited: &mut usize,
-    same: &mut bool,
+    kept: &mut Kept,
 ) -> Result<Update, ReplaceError>
-    requires unread { text.old.items ≡ [] }
-    requires empty { out.old.inner.items ≡ [] }
-    requires not_failed { out.old.failed ≡ false }
+    requires { IsFresh kept.old }
     ensures calls { (o : TextOptions) → IsPlanned plan.now o → ReplacesAt o target.now
-        text.new.items (F.history directory.old) (F.history directory.new) result }
+        kept.new.text.items (F.history directory.old) (F.history directory.new) result }
     ensures output { (o : TextOptions) → IsPlanned plan.now o → is_ok result ≡ true →
-        KeepsAt o target.now (F.history directory.old) (F.history directory.new) result
-        text.new.items (if same.new then text.new.items else out.new.inner.items) edited.new }
+        KeepsAt o target.now (F.history directory.old) (F.history directory.new) result kept.new }
 {
-    match directory.read(target.name, text) {
+    match directory.read(target.name, &mut kept.text) {
         None => Err(ReplaceError::Read),
         Some(stat) => {
             if !stat.is_of(target.id) {
                 return Err(ReplaceError::ChangedMeanwhile);
             }
-            let text = text.as_slice();
-            replace_text(
-                plan,
-                directory,
-                target,
-                &Before { alloc, text, stat },
-                out,
-                edited,
-                same,
-            )
+            replace_text(alloc, plan, directory, target, stat, kept)
         }
     }
 }
 
 /// Replaces a file whose text has been read.
 fn replace_text<F: Directory>(
+    alloc: Global,
     plan: &TextPlan,
     directory: &mut F,
     target: &Target<'_>,
-    before: &Before<'_>,
-    out: &mut Watched<Vec<u8>>,
-    edited: &mut usize,
-    same: &mut bool,
+    stat: FileStat,
+    kept: &mut Kept,
 ) -> Result<Update, ReplaceError>
-    requires empty { out.old.inner.items ≡ [] }
-    requires not_failed { out.old.failed ≡ false }
+    requires empty { kept.old.output.inner.items ≡ [] }
+    requires not_failed { kept.old.output.failed ≡ false }
+    ensures text { kept.new.text.items ≡ kept.old.text.items }
     ensures calls { (o : TextOptions) → IsPlanned plan.now o → JudgesAt o target.now
-        before.now.text.now before.now.stat (F.history directory.old) (F.history directory.new)
-        result }
+        kept.new.text.items stat (F.history directory.old) (F.history directory.new) result }
     ensures output { (o : TextOptions) → IsPlanned plan.now o → is_ok result ≡ true →
-        IsOutputOf o before.now.text.now
-        (if same.new then before.now.text.now else out.new.inner.items) edited.new }
+        IsOutputOf o kept.new.text.items (output_of kept.new) kept.new.edited }
 {
-    *same = match stays(before.alloc, plan, before.text) {
-        Ok(same) => same,
-        Err(error) => return Err(error),
-    };
-    if *same {
-        *edited = 0;
+    let differs = kept.run(alloc, plan)?;
+    if !differs {
         return Ok(Update::Unchanged);
     }
-    match run_text(before.alloc, plan, before.text, out) {
-        Err(error) => Err(error),
-        Ok(ran) => {
-            *edited = ran.edited;
-            if ran.differs {
-                put(directory, target, before, out.inner().as_slice())
-            } else {
-                Ok(Update::Unchanged)
-            }
-        }
-    }
+    let text = kept.text.as_slice();
+    let before = Before { alloc, text, stat };
+    put(directory, target, &before, kept.output())
 }
 
 /// Puts the output in the file's place, or into the file.

@@ -52,7 +52,7 @@ pub(crate) fn run_unsqueezed(
 ///
 /// # Errors
 /// As `run_unsqueezed`.
-pub fn stays(alloc: Global, plan: &TextPlan, text: &[u8]) -> Result<bool, ReplaceError>
+pub(crate) fn stays(alloc: Global, plan: &TextPlan, text: &[u8]) -> Result<bool, ReplaceError>
     ensures { (o : TextOptions) → IsPlanned plan.now o → MatchResult result
         (λ same. same ≡ true → RunsOver o text.now [] text.now same_run) (FailsOver o text.now) }
 {

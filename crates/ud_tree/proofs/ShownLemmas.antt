@@ -1,15 +1,15 @@
 -- Shown: lemmas on a run over a text that was read.
-use Rattle.std.proofs.Common.{◌≡◌, ◌⊎◌, ℕ, ◌<◌, ◌≤◌, List, [], ◌∷◌, ◌++◌, ◌∙◌, Bool, true, false, if◌then◌else◌, Some, Result, Ok, Err, OnOk, refl, sym, subst, append-nil, arith}
+use Rattle.std.proofs.Common.{◌≡◌, ◌⊎◌, ℕ, ◌≤◌, List, [], ◌∷◌, ◌++◌, ◌∙◌, Bool, true, false, if◌then◌else◌, Result, Ok, Err, OnOk, refl, sym, subst, append-nil, arith}
 use Rattle.ud_diff.specs.Patching.{IsDiff}
 use Rattle.ud_replace.specs.declared.error.Update.{Update}
-use Rattle.ud_replace.specs.declared.error.Update.TheVariants.{Unchanged, Replaced}
+use Rattle.ud_replace.specs.declared.error.Update.TheVariants.{Replaced}
 use Rattle.ud_replace.specs.declared.error.ReplaceError.{ReplaceError}
-use Rattle.ud_replace.specs.declared.error.ReplaceError.TheVariants.{OutOfMemory, SeveralLinks, Text}
+use Rattle.ud_replace.specs.declared.error.ReplaceError.TheVariants.{OutOfMemory, Text}
 use Rattle.ud_faults.specs.declared.run.RunFault.{RunFault}
 use Rattle.ud_replace.specs.declared.stat.FileStat.{FileStat}
 use Rattle.ud_replace.specs.declared.text_plan.TextPlan.{TextPlan}
 use Rattle.ud_replace.specs.declared.text_plan.TextRun.{TextRun}
-use Rattle.ud_replace.specs.Calls.{Call, was_read}
+use Rattle.ud_replace.specs.Calls.{Call}
 use Rattle.ud_replace.specs.TextOutcomes.{TextOptions, IsPlanned, RunsOver, FailsOver, over_memory}
 use Rattle.ud_model.specs.declared.kind.Mode.{Mode}
 use Rattle.ud_tree.specs.declared.arguments.Arguments.{Arguments}
@@ -22,45 +22,32 @@ use Rattle.ud_simplified.specs.FoldedTexts.{folded_text}
 use Rattle.ud_passes.specs.declared.names.Names.{Names}
 use Rattle.ud_tree.specs.Lists.{AddsListed, ListsTextInto, ListsInto}
 use Rattle.ud_tree.specs.Remainders.{mode_of}
-use Rattle.ud_tree.specs.Shown.{WasRead, Fails, fails_over, HasDiff, ShowsFile, same, several, changed, ShowsOne, listed_by, ListsAsRead, fold_faulty, ListsFolded, ListsText, by_folded, by_itself, names_listed, unlisted}
+use Rattle.ud_tree.specs.Shown.{WasRead, Fails, fails_over, HasDiff, ShowsFile, changed, ShowsOne, listed_by, ListsAsRead, fold_faulty, ListsFolded, ListsText, by_folded, by_itself, names_listed, unlisted}
 use Rattle.ud_io.specs.Streams.{Stream}
 use Rattle.ud_tree.specs.Writing.{WritesOne}
 use Rattle.ud_io.proofs.StreamLemmas.{sends_none}
-
--- A file was read, and the run over its text failed.
-pub fails_after : (o : TextOptions) (name : List ℕ) {text seen : List ℕ} {stat : FileStat} {calls calls' : List Call} {e : ReplaceError} → calls' ≡ was_read name text (Some stat) ∷ calls →
-    seen ≡ text → FailsOver o seen e → Fails o name calls calls' e
-fails_after o name {text = text} {e = e} is eq h = fails_over text _ is (subst (λ (t : List ℕ). FailsOver o t e) eq h)
-
--- A run over the same text.
-pub ran_as : (o : TextOptions) {text seen before left : List ℕ} {ran : TextRun} → seen ≡ text → RunsOver o seen before left ran → RunsOver o text before left ran
-ran_as o {before = before} {left = left} {ran = ran} eq h = subst (λ (t : List ℕ). RunsOver o t before left ran) eq h
-
--- The output was appended to nothing.
-from_nothing : {o : TextOptions} {text old output : List ℕ} {ran : TextRun} → old ≡ [] → RunsOver o text old output ran → RunsOver o text [] output ran
-from_nothing {o = o} {text = text} {output = output} {ran = ran} e h = subst (λ (x : List ℕ). RunsOver o text x output ran) e h
 
 -- A file was read, and memory couldn't be allocated.
 pub no_memory : (o : TextOptions) {name text : List ℕ} {stat : FileStat} {calls calls' : List Call} → WasRead name text stat calls calls' → Fails o name calls calls' OutOfMemory
 no_memory o {text = text} {stat = stat} was = fails_over text stat was over_memory
 
 -- The list of a file that was read, and whose text has no fault.
-pub lists_into : (args : Arguments) {name text seen before output shown : List ℕ} {ran : TextRun} {stat : FileStat} {calls calls' : List Call} {old new : Names} (update : Result Update ReplaceError) →
-    ReadsOne name text calls calls' → WasRead name text stat calls calls' → before ≡ [] → ((o : TextOptions) → IsPlanned args.plan o → RunsOver o text before output ran) →
+pub lists_into : (args : Arguments) {name text seen output shown : List ℕ} {ran : TextRun} {stat : FileStat} {calls calls' : List Call} {old new : Names} (update : Result Update ReplaceError) →
+    ReadsOne name text calls calls' → WasRead name text stat calls calls' → ((o : TextOptions) → IsPlanned args.plan o → RunsOver o text [] output ran) →
     seen ≡ text → shown ≡ output → ListsTextInto args name seen shown old new update → ListsInto args.plan args.list_hidden name calls calls' old new update
-lists_into args {name = name} {text = text} {seen = seen} {output = output} {ran = ran} {stat = stat} {calls = calls} {calls' = calls'} {old = old} {new = new} (Ok u) read was e runs p q t =
+lists_into args {name = name} {text = text} {seen = seen} {output = output} {ran = ran} {stat = stat} {calls = calls} {calls' = calls'} {old = old} {new = new} (Ok u) read was runs p q t =
     subst (λ (x : Update). ListsInto args.plan args.list_hidden name calls calls' old new (Ok x)) (sym t.adds.0) (record {
       listed = t.listed;
       does = record {
         text = text;
         reads = read;
-        lists_file = λ o k. names_listed text output ran stat was (from_nothing e (runs o k))
+        lists_file = λ o k. names_listed text output ran stat was (runs o k)
             (subst (λ (x : List ℕ). ListsText o (mode_of args) args.list_hidden name x output t.listed) p
             (subst (λ (x : List ℕ). ListsText o (mode_of args) args.list_hidden name seen x t.listed) q (t.lists o k)));
       };
       adds = t.adds.1;
     })
-lists_into args {name = name} {text = text} {calls = calls} {calls' = calls'} {old = old} {new = new} (Err e) read was none runs p q t =
+lists_into args {name = name} {text = text} {calls = calls} {calls' = calls'} {old = old} {new = new} (Err e) read was runs p q t =
     subst (λ (x : ReplaceError). ListsInto args.plan args.list_hidden name calls calls' old new (Err x)) (sym t.adds.0) (record {
       listed = record { names = t.adds.1.0; hidden = 0; hidden_list = [] };
       does = record { text = text; reads = read; lists_file = λ o k. unlisted t.adds.1.0 (no_memory o was) };
@@ -130,28 +117,13 @@ shows_none {into = into} {outputs = outputs} {name = name} {text = text} {calls 
   finds = finds;
 }
 
--- Nothing is shown of a file whose output doesn't differ.
-pub shows_same : (o : TextOptions) (into : Bool) (name text old output : List ℕ) (ran : TextRun) (stat : FileStat)
-    (calls calls' : List Call) → {seen : List ℕ} → seen ≡ output → old ≡ [] → ran.differs ≡ false →
-    WasRead name text stat calls calls' → RunsOver o text old output ran →
-    ShowsFile o into name calls calls' (Ok Unchanged) [] no_edits (made name seen)
-shows_same o into name text old output ran stat calls calls' q e is was h =
-    subst (λ (x : List ℕ). ShowsFile o into name calls calls' (Ok Unchanged) [] no_edits (made name x)) (sym q) (same text output stat ran was (from_nothing e h) is)
-
--- Nothing is shown of a file whose output differs, and which is left alone for its links.
-pub shows_several : (o : TextOptions) (into : Bool) (name text old output : List ℕ) (ran : TextRun) (stat : FileStat) (calls calls' : List Call) →
-    old ≡ [] → ran.differs ≡ true → WasRead name text stat calls calls' → RunsOver o text old output ran → (1 < stat.links) × (into ≡ false) →
-    ShowsFile o into name calls calls' (Err SeveralLinks) [] no_edits []
-shows_several o into name text old output ran stat calls calls' e is was h left = several text output stat ran was (from_nothing e h) is left.0 left.1
-
 -- A file whose output differs is shown by its diff.
-pub shows_changed : (o : TextOptions) (into : Bool) (name text read old output seen diff : List ℕ) (ran : TextRun) (stat : FileStat) (calls calls' : List Call) →
-    old ≡ [] → ran.differs ≡ true → WasRead name text stat calls calls' → RunsOver o text old output ran → (stat.links ≤ 1) ⊎ (into ≡ true) →
+pub shows_changed : (o : TextOptions) (into : Bool) (name text read output seen diff : List ℕ) (ran : TextRun) (stat : FileStat) (calls calls' : List Call) →
+    ran.differs ≡ true → WasRead name text stat calls calls' → RunsOver o text [] output ran → (stat.links ≤ 1) ⊎ (into ≡ true) →
     read ≡ text → seen ≡ output → IsDiff name read seen diff → (lines : ℕ) → lines ≡ removed_by Replaced text seen →
     ShowsFile o into name calls calls' (Ok Replaced) diff (record { conditions = ran.edited; lines = lines }) (made name seen)
-unfolding has_diff from_nothing
-shows_changed o into name text read old output seen diff ran stat calls calls' e is was h may r q diffs lines fewer =
+unfolding has_diff
+shows_changed o into name text read output seen diff ran stat calls calls' is was h may r q diffs lines fewer =
     changed text seen diff (record { conditions = ran.edited; lines = lines }) stat was may
-    (has_diff o name text output seen diff ran (from_nothing e h) is q
-    (subst (λ (x : List ℕ). IsDiff name x seen diff) r diffs))
-    (q ∙ (from_nothing e h).appended) fewer
+    (has_diff o name text output seen diff ran h is q (subst (λ (x : List ℕ). IsDiff name x seen diff) r diffs))
+    (q ∙ h.appended) fewer

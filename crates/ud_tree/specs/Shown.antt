@@ -2,7 +2,7 @@
 --
 --   WasRead name text stat old new   a file was read, and `text` are its bytes
 --   Fails o name calls calls' e      a file couldn't be read, or the run over its text failed
---   RunsFile plan name text calls calls' output output' result   a run over the text of a file
+--   RunsFile plan name calls calls' kept result   a run over the text of a file
 --   HasDiff o name text diff edited  the diff of a text and its output
 --   ShowsFile o into name calls calls' update shown edits outputs   a file was read, and its diff
 --                                    shown
@@ -32,6 +32,8 @@ use Rattle.ud_replace.specs.declared.error.ReplaceError.TheVariants.{ChangedMean
 use Rattle.ud_replace.specs.declared.stat.FileStat.{FileStat}
 use Rattle.ud_replace.specs.declared.text_plan.TextPlan.{TextPlan}
 use Rattle.ud_replace.specs.declared.text_plan.TextRun.{TextRun}
+use Rattle.ud_replace.specs.declared.kept.Kept.{Kept}
+use Rattle.ud_replace.specs.KeptTexts.{RunsKept}
 use Rattle.ud_replace.specs.Calls.{Call, was_read}
 use Rattle.ud_replace.specs.TextOutcomes.{TextOptions, IsPlanned, TextOutcome, HasTextOutcome}
 use Rattle.ud_replace.specs.TextOutcomes.{RunsOver, FailsOver, goes_back}
@@ -57,14 +59,13 @@ pub data Fails (o : TextOptions) (name : List ℕ) (calls calls' : List Call) :
   fails_over : {e : ReplaceError} (text : List ℕ) (stat : FileStat) →
       WasRead name text stat calls calls' → FailsOver o text e → Fails o name calls calls' e
 
--- `RunsFile plan name text calls calls' output output' result`: the file `name` was read, and the
--- run over its text turned `output` into `output'`. Or `Fails` is true of the error.
-abbrev pub RunsFile : TextPlan → List ℕ → List ℕ → List Call → List Call → List ℕ → List ℕ →
-    Result Ran ReplaceError → Type 0
-RunsFile plan name text calls calls' output output' result =
+-- `RunsFile plan name calls calls' kept result`: the file `name` was read, and the output for its
+-- text was kept. Or `Fails` is true of the error.
+abbrev pub RunsFile : TextPlan → List ℕ → List Call → List Call → Kept → Result Ran ReplaceError →
+    Type 0
+RunsFile plan name calls calls' kept result =
     (o : TextOptions) → IsPlanned plan o →
-    MatchResult result (λ ran. RunsOver o text output output' ran.run)
-    (Fails o name calls calls')
+    MatchResult result (λ ran. RunsKept o kept ran.differs) (Fails o name calls calls')
 
 -- `HasDiff o name text diff edited`: `text` has no fault, and its output differs, with `edited`
 -- edited conditions. `diff` turns the text into the output, and back.

@@ -15,7 +15,7 @@ use crate::walk::FileAt;
 use ud_engine::Watched;
 use ud_model::Mode;
 use ud_passes::Names;
-use ud_replace::{ReplaceError, Update, folded, goes_back, run_text};
+use ud_replace::{Kept, ReplaceError, Update, folded, goes_back, run_text};
 
 /// Adds the names of a file to `names`, and its conditions whose names can't be listed. If its text
 /// has a fault, the names up to the fault count.
@@ -34,19 +34,11 @@ pub(crate) fn list_file<T: Tree>(
     ensures { ListsInto job.now.arguments.now.plan job.now.arguments.now.list_hidden
         file.entry.name.now (T.history tree.old) (T.history tree.new) names.old names.new result }
 {
-    let mut listed = Watched::new(Vec::<u8>::new(job.alloc));
-    let mut text = Vec::new(job.alloc);
-    let ran = run_file(job, tree, file, &mut text, &mut listed);
-    match ran {
-        Ok(_) => list_text(
-            job,
-            file.name,
-            text.as_slice(),
-            listed.inner().as_slice(),
-            names,
-        ),
+    let mut kept = Kept::new(job.alloc);
+    match run_file(job, tree, file, &mut kept) {
+        Ok(_) => list_text(job, file.name, kept.text.as_slice(), kept.output(), names),
         Err(error) => {
-            let _added = names.add(listed.inner().as_slice());
+            let _added = names.add(kept.output());
             Err(error)
         }
     }

@@ -1,6 +1,7 @@
 //! Replacing one file.
 
-ghost use Rattle.std.specs.Prelude.{◌≡◌, [], true, false, Ok, is_ok, if◌then◌else◌};
+ghost use Rattle.std.specs.Prelude.{◌≡◌, true, false, Ok, is_ok};
+ghost use Rattle.ud_replace.specs.KeptTexts.{IsFresh, output_of};
 ghost use Rattle.ud_tree.specs.Changes.{KeepsAs, ShowsChange};
 ghost use Rattle.ud_tree.specs.Fates.{fate_of, is_changed, no_edits, removed_by};
 ghost use Rattle.ud_tree.specs.Runs.{ReplacesOne};
@@ -17,9 +18,8 @@ use crate::report::Report;
 use crate::tree::Tree;
 use crate::walk::FileAt;
 use std::io::Write;
-use ud_engine::Watched;
-use ud_io::send;
-use ud_replace::{ReplaceError, Target, Update, replace_keeping};
+use ud_io::{Watched, send};
+use ud_replace::{Kept, ReplaceError, Target, Update, replace_keeping};
 use ud_text::count_lines;
 
 /// Replaces a file, and adds the conditions of its output that still name a symbol to the report.
@@ -45,42 +45,24 @@ pub(crate) fn replace_file<T: Tree, W: Write, E: Write>(
         (stage T.history W.contents tree.new out.new report.new) result edits.new }
     ensures screen { KeepsScreen report.old report.new }
 {
-    let mut text = Vec::new(job.alloc);
-    let mut output = Watched::new(Vec::<u8>::new(job.alloc));
-    let mut count = 0;
-    let mut same = false;
-    let replaced = replace_named(
-        job,
-        tree,
-        file,
-        &mut text,
-        &mut output,
-        &mut count,
-        &mut same,
-    );
-    let update = match replaced {
+    let mut kept = Kept::new(job.alloc);
+    let update = match replace_named(job, tree, file, &mut kept) {
         Ok(update) => update,
         Err(error) => {
-            report.find_names(job, text.as_slice());
+            report.find_names(job, kept.text.as_slice());
             return Err(error);
         }
     };
-    let output = left(same, text.as_slice(), output.inner().as_slice());
+    let text = kept.text.as_slice();
+    let output = kept.output();
     *edits = Edits {
-        conditions: count,
-        lines: removed_by(update, text.as_slice(), output),
+        conditions: kept.edited,
+        lines: removed_by(update, text, output),
     };
-    report.find(job, file.name, text.as_slice(), output, same);
-    let diff = change_of(job, file.name, update, text.as_slice(), output, report);
+    report.find(job, file.name, text, output, kept.same);
+    let diff = change_of(job, file.name, update, text, output, report);
     send(out, diff.as_slice());
     Ok(update)
-}
-
-/// Returns the output for a text: the text if that is the same, else what was left.
-fn left<'a>(same: bool, text: &'a [u8], output: &'a [u8]) -> &'a [u8]
-    ensures { result.now ≡ (if same then text.now else output.now) }
-{
-    if same { text } else { output }
 }
 
 /// Returns the diff of a changed file, if the arguments ask for it; else nothing. If memory runs
@@ -137,27 +119,23 @@ fn is_change(update: Update) -> bool
     }
 }
 
-/// Replaces a file by a new one. Leaves its text in `text`, whatever the result, and the output for
-/// it in `output`. Both are empty before. Leaves the number of its edited conditions in `edited`.
-/// If `same` is then true, the output is the text, and isn't left in `output`.
+/// Replaces a file by a new one, and keeps its text and the output for it.
+///
+/// # Errors
+/// As `replace_keeping`. `OutOfMemory` also if memory for the new file's name can't be allocated;
+/// then nothing was read.
 fn replace_named<T: Tree>(
     job: &Job<'_>,
     tree: &mut T,
     file: FileAt<'_>,
-    text: &mut Vec<u8>,
-    output: &mut Watched<Vec<u8>>,
-    edited: &mut usize,
-    same: &mut bool,
+    kept: &mut Kept,
 ) -> Result<Update, ReplaceError>
-    requires unread { text.old.items ≡ [] }
-    requires empty { output.old.inner.items ≡ [] }
-    requires not_failed { output.old.failed ≡ false }
+    requires { IsFresh kept.old }
     ensures replaces { ReplacesOne job.now.arguments.now.plan job.now.arguments.now.write_into
-        file.entry.name.now text.new.items (T.history tree.old) (T.history tree.new) result }
+        file.entry.name.now kept.new.text.items (T.history tree.old) (T.history tree.new) result }
     ensures keeps { is_ok result ≡ true → KeepsAs job.now.arguments.now.plan
         job.now.arguments.now.write_into file.entry.name.now (T.history tree.old)
-        (T.history tree.new) result text.new.items
-        (if same.new then text.new.items else output.new.inner.items) edited.new }
+        (T.history tree.new) result kept.new.text.items (output_of kept.new) kept.new.edited }
 {
     let name = file.name;
     match fresh_name(job.alloc, name) {
@@ -169,16 +147,7 @@ fn replace_named<T: Tree>(
                 fresh: fresh.as_slice(),
                 write_into: job.arguments.write_into,
             };
-            replace_keeping(
-                job.alloc,
-                &job.arguments.plan,
-                tree,
-                &target,
-                text,
-                output,
-                edited,
-                same,
-            )
+            replace_keeping(job.alloc, &job.arguments.plan, tree, &target, kept)
         }
     }
 }

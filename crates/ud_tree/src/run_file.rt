@@ -1,59 +1,55 @@
 //! Reads a file, and runs over its text.
 
-ghost use Rattle.std.specs.Prelude.{◌≡◌, [], false, IfOk};
+ghost use Rattle.std.specs.Prelude.{IfOk};
+ghost use Rattle.ud_replace.specs.KeptTexts.{IsFresh};
 ghost use Rattle.ud_tree.specs.Runs.{ReadsOne};
 ghost use Rattle.ud_tree.specs.Shown.{RunsFile, WasRead};
 
 use crate::job::Job;
 use crate::tree::Tree;
 use crate::walk::FileAt;
-use ud_io::Watched;
-use ud_replace::{FileStat, ReplaceError, TextRun, run_text};
+use ud_replace::{FileStat, Kept, ReplaceError};
 
 /// The result of the run over the text of a file.
 #[derive(Clone, Copy)]
 pub(crate) struct Ran {
     /// The facts about the file before it was read.
     pub stat: FileStat,
-    /// The result of the run over it.
-    pub run: TextRun,
+    /// True if the output differs.
+    pub differs: bool,
 }
 
-/// Reads a file into `text`, which is empty before, and runs over its text. Appends the output to
-/// `output`.
+/// Reads a file, runs over its text, and keeps the text and the output for it.
 ///
-/// The only call reads the file. `text` has what was read, whatever the result.
+/// The only call reads the file. What was read is kept, whatever the result.
 ///
 /// # Errors
 /// - `Read` if the file can't be read.
 /// - `ChangedMeanwhile` if it isn't the file that the walk met.
-/// - `Text` if the text has a fault. The output up to it was appended.
+/// - `Text` if the text has a fault. The output up to it was kept.
 /// - `OutOfMemory` if memory for the output can't be allocated.
 pub(crate) fn run_file<T: Tree>(
     job: &Job<'_>,
     tree: &mut T,
     file: FileAt<'_>,
-    text: &mut Vec<u8>,
-    output: &mut Watched<Vec<u8>>,
+    kept: &mut Kept,
 ) -> Result<Ran, ReplaceError>
-    requires unread { text.old.items ≡ [] }
-    requires not_failed { output.old.failed ≡ false }
-    ensures reads { ReadsOne file.entry.name.now text.new.items (T.history tree.old)
+    requires { IsFresh kept.old }
+    ensures reads { ReadsOne file.entry.name.now kept.new.text.items (T.history tree.old)
         (T.history tree.new) }
-    ensures text { IfOk result (λ ran. WasRead file.entry.name.now text.new.items ran.stat
+    ensures text { IfOk result (λ ran. WasRead file.entry.name.now kept.new.text.items ran.stat
         (T.history tree.old) (T.history tree.new)) }
-    ensures ran { RunsFile job.now.arguments.now.plan file.entry.name.now text.new.items
-        (T.history tree.old) (T.history tree.new)
-        output.old.inner.items output.new.inner.items result }
+    ensures ran { RunsFile job.now.arguments.now.plan file.entry.name.now (T.history tree.old)
+        (T.history tree.new) kept.new result }
 {
-    match tree.read(file.name, text) {
+    match tree.read(file.name, &mut kept.text) {
         None => Err(ReplaceError::Read),
         Some(stat) => {
             if !stat.is_of(file.id) {
                 return Err(ReplaceError::ChangedMeanwhile);
             }
-            let run = run_text(job.alloc, &job.arguments.plan, text.as_slice(), output)?;
-            Ok(Ran { stat, run })
+            let differs = kept.run(job.alloc, &job.arguments.plan)?;
+            Ok(Ran { stat, differs })
         }
     }
 }

@@ -17,7 +17,7 @@ use crate::tree::Tree;
 use crate::walk::FileAt;
 use std::io::Write;
 use ud_io::{Watched, send};
-use ud_replace::{FileStat, ReplaceError, Update};
+use ud_replace::{FileStat, Kept, ReplaceError, Update};
 
 /// Writes the diff of a file, and adds the conditions of its output that still name a symbol to the
 /// report. Looks for names in the text, even if that has a fault. Returns `Replaced` if the file
@@ -43,21 +43,19 @@ pub(crate) fn show_file<T: Tree, W: Write, E: Write>(
         (stage T.history W.contents tree.new out.new report.new) result edits.new }
     ensures screen { KeepsScreen report.old report.new }
 {
-    let mut output = Watched::new(Vec::<u8>::new(job.alloc));
-    let mut text = Vec::new(job.alloc);
-    let result = run_file(job, tree, file, &mut text, &mut output);
-    let text = text.as_slice();
-    let ran = match result {
+    let mut kept = Kept::new(job.alloc);
+    let ran = match run_file(job, tree, file, &mut kept) {
         Ok(ran) => ran,
         Err(error) => {
-            report.find_names(job, text);
+            report.find_names(job, kept.text.as_slice());
             return Err(error);
         }
     };
     let name = file.name;
-    let output = output.inner().as_slice();
-    if !ran.run.differs {
-        report.find(job, name, text, output, text == output);
+    let text = kept.text.as_slice();
+    let output = kept.output();
+    if !ran.differs {
+        report.find(job, name, text, output, kept.same);
         return Ok(Update::Unchanged);
     }
     report.find_names(job, text);
@@ -68,7 +66,7 @@ pub(crate) fn show_file<T: Tree, W: Write, E: Write>(
         return Err(ReplaceError::OutOfMemory);
     };
     *edits = Edits {
-        conditions: ran.run.edited,
+        conditions: kept.edited,
         lines: removed_by(Update::Replaced, text, output),
     };
     report.search(job, name, output);

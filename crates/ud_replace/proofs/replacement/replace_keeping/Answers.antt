@@ -11,9 +11,9 @@ returns-then-not-is_of g c = record { calls = λ o p. other_file c.in-Some.stat 
 
 pub returns-else-not-is_of : goal.returns-else-not-is_of
 returns-else-not-is_of g c = record {
-  calls = λ o p. judged c.in-Some.stat (sym c.if-not-is_of.ensures) (judges_from c.in-Some.ensures.noted (rw c.as_slice-text.ensures.value at (c.replace_text.ensures.calls o p)));
+  calls = λ o p. judged c.in-Some.stat (sym c.if-not-is_of.ensures) (judges_from (rw (← c.replace_text.ensures.text) at c.in-Some.ensures.noted) (c.replace_text.ensures.calls o p));
   output = λ o p ok.
       keeps c.in-Some.stat (sym c.if-not-is_of.ensures)
-      (judges_from c.in-Some.ensures.noted (rw c.as_slice-text.ensures.value at (c.replace_text.ensures.calls o p)))
-      (rw c.as_slice-text.ensures.value at (c.replace_text.ensures.output o p ok));
+      (judges_from (rw (← c.replace_text.ensures.text) at c.in-Some.ensures.noted) (c.replace_text.ensures.calls o p))
+      (c.replace_text.ensures.output o p ok);
 }

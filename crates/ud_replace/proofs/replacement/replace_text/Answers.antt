@@ -1,29 +1,23 @@
--- By the run over the text, unless the output is the text.
-use Rattle.std.proofs.Common.{refl, ap, ◌∙◌}
+-- By the run over the text.
+use Rattle.std.proofs.lemmas.Result.{err_from_is_err_and}
 use Rattle.ud_replace.proofs.OutcomeLemmas.{judges_failed, judges_same, judges_differs, is_output}
 use Rattle.ud_replace.proofs.replacement.replace_text.Goals as goal
 
-pub returns-in-Err-clause-calls : goal.returns-in-Err-clause-calls
-returns-in-Err-clause-calls g c = λ o p. judges_failed (c.in-Err.ensures o p)
+pub returns-in_err-differs-clause-calls : goal.returns-in_err-differs-clause-calls
+returns-in_err-differs-clause-calls g c = λ o p.
+    let e = err_from_is_err_and c.from_residual.result c.from_residual.ensures.1 in
+    rw (e.1, e.2) (judges_failed (c.in_err-differs.ensures.ran o p))
 
-pub returns-then-same-clause-calls : goal.returns-then-same-clause-calls
-returns-then-same-clause-calls g c = λ o p. judges_same (c.in-Ok.ensures o p c.if-same.true) refl
+pub returns-then-not-differs-clause-calls : goal.returns-then-not-differs-clause-calls
+returns-then-not-differs-clause-calls g c = λ o p. judges_same (c.in_ok-differs.ensures.ran o p) c.if-not-differs.true
 
-pub returns-then-same-clause-output : goal.returns-then-same-clause-output
-returns-then-same-clause-output g c = λ o p ok. rw c.if-same.true (is_output refl refl (c.in-Ok.ensures o p c.if-same.true))
+pub returns-then-not-differs-clause-output : goal.returns-then-not-differs-clause-output
+returns-then-not-differs-clause-output g c = λ o p ok. is_output (c.in_ok-differs.ensures.ran o p)
 
-pub returns-in-Err-run_text-clause-calls : goal.returns-in-Err-run_text-clause-calls
-returns-in-Err-run_text-clause-calls g c = λ o p. judges_failed (c.in-Err-run_text.ensures o p)
+pub returns-clause-calls : goal.returns-clause-calls
+returns-clause-calls g c = λ o p.
+    judges_differs (c.in_ok-differs.ensures.ran o p) c.if-not-differs.false c.output.ensures
+    (rw c.as_slice-text.ensures.value at c.put.ensures)
 
-pub returns-else-ran-clause-calls : goal.returns-else-ran-clause-calls
-returns-else-ran-clause-calls g c = λ o p. judges_same (c.in-Ok-run_text.ensures o p) c.if-ran.false
-
-pub returns-else-ran-clause-output : goal.returns-else-ran-clause-output
-returns-else-ran-clause-output g c = λ o p ok. rw c.if-same.false (is_output c.requires.empty refl (c.in-Ok-run_text.ensures o p))
-
-pub returns-then-ran-clause-calls : goal.returns-then-ran-clause-calls
-returns-then-ran-clause-calls g c = λ o p.
-    judges_differs c.requires.empty (c.in-Ok-run_text.ensures o p) c.if-ran.true (c.as_slice.ensures.value ∙ ap (λ v. v.items) c.inner.ensures) c.put.ensures
-
-pub returns-then-ran-clause-output : goal.returns-then-ran-clause-output
-returns-then-ran-clause-output g c = λ o p ok. rw c.if-same.false (is_output c.requires.empty refl (c.in-Ok-run_text.ensures o p))
+pub returns-clause-output : goal.returns-clause-output
+returns-clause-output g c = λ o p ok. is_output (c.in_ok-differs.ensures.ran o p)

@@ -1,50 +1,45 @@
 -- By the run over the file's text, and the diff of text and output.
-use Rattle.std.proofs.Common.{[], ◌∷◌, ap, ◌∙◌, refl}
+use Rattle.std.proofs.Common.{[], ◌∷◌, refl}
 use Rattle.ud_tree.specs.Runs.{made}
-use Rattle.ud_tree.proofs.RemainderLemmas.{finds_output, finds_same, finds_then, found_in}
-use Rattle.ud_tree.specs.Shown.{faulty}
+use Rattle.ud_tree.proofs.RemainderLemmas.{finds_output, finds_then, found_in}
+use Rattle.ud_tree.specs.Shown.{faulty, same, several}
 use Rattle.ud_io.specs.Streams.{stream_of}
-use Rattle.ud_tree.proofs.ShownLemmas.{no_memory, shows_none, shows_same, shows_several, shows_changed}
+use Rattle.ud_tree.proofs.ShownLemmas.{no_memory, shows_none, shows_changed}
 use Rattle.ud_io.proofs.StreamLemmas.{sends_same}
 use Rattle.ud_tree.proofs.show_file.show_file.Goals as goal
 
 pub returns-in-Err-clause-writes : goal.returns-in-Err-clause-writes
 returns-in-Err-clause-writes g c =
-    shows_none (stream_of g.W.Write.contents c.args.out.now) c.requires.none c.run_file-result.ensures.reads (λ o p. faulty (c.in-Err.ensures.ran o p)) (found_in c.as_slice-text.ensures.value c.find_names.ensures.finds)
+    shows_none (stream_of g.W.Write.contents c.args.out.now) c.requires.none c.run_file.ensures.reads (λ o p. faulty (c.in-Err.ensures.ran o p)) (found_in c.as_slice.ensures.value c.find_names.ensures.finds)
 
 pub returns-in_default-clause-writes : goal.returns-in_default-clause-writes
 returns-in_default-clause-writes g c =
-    shows_none (stream_of g.W.Write.contents c.args.out.now) c.requires.none c.run_file-result.ensures.reads (λ o p. faulty (no_memory o c.in-Ok.ensures.text)) (found_in c.as_slice-text.ensures.value c.find_names-2.ensures.finds)
+    shows_none (stream_of g.W.Write.contents c.args.out.now) c.requires.none c.run_file.ensures.reads (λ o p. faulty (no_memory o c.in-Ok.ensures.text)) (found_in c.as_slice-text.ensures.value c.find_names-2.ensures.finds)
 
 pub returns-then-not-ran-clause-writes : goal.returns-then-not-ran-clause-writes
 returns-then-not-ran-clause-writes g c =
-    shows_none (stream_of g.W.Write.contents c.args.out.now) c.requires.none c.run_file-result.ensures.reads
-    (λ o p.
-    shows_same o _ _ _ _ _ _ _ _ _ (c.as_slice-output.ensures.value ∙ ap (λ v. v.items) c.inner.ensures)
-    (ap (λ v. v.items) c.new-output.ensures.inner ∙ c.new.ensures.items) c.if-not-ran.true c.in-Ok.ensures.text
-    (c.in-Ok.ensures.ran o p)) (finds_same (ap (λ t. t ∷ []) c.as_slice-text.ensures.value) refl c.find.ensures.finds)
+    shows_none (stream_of g.W.Write.contents c.args.out.now) c.requires.none c.run_file.ensures.reads (λ o p. same _ _ _ _ c.in-Ok.ensures.text (c.in-Ok.ensures.ran o p) c.if-not-ran.true)
+    (rw (c.as_slice-text.ensures.value, c.output-output.ensures) at c.find.ensures.finds)
 
 pub returns-then-is_left_alone-clause-writes : goal.returns-then-is_left_alone-clause-writes
 returns-then-is_left_alone-clause-writes g c =
-    shows_none (stream_of g.W.Write.contents c.args.out.now) c.requires.none c.run_file-result.ensures.reads
-    (λ o p.
-    shows_several o _ _ _ _ _ _ _ _ _ (ap (λ v. v.items) c.new-output.ensures.inner ∙ c.new.ensures.items) c.if-not-ran.false c.in-Ok.ensures.text
-    (c.in-Ok.ensures.ran o p) (c.is_left_alone.ensures.left c.if-is_left_alone.true)) (found_in c.as_slice-text.ensures.value c.find_names-2.ensures.finds)
+    let left = c.is_left_alone.ensures.left c.if-is_left_alone.true in
+    shows_none (stream_of g.W.Write.contents c.args.out.now) c.requires.none c.run_file.ensures.reads
+    (λ o p. several _ _ _ _ c.in-Ok.ensures.text (c.in-Ok.ensures.ran o p) c.if-not-ran.false left.0 left.1) (found_in c.as_slice-text.ensures.value c.find_names-2.ensures.finds)
 
 pub returns-clause-writes : goal.returns-clause-writes
 returns-clause-writes g c = record {
   shown = c.in-Some.diff.items;
-  outputs = made c.args.file.name.now c.as_slice-output.result.now;
-  texts = c.run_file-result.new.text.items ∷ [];
+  outputs = made c.args.file.name.now c.output-output.result.now;
+  texts = c.run_file.new.kept.text.items ∷ [];
   does = λ told. record {
-    text = c.run_file-result.new.text.items;
+    text = c.run_file.new.kept.text.items;
     is_text = refl;
-    reads = c.run_file-result.ensures.reads;
-    shows = λ o p. shows_changed o _ _ _ _ _ _ _ _ _ _ _ _ (ap (λ v. v.items) c.new-output.ensures.inner ∙ c.new.ensures.items) c.if-not-ran.false
+    reads = c.run_file.ensures.reads;
+    shows = λ o p. shows_changed o _ _ _ _ _ _ _ _ _ _ _ c.if-not-ran.false
         c.in-Ok.ensures.text (c.in-Ok.ensures.ran o p) (c.is_left_alone.ensures.replaced c.if-is_left_alone.false) c.as_slice-text.ensures.value
-        (c.as_slice-output.ensures.value ∙ ap (λ v. v.items) c.inner.ensures) c.in-Some.ensures _
-        (rw c.as_slice-text.ensures.value at c.removed_by.ensures);
+        c.output-output.ensures c.in-Some.ensures _ (rw c.as_slice-text.ensures.value at c.removed_by.ensures);
   };
-  sent = sends_same c.as_slice.ensures.value c.send.ensures;
+  sent = sends_same c.as_slice-2.ensures.value c.send.ensures;
   finds = finds_then _ [] [] _ (found_in c.as_slice-text.ensures.value c.find_names-2.ensures.finds) (finds_output c.search.ensures.finds);
 }
