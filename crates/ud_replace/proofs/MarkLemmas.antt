@@ -1,5 +1,5 @@
 -- Marks: the lines of a text one after another, and the marks that are read from a printer's output.
-use Rattle.std.proofs.Common.{◌≡◌, ◌≢◌, ℕ, suc, ◌+◌, ◌-◌, ◌<◌, ◌≤◌, ◌==◌, Bool, true, false, not, ◌&&◌, if◌then◌else◌, List, [], ◌∷◌, ◌++◌, length, take, drop, map, replicate, nat_le, get_or, refl, sym, ◌∙◌, ap, ap₂, subst, inl, inr, append_assoc, take-append-drop, take-take, length-take, length-take-le, drop-cons, add-one, arith, bytes_eq, ◌⊎◌, Option, None}
+use Rattle.std.proofs.Common.{◌≡◌, ◌≢◌, ℕ, suc, ◌+◌, ◌-◌, ◌<◌, ◌≤◌, ◌==◌, Bool, true, false, not, ◌&&◌, if◌then◌else◌, List, [], ◌∷◌, ◌++◌, length, take, drop, map, replicate, nat_le, refl, sym, ◌∙◌, ap, ap₂, subst, inl, inr, append_assoc, take-append-drop, take-take, length-take, length-take-le, arith, bytes_eq, ◌⊎◌, Option, None}
 use Rattle.std.specs.List.{concat}
 use Rattle.std.proofs.lemmas.Grind.{common_steps}
 use Rattle.std.proofs.lemmas.List.{take_all, drop_all, replicate-append-replicate}
@@ -24,8 +24,7 @@ use Rattle.ud_text.specs.lines.LinesState.{UpToNewline}
 use Rattle.ud_text.specs.bulk.BulkLexemes.{IsLineStart, at_start, after_newline}
 use Rattle.ud_diff.specs.declared.script.TheConstants.{SAME}
 use Rattle.ud_replace.specs.Marks.{AreMarks, judged_by, mark_by, plain_piece, mark_of, mark_piece, first_text, later_texts, read_mark, read_marks}
-use Rattle.ud_replace.specs.FoldedMarks.{first_stay, marks_for, unfolded}
-use Rattle.ud_passes.specs.squeezing.SqueezedTexts.{stays}
+use Rattle.ud_replace.specs.FoldedMarks.{first_stay}
 
 -- A line that a text begins with is its first one.
 first_line : (s line rest : List ℕ) → s ≡ line ++ rest → IsWhole line → texts_of s ≡ line ∷ texts_of rest
@@ -112,13 +111,6 @@ first_stay-more n stay = by_order (nat_le (suc n) stay) refl
 pub first_stay-none : (stay : ℕ) → first_stay 0 stay ≡ []
 unfolding first_stay
 first_stay-none stay = grind (arith, common_steps)
-
--- The marks of one line fewer.
-pub unfolded-next : (ms : List ℕ) (i : ℕ) (folded printed : List (List ℕ)) → i < length ms →
-    unfolded (drop i ms) folded printed ≡ marks_for (get_or ms i 0) (first_text folded) (first_text printed) ++
-    unfolded (drop (i + 1) ms) (later_texts folded) (if stays (get_or ms i 0) then later_texts printed else printed)
-unfolded-next ms i folded printed h = let next : drop i ms ≡ get_or ms i 0 ∷ drop (i + 1) ms = rw add-one (drop-cons ms i 0 h) in
-    ap (λ (x : List ℕ). unfolded x folded printed) next
 
 -- The lines of a text that isn't empty.
 pub texts_of-next : (s : List ℕ) → ¬ (length s ≡ 0) → texts_of s ≡ first_text (texts_of s) ∷ later_texts (texts_of s)

@@ -3,8 +3,8 @@ use Rattle.std.proofs.Common.{◌≡◌, ◌⊎◌, inl, inr, ℕ, ◌+◌, List
 use Rattle.std.specs.List.{flat_map}
 use Rattle.ud_replace.specs.declared.error.ReplaceError.{ReplaceError}
 use Rattle.ud_replace.specs.declared.error.ReplaceError.TheVariants.{ReadOnly, Write, NotRenamed}
-use Rattle.ud_tree.specs.Reports.{ReportState, TellsOf, ReportsOf, ReportsOne}
-use Rattle.ud_tree.specs.Messages.{IsFailureOf, IsMessageOf, fault_line, list_message, write_message, output_messages}
+use Rattle.ud_tree.specs.Reports.{ReportState, TellsOf, ReportsOf}
+use Rattle.ud_tree.specs.Messages.{IsFailureOf, IsMessageOf, list_message, write_message, output_messages}
 use Rattle.ud_tree.proofs.ReportLemmas.{reports_tells}
 
 -- The message of an error of this kind was written.
@@ -17,14 +17,10 @@ pub unwritten_is : {a b : ReportState} {e : ReplaceError} (name : List ℕ) → 
 unwritten_is name (inl is) h = error_is name ReadOnly is (reports_tells h)
 unwritten_is name (inr is) h = error_is name Write is (reports_tells h)
 
--- The message of a new file that wasn't renamed was written, of either kind.
+-- The message of a new file that wasn't renamed was written.
 pub unrenamed_is : {a b : ReportState} (name : List ℕ) →
     ReportsOf (IsFailureOf name (codes "Cannot be replaced; -w writes into it")) a b → TellsOf (IsMessageOf name NotRenamed) a b
 unrenamed_is name h = record { message = h.message; is_of = inl h.is_of; tells = h.reports.tells }
-
-pub taken_away_is : {a b : ReportState} (name : List ℕ) →
-    ReportsOne (fault_line name (codes "Changed meanwhile")) a b → TellsOf (IsMessageOf name NotRenamed) a b
-taken_away_is name h = record { message = fault_line name (codes "Changed meanwhile"); is_of = inr refl; tells = h.tells }
 
 -- The messages of the output's faults, one after another.
 pub output_told : (p q : Bool) → flat_map (λ m. m) (output_messages p q) ≡ cond p list_message [] ++ cond q write_message []
