@@ -23,7 +23,6 @@ use Rattle.ud_engine.specs.ProcessedLines.{PrintsLine}
 use Rattle.ud_io.specs.Streams.{Stream, TakesAllBut}
 use Rattle.ud_io.proofs.StreamLemmas.{stream_buffered}
 use Rattle.ud_engine.proofs.LinePartLemmas.{before_is, rest_is, split_lines-front_of, parts_behind, line_taken, open_taken, line_next, line_stops}
-use Rattle.ud_io.proofs.BufferingLemmas.{range_from}
 
 -- A last line without a newline has none in its body.
 pub rest_feedless : (n : ℕ) (l : List ℕ) → NoNewline l → NoNewline (line_at n l).body

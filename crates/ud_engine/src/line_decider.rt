@@ -185,30 +185,10 @@ impl LineDecider {
             ending,
             number,
         };
-        match self.decide_unmarked(&line, symbols) {
-            Some(decided) => verdict_of(decided, &mut room.keyword),
+        match self.scanner.read_unmarked(&line) {
+            Some(scan) => verdict_of(self.machine.step(&scan, &line, symbols), &mut room.keyword),
             None => self.decide_marked(body, ending, number, symbols, room),
         }
-    }
-
-    /// Decides the next line, if its scan is known at once. Otherwise changes nothing.
-    #[inline(always)]
-    fn decide_unmarked(
-        &mut self,
-        line: &Line<'_>,
-        symbols: &Symbols,
-    ) -> Option<Result<Step, SectionFault>>
-        requires within { IsWithinLimits (as_line line.now) }
-        requires one_line { NoNewline line.now.body.now }
-        ensures decides { IfSome result (DecidesNext symbols.now self.old self.new
-            (as_line line.now)) }
-        ensures cursor { IfSome result (λ r. IfOk r (λ s. HoldsKeyword s line.now)) }
-        ensures fault { IfSome result (λ r. IfErr r
-            (λ f. machine_fault self.new.machine ≡ Some f)) }
-        ensures unchanged { IfNone result (self.new ≡ self.old) }
-    {
-        let scan = self.scanner.read_unmarked(line)?;
-        Some(self.machine.step(&scan, line, symbols))
     }
 
     /// Decides any next line, as `decide_endif` does.
