@@ -14,7 +14,7 @@ use Rattle.ud_model.specs.sections.Tree.{Item, Tree}
 use Rattle.ud_model.specs.sections.Items.{Options, line_of}
 use Rattle.ud_model.specs.sections.Pruning.{is_removed, marks}
 use Rattle.ud_model.specs.sections.Faults.{Fault}
-use Rattle.ud_model.specs.answer.Printing.{Judged, complemented, judged_lines, pieces_by}
+use Rattle.ud_model.specs.answer.Printing.{Judged, judged_lines, pieces_by}
 use Rattle.ud_model.specs.answer.Outcomes.{ReadsAs, stops, ends}
 use Rattle.ud_model.specs.declared.settings.Settings.{Settings}
 use Rattle.ud_model.proofs.answer.Onward.{read_lines, judged_all}
@@ -177,11 +177,7 @@ shows_judged blank j = by_test (bytes_eq (plain_piece blank j) (text_of j.line))
     by_test false e = other (mark_of blank j) (no_newline (is_removed j.verdict && not blank) (mark_of blank j) refl) refl
 
 shows_by : (s : Settings) (j : Judged) → Shows (text_of j.line) (mark_piece s.blank (judged_by s j))
-shows_by s j = by_test s.complement
-  where
-    by_test : (b : Bool) → Shows (text_of j.line) (mark_piece s.blank (if b then complemented j else j))
-    by_test true = shows_judged s.blank (complemented j)
-    by_test false = shows_judged s.blank j
+shows_by s j = shows_judged s.blank (judged_by s j)
 
 -- The marks of judged lines are read from what is printed for them.
 marks_read : (s : Settings) (js : List Judged) (text : List ℕ) → map (λ (j : Judged). text_of j.line) js ≡ texts_of text →

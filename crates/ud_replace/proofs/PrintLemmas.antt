@@ -1,5 +1,5 @@
 -- Printing: an engine is fed a whole text, and ends.
-use Rattle.std.proofs.Common.{◌≡◌, ◌⊎◌, inl, inr, ℕ, List, [], ◌++◌, Bool, if◌then◌else◌, Some, Result, Ok, Err, IfOk, IfSome, refl, sym, ◌∙◌, ap, ap₂, subst, append_assoc, append-nil}
+use Rattle.std.proofs.Common.{◌≡◌, ℕ, List, [], ◌++◌, Bool, Some, Result, Ok, Err, IfOk, IfSome, refl, sym, ◌∙◌, ap, subst, append_assoc, append-nil}
 use Rattle.std.specs.Result.{result_ok}
 use Rattle.ud_model.specs.text.Lines.{texts_of}
 use Rattle.ud_model.specs.declared.settings.Settings.{Settings}
@@ -8,11 +8,11 @@ use Rattle.ud_model.specs.declared.settings.Listing.TheVariants.{Off}
 use Rattle.ud_args.specs.Plans.{PlanState, ForOptionsOf}
 use Rattle.ud_engine.specs.ProcessedLines.{text_by}
 use Rattle.ud_model.specs.sections.Items.{Options}
-use Rattle.ud_model.specs.answer.Printing.{Judged, complemented}
+use Rattle.ud_model.specs.answer.Printing.{Judged}
 use Rattle.ud_faults.specs.declared.run.RunFault.{RunFault}
 use Rattle.ud_engine.specs.Feeding.{EngineState, EngineRepresents, Session, IsInSession, Continues}
 use Rattle.ud_engine.specs.Finishing.{Finishes, FinishOk}
-use Rattle.ud_replace.specs.Marks.{AreMarks, PrintsBy, judged_by, mark_piece, read_marks}
+use Rattle.ud_replace.specs.Marks.{AreMarks, PrintsBy, PrintsMarks, marked_piece, read_marks}
 use Rattle.ud_replace.specs.Printing.{HasFed}
 use Rattle.ud_replace.proofs.MarkLemmas.{are_marks}
 
@@ -76,25 +76,15 @@ pub finish_prints : (o : Options) (piece : List Judged → Judged → List ℕ) 
 finish_prints o piece text old mid new more failed (Ok differs) e h = prints_whole o piece text old mid new more differs e h
 finish_prints o piece text old mid new more failed (Err f) e h = tt
 
--- A printer of marks prints this for a line under the settings.
-pub piece_by_settings : (s : Settings) (blank b : Bool) (j : Judged) → blank ≡ s.blank → s.complement ≡ b →
-    mark_piece blank (if b then complemented j else j) ≡ mark_piece s.blank (judged_by s j)
-piece_by_settings s blank b j e h = ap₂ (λ (x y : Bool). mark_piece x (if y then complemented j else j)) e (sym h)
+-- A printer of marks with the settings of the options printed a text.
+pub prints_marks : (o : Options) (s : Settings) (text : List ℕ) {old new : List ℕ} → s ≡ o.settings → old ≡ [] → PrintsBy o (marked_piece s) text old new → PrintsMarks o text new
+prints_marks o s text {new = new} e none h =
+    subst (λ (t : Settings). PrintsBy o (marked_piece t) text [] new) e (subst (λ (x : List ℕ). PrintsBy o (marked_piece s) text x new) none h)
 
 -- The marks of a text that was printed.
-marks_printed : (o : Options) (piece : List Judged → Judged → List ℕ) (text new : List ℕ) → PrintsBy o piece text [] new → o.settings.listing ≡ Off →
-    ((before : List Judged) → (j : Judged) → piece before j ≡ mark_piece o.settings.blank (judged_by o.settings j)) →
-    (ms : List ℕ) → ms ≡ read_marks (texts_of text) (texts_of new) → AreMarks o text ms
-marks_printed o piece text new h off alone ms read =
-    are_marks o piece text new ms h.reads alone (h.printed ∙ ap (λ (l : Listing). text_by l piece h.items h.tree) off) read
-
--- The marks of a text that one of two printers printed.
-pub marks_either : (o : Options) (p q : List Judged → Judged → List ℕ) (text new : List ℕ) → PrintsBy o p text [] new ⊎ PrintsBy o q text [] new → o.settings.listing ≡ Off →
-    ((before : List Judged) → (j : Judged) → p before j ≡ mark_piece o.settings.blank (judged_by o.settings j)) →
-    ((before : List Judged) → (j : Judged) → q before j ≡ mark_piece o.settings.blank (judged_by o.settings j)) →
-    (ms : List ℕ) → ms ≡ read_marks (texts_of text) (texts_of new) → AreMarks o text ms
-marks_either o p q text new (inl h) off alone other ms read = marks_printed o p text new h off alone ms read
-marks_either o p q text new (inr h) off alone other ms read = marks_printed o q text new h off other ms read
+pub marks_printed : (o : Options) (text new : List ℕ) → PrintsMarks o text new → o.settings.listing ≡ Off → (ms : List ℕ) → ms ≡ read_marks (texts_of text) (texts_of new) → AreMarks o text ms
+marks_printed o text new h off ms read =
+    are_marks o (marked_piece o.settings) text new ms h.reads (λ before j. refl) (h.printed ∙ ap (λ (l : Listing). text_by l (marked_piece o.settings) h.items h.tree) off) read
 
 -- The marks that were read, whatever the options.
 pub marks_found : {X E : Type 0} (items : X → List ℕ) (plan : PlanState) (text new : List ℕ) (found : Result X E) →

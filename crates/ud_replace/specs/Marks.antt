@@ -3,13 +3,16 @@
 --   plain_piece blank j       what is printed for the judged line `j`
 --   mark_of blank j           the mark of a line that doesn't stay as it is
 --   mark_piece blank j        the line if it is printed as it is, else its mark as a line
---   judged_by s j             the judged line, with its verdict under `-c`
+--   verdict_by s v            the verdict `v`, under `-c` if the settings have that
+--   judged_by s j             the judged line with this verdict
 --   first_text ls, later_texts ls   the first of some lines, and the others
 --   read_mark line shown      the mark of a line, by what is printed for it
 --   read_marks ls shown       the marks of the lines `ls`, by the lines that are printed for them
 --   mark_by s j               the mark of the judged line `j`
 --   AreMarks o text ms        the marks of a text
 --   PrintsBy o piece text old new   the output for a text by a printer's pieces was appended
+--   marked_piece s before j   what a printer of marks prints for `j`
+--   PrintsMarks o text new    its output for a text
 --
 -- Example: of a kept line `x` and a removed one, the pieces are `x` and a line of the byte 0, and
 -- the marks are `=` and 0.
@@ -21,7 +24,8 @@ use Rattle.ud_model.specs.text.Scans.{Reading}
 use Rattle.ud_model.specs.sections.Items.{Options}
 use Rattle.ud_model.specs.sections.Tree.{Item, Tree}
 use Rattle.ud_model.specs.sections.Pruning.{is_removed, marks}
-use Rattle.ud_model.specs.answer.Printing.{Judged, judged_lines, piece_by, complemented}
+use Rattle.ud_model.specs.answer.Printing.{Judged, judged_lines, piece_by, complement_verdict}
+use Rattle.ud_model.specs.declared.verdict.Verdict.{Verdict}
 use Rattle.ud_model.specs.answer.Outcomes.{ReadsAs}
 use Rattle.ud_model.specs.declared.settings.Settings.{Settings}
 use Rattle.ud_engine.specs.ProcessedLines.{text_by}
@@ -42,9 +46,13 @@ abbrev pub mark_piece : Bool → Judged → List ℕ
 mark_piece blank j = if bytes_eq (plain_piece blank j) (text_of j.line) then plain_piece blank j
     else mark_of blank j ∷ newline ∷ []
 
--- `judged_by s j`: the judged line `j`, with its verdict under `-c` if the settings `s` have that.
+-- `verdict_by s v`: the verdict `v`, under `-c` if the settings `s` have that.
+abbrev pub verdict_by : Settings → Verdict → Verdict
+verdict_by s v = if s.complement then complement_verdict v else v
+
+-- `judged_by s j`: the judged line `j` with this verdict.
 abbrev pub judged_by : Settings → Judged → Judged
-judged_by s j = if s.complement then complemented j else j
+judged_by s j = record j { verdict = verdict_by s j.verdict }
 
 -- `first_text ls`: the first of the lines `ls`, or nothing if there is none.
 abbrev pub first_text : List (List ℕ) → List ℕ
@@ -88,3 +96,11 @@ pub record PrintsBy (o : Options) (piece : List Judged → Judged → List ℕ)
   pub tree : Tree Reading
   pub reads : ReadsAs o text items tree None
   pub printed : new ≡ old ++ text_by o.settings.listing piece items tree
+
+-- `marked_piece s before j`: what the printer of marks prints for `j` under the settings `s`.
+abbrev pub marked_piece : Settings → List Judged → Judged → List ℕ
+marked_piece s before j = mark_piece s.blank (judged_by s j)
+
+-- `PrintsMarks o text new`: the text has no fault, and `new` is what the printer of marks prints.
+abbrev pub PrintsMarks : Options → List ℕ → List ℕ → Type 0
+PrintsMarks o text new = PrintsBy o (marked_piece o.settings) text [] new

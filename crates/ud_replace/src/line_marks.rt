@@ -10,12 +10,10 @@ ghost use Rattle.ud_diff.specs.declared.script.TheConstants.{SAME};
 ghost use Rattle.ud_replace.specs.Marks.{AreMarks, read_mark, read_marks};
 
 use crate::folded_marks::first_line;
-use crate::marked::Marked;
-use crate::printing::print_text;
+use crate::printing::print_marked;
 use std::alloc::{AllocError, Global};
 use ud_args::Plan;
 use ud_diff::SAME;
-use ud_sections::Complement;
 use ud_text::{count_lines, last_line_start};
 
 /// The most bytes of lines that are compared at once.
@@ -26,15 +24,7 @@ pub(crate) fn marks_of(alloc: Global, plan: &Plan, text: &[u8]) -> Option<Vec<u8
     ensures { IfSome result (λ marks. ForOptionsOf plan.now (λ o.
         o.settings.listing ≡ Off → AreMarks o text.now marks.items)) }
 {
-    let settings = plan.settings();
-    let marked = if settings.complement {
-        let printer = Complement::new(Marked::new(settings.blank));
-        let again = Complement::new(Marked::new(settings.blank));
-        print_text(alloc, plan, printer, again, text)?
-    } else {
-        let printer = Marked::new(settings.blank);
-        print_text(alloc, plan, printer, Marked::new(settings.blank), text)?
-    };
+    let marked = print_marked(alloc, plan, text)?;
     marks_in(alloc, text, marked.inner().as_slice()).ok()
 }
 

@@ -4,7 +4,7 @@
 //! they are, the hunks turn the text into the output, and back, and no other line is lost.
 
 use ud_diff::EDITED;
-use ud_model::Verdict;
+use ud_model::{Settings, Verdict};
 use ud_sections::{LineOutput, Pieces, Show, Step};
 use ud_text::Line;
 
@@ -14,38 +14,60 @@ pub(crate) const REMOVED: u8 = 0;
 /// A printer that prints each line that stays as it is, and a mark in place of each other one:
 /// `EDITED` for a line that another one replaces, and `REMOVED` if nothing is printed. So many
 /// lines that stay are printed at once. A newline follows each mark, so the output has as many
-/// lines as the text.
-#[derive(Drop)]
+/// lines as the text. It applies `-c` itself, since a `Complement` can't be copied.
+#[derive(Clone, Copy)]
 pub(crate) struct Marked {
-    /// True if removed lines are blanked.
-    blank: bool,
+    /// The settings of the run.
+    settings: Settings,
 }
 
 impl Marked {
     ghost use Rattle.std.specs.Prelude.{◌≡◌};
+    ghost use Rattle.ud_replace.specs.Marks.{verdict_by};
 
     /// Returns the printer at the beginning of a text.
-    pub(crate) fn new(blank: bool) -> Marked
-        ensures { result.blank ≡ blank }
+    pub(crate) fn new(settings: Settings) -> Marked
+        ensures { result.settings ≡ settings }
     {
-        Marked { blank }
+        Marked { settings }
+    }
+
+    /// Returns a verdict, under `-c` if the settings have that.
+    fn verdict(&self, verdict: Verdict) -> Verdict
+        ensures { result ≡ verdict_by self.now.settings verdict }
+    {
+        if !self.settings.complement {
+            return verdict;
+        }
+        match verdict {
+            Verdict::Remove => Verdict::Keep,
+            _ => Verdict::Remove,
+        }
     }
 }
 
 impl Show for Marked {
-    ghost use Rattle.ud_replace.specs.Marks.{mark_piece};
+    ghost use Rattle.ud_replace.specs.Marks.{marked_piece};
 
     ghost represents = { λ m before. Unit {0} };
 
-    ghost piece = { λ m before. mark_piece m.blank };
+    ghost piece = { λ m. marked_piece m.settings };
 
     fn pieces<'a>(&'a mut self, line: &Line<'a>, step: Step) -> Pieces<'a> {
-        let blank: &'a [u8] = if self.blank { line.ending } else { &[] };
+        let step = Step {
+            verdict: self.verdict(step.verdict),
+            keyword: step.keyword,
+        };
+        let blank: &'a [u8] = if self.settings.blank {
+            line.ending
+        } else {
+            &[]
+        };
         let pieces = Pieces::for_line(line, step, blank);
         if pieces.same() {
             return pieces;
         }
-        let mark: &'a [u8] = if step.verdict.is_removed() && !self.blank {
+        let mark: &'a [u8] = if step.verdict.is_removed() && !self.settings.blank {
             &[REMOVED, b'\n']
         } else {
             &[EDITED, b'\n']
@@ -58,7 +80,7 @@ impl Show for Marked {
     }
 
     fn line_output(&self, verdict: Verdict) -> LineOutput {
-        match verdict {
+        match self.verdict(verdict) {
             Verdict::Keep => LineOutput::Whole,
             _ => LineOutput::Parts,
         }

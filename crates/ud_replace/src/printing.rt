@@ -4,12 +4,13 @@
 //! texts to print. So a text is printed with short buffers, in chunks of whole lines. Only if a
 //! line is longer than these, it is printed anew.
 
-ghost use Rattle.std.specs.Prelude.{◌≡◌, ◌⊎◌, ◌<◌, ◌≤◌, [], false, true, length, None};
+ghost use Rattle.std.specs.Prelude.{◌≡◌, ◌<◌, ◌≤◌, [], false, true, length, None};
 ghost use Rattle.std.specs.Prelude.{IfOk, IfSome, OnOk};
 ghost use Rattle.ud_args.specs.Plans.{ForOptionsOf};
-ghost use Rattle.ud_replace.specs.Marks.{PrintsBy};
+ghost use Rattle.ud_replace.specs.Marks.{PrintsBy, PrintsMarks};
 ghost use Rattle.ud_replace.specs.Printing.{HasFed};
 
+use crate::marked::Marked;
 use std::alloc::Global;
 use ud_args::Plan;
 use ud_engine::{Engine, EngineOf, RunFault, Watched};
@@ -108,19 +109,12 @@ fn print_long<S: Show>(
     engine.finish_in_place(out)
 }
 
-/// Appends the output of a printer for a text without a fault to `out`, which is empty before.
-/// `again` is the same printer, for a text with long lines. Returns `None` if memory runs out.
-pub(crate) fn print_text<S: Show>(
-    alloc: Global,
-    plan: &Plan,
-    printer: S,
-    again: S,
-    text: &[u8],
-) -> Option<Watched<Vec<u8>>>
-    ensures { ForOptionsOf plan.now (λ o. S.represents printer [] → S.represents again [] →
-        IfSome result (λ out. PrintsBy o (S.piece printer) text.now [] out.inner.items
-        ⊎ PrintsBy o (S.piece again) text.now [] out.inner.items)) }
+/// Returns what the printer of marks prints for a text without a fault; `None` if memory runs out.
+pub(crate) fn print_marked(alloc: Global, plan: &Plan, text: &[u8]) -> Option<Watched<Vec<u8>>>
+    ensures { IfSome result (λ out. ForOptionsOf plan.now (λ o.
+        PrintsMarks o text.now out.inner.items)) }
 {
+    let printer = Marked::new(plan.settings());
     let mut out = Watched::new(Vec::<u8>::new(alloc));
     match print_short(plan, printer, text, &mut out) {
         Ok(true) => return Some(out),
@@ -128,7 +122,7 @@ pub(crate) fn print_text<S: Show>(
         Err(_) => return None,
     }
     let mut out = Watched::new(Vec::<u8>::new(alloc));
-    match print_long(plan, again, text, &mut out) {
+    match print_long(plan, printer, text, &mut out) {
         Ok(_) => Some(out),
         Err(_) => None,
     }
