@@ -79,17 +79,6 @@ module _ {table : List Argument} {files : List Found} where
   pub reads_none : (calls : List Call) (others : List Found) → others ≡ [] → ReadsOthers table files [] calls calls others
   reads_none calls others none = record { looks = []; files_are = refl; calls_are = refl; others_are = none }
 
-  -- A file of the run isn't read.
-  pub reads_among : {all others : List Found} {old new : List Call} (f : Found) → is_among files f ≡ true → ReadsOthers table files all old new others →
-      ReadsOthers table files (all ++ f ∷ []) old new others
-  reads_among {all = all} f is h = record {
-    looks = h.looks;
-    files_are = h.files_are ∙ sym (append-nil _) ∙ ap (λ (b : Bool). filter (λ g. not (is_among files g)) all ++ cond (not b) (f ∷ []) []) (sym is)
-        ∙ sym (filter-append (λ g. not (is_among files g)) all (f ∷ []));
-    calls_are = h.calls_are;
-    others_are = h.others_are;
-  }
-
   -- Another one was read.
   pub reads_more : {all others after : List Found} {old mid new : List Call} (f : Found) (path bytes : List ℕ) (answer : Option FileStat) (named : Bool) →
       is_among files f ≡ false → path ≡ string_bytes f.path → ReadsOthers table files all old mid others →

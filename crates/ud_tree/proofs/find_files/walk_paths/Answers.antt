@@ -24,12 +24,6 @@ loop-path-preserved g c = (
 pub returns-in_err-start-clause-goes_on : goal.returns-in_err-start-clause-goes_on
 returns-in_err-start-clause-goes_on g c = goes_then c.loop-path.invariant.0 c.start.ensures.goes_on refl
 
-pub returns-then-faulty-gt0-clause-covers : goal.returns-then-faulty-gt0-clause-covers
-returns-then-faulty-gt0-clause-covers g c = λ is. cc
-
-pub returns-then-faulty-gt0-clause-refused : goal.returns-then-faulty-gt0-clause-refused
-returns-then-faulty-gt0-clause-refused g c = λ is. subst (λ (n : ℕ). 0 < n) c.faulty.ensures c.if-faulty-gt0.true
-
 pub returns-in_err-go-clause-goes_on : goal.returns-in_err-go-clause-goes_on
 returns-in_err-go-clause-goes_on g c = goes_then c.loop-path.invariant.0 c.go.ensures.goes_on refl
 

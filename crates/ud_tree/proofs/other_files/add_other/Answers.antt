@@ -1,14 +1,11 @@
 -- By whether the file is among the others, and by what was read of it.
 use Rattle.std.proofs.Common.{[], ◌∷◌, ◌++◌, cond, Bool, sym, ap, ◌∙◌, append-nil}
 use Rattle.ud_replace.specs.Moments.{no_call}
-use Rattle.ud_tree.proofs.OtherLemmas.{touches_more, reads_among, reads_more}
+use Rattle.ud_tree.proofs.OtherLemmas.{touches_more, reads_more}
 use Rattle.ud_tree.proofs.other_files.add_other.Goals as goal
 
 pub returns-then-is_among-clause-touches : goal.returns-then-is_among-clause-touches
 returns-then-is_among-clause-touches g c = no_call
-
-pub returns-then-is_among-clause-added : goal.returns-then-is_among-clause-added
-returns-then-is_among-clause-added g c = λ table all start r h. reads_among c.args.found (sym c.is_among.ensures ∙ c.if-is_among.true) h
 
 pub returns-in_err-named-clause-touches : goal.returns-in_err-named-clause-touches
 returns-in_err-named-clause-touches g c = touches_more c.look_at.ensures.answer no_call c.look_at.ensures.call

@@ -21,10 +21,3 @@ loop-found-preserved g c = (
 
 pub returns-in_err-add_other-clause-touches : goal.returns-in_err-add_other-clause-touches
 returns-in_err-add_other-clause-touches g c = each_then c.loop-found.invariant.0 c.add_other.ensures.touches
-
-pub returns-clause-read : goal.returns-clause-read
-returns-clause-read g c = let b = c.into_iter-found-iterator.ensures.into_iter_gives in
-    let ends = YieldsList-end (YieldsList-from_vec c.args.all.items b.0 (b.1 ∙ c.args.all.ok.0))
-    c.loop-found.yielded c.loop-found.found-iterator c.loop-found.yielded_by c.next.result c.next.new.self c.in-None.is
-    c.next.ensures.steps in
-    λ table r. subst (λ (fs : List Found). ReadsOthers table c.args.files.now fs (g.T.Directory.history c.args.tree.now) (g.T.Directory.history c.loop-found.tree) c.loop-found.others.items) (sym (map-id c.loop-found.yielded) ∙ ends.0) (c.loop-found.invariant.1 table r)
