@@ -1,5 +1,6 @@
 -- The fate of a file, by the run over its text.
-use Rattle.std.proofs.Common.{◌≡◌, ℕ, List, [], Bool, true, false, Result, Ok, Err, refl, sym, ◌∙◌, subst}
+use Rattle.std.proofs.Common.{◌≡◌, ℕ, List, [], Bool, true, false, if◌then◌else◌, bytes_eq, Result, Ok, Err, refl, sym, ◌∙◌, subst}
+use Rattle.std.proofs.lemmas.Slice.Eq.{bytes_eq-Decides}
 use Rattle.ud_replace.specs.declared.error.Update.{Update}
 use Rattle.ud_replace.specs.declared.error.Update.TheVariants.{Unchanged}
 use Rattle.ud_replace.specs.declared.error.ReplaceError.{ReplaceError}
@@ -29,6 +30,13 @@ judges_differs {into = into} {name = name} {fresh = fresh} {text = text} {stat =
 -- The output that was appended to nothing is that of the text.
 pub from_nothing : {o : TextOptions} {text before left : List ℕ} {ran : TextRun} → before ≡ [] → RunsOver o text before left ran → RunsOver o text [] left ran
 from_nothing {o = o} {text = text} {left = left} {ran = ran} e h = subst (λ (b : List ℕ). RunsOver o text b left ran) e h
+
+-- A text that equals the output stands for it.
+pub over_kept : {o : TextOptions} {text left : List ℕ} {ran : TextRun} (same : Bool) (xs ys : List ℕ) → same ≡ bytes_eq xs ys → xs ≡ text → ys ≡ left → RunsOver o text [] left ran →
+    RunsOver o text [] (if same then text else left) ran
+over_kept false xs ys is p q h = h
+over_kept {o = o} {text = text} {ran = ran} true xs ys is p q h =
+    subst (λ (x : List ℕ). RunsOver o text [] x ran) (sym (sym p ∙ (bytes_eq-Decides xs ys).0 (sym is) ∙ q)) h
 
 pub is_output : {o : TextOptions} {text left : List ℕ} {ran : TextRun} → RunsOver o text [] left ran → IsOutputOf o text left ran.edited
 is_output h = output_of h.outcome h.runs h.appended h.edited_is

@@ -53,7 +53,7 @@ impl Kept {
     /// differs. No output was kept before.
     ///
     /// # Errors
-    /// As `run_text`.
+    /// As `run_text`. The output up to a fault is kept.
     pub fn run(&mut self, alloc: Global, plan: &TextPlan) -> Result<bool, ReplaceError>
         requires empty { self.old.output.inner.items ≡ [] }
         requires not_failed { self.old.output.failed ≡ false }
@@ -61,14 +61,31 @@ impl Kept {
         ensures ran { (o : TextOptions) → IsPlanned plan.now o → MatchResult result
             (RunsKept o self.new) (FailsOver o self.new.text.items) }
     {
-        let text = self.text.as_slice();
-        self.same = stays(alloc, plan, text)?;
-        if self.same {
-            self.edited = 0;
-            return Ok(false);
-        }
-        let ran = run_text(alloc, plan, text, &mut self.output)?;
+        let ran = run_text(alloc, plan, self.text.as_slice(), &mut self.output)?;
+        let same = self.text.as_slice() == self.output.inner().as_slice();
         self.edited = ran.edited;
+        self.same = same;
         Ok(ran.differs)
+    }
+
+    /// Does what `run` does, but makes no copy if the output is found to be the text. That takes a
+    /// run more over a text that changes.
+    ///
+    /// # Errors
+    /// As `run`.
+    pub fn run_sparing(&mut self, alloc: Global, plan: &TextPlan) -> Result<bool, ReplaceError>
+        requires empty { self.old.output.inner.items ≡ [] }
+        requires not_failed { self.old.output.failed ≡ false }
+        ensures text { self.new.text.items ≡ self.old.text.items }
+        ensures ran { (o : TextOptions) → IsPlanned plan.now o → MatchResult result
+            (RunsKept o self.new) (FailsOver o self.new.text.items) }
+    {
+        let same = stays(alloc, plan, self.text.as_slice())?;
+        if !same {
+            return self.run(alloc, plan);
+        }
+        self.edited = 0;
+        self.same = true;
+        Ok(false)
     }
 }

@@ -136,7 +136,7 @@ fn replace_text<F: Directory>(
     ensures output { (o : TextOptions) → IsPlanned plan.now o → is_ok result ≡ true →
         IsOutputOf o kept.new.text.items (output_of kept.new) kept.new.edited }
 {
-    let differs = kept.run(alloc, plan)?;
+    let differs = kept.run_sparing(alloc, plan)?;
     if !differs {
         return Ok(Update::Unchanged);
     }
