@@ -1,5 +1,5 @@
 -- The files of other names, and which of them name a symbol.
-use Rattle.std.proofs.Common.{◌≡◌, ◌⊎◌, inl, inr, ℕ, ◌<◌, ◌≤◌, ◌+◌, List, [], ◌∷◌, ◌++◌, length, get_or, map, cond, Bool, true, false, not, ◌&&◌, Option, is_some, Result, Ok, Err, is_ok, refl, sym, ap, ◌∙◌, arith, append-nil, bytes_eq, is_eq, is_lt}
+use Rattle.std.proofs.Common.{◌≡◌, ◌⊎◌, inl, inr, ℕ, ◌<◌, ◌≤◌, ◌+◌, List, [], ◌∷◌, ◌++◌, length, get_or, map, cond, Bool, true, false, not, ◌&&◌, Option, is_some, Result, Ok, Err, is_ok, refl, sym, ap, ◌∙◌, arith, bytes_eq, is_eq, is_lt}
 use Rattle.std.proofs.lemmas.Bool.{cases_lt}
 use Rattle.std.proofs.lemmas.Cmp.{nat_list_cmp_total}
 use Rattle.std.proofs.lemmas.List.{map-append}

@@ -1,4 +1,4 @@
-use Rattle.std.proofs.Common.{ℕ, ◌<◌, map, refl, subst, arith}
+use Rattle.std.proofs.Common.{map, refl, arith}
 use Rattle.ud_tree.proofs.CatchLemmas.{grows_same, catches_none, catches_then}
 use Rattle.std.specs.Prelude.{string_bytes}
 use Rattle.ud_tree.proofs.CoverLemmas.{starts_none, starts_at, covers_paths}

@@ -1,11 +1,5 @@
 -- One file after another.
-use Rattle.std.proofs.Common.{List, sym, ◌∙◌, subst}
-use Rattle.std.proofs.lemmas.Iterator.Adapters.{YieldsList-from_vec}
-use Rattle.std.proofs.lemmas.Iterator.Consumers.{YieldsList-end}
-use Rattle.std.proofs.lemmas.List.{map-id}
 use Rattle.ud_replace.specs.Moments.{no_call}
-use Rattle.ud_tree.specs.declared.walk.Found.{Found}
-use Rattle.ud_tree.specs.Others.{ReadsOthers}
 use Rattle.ud_tree.proofs.OtherLemmas.{reads_none}
 use Rattle.ud_tree.proofs.TreeLaws.{each_then}
 use Rattle.ud_tree.proofs.other_files.read_others.Goals as goal
