@@ -152,7 +152,7 @@ fn any_name(alloc: Global, patterns: &[String]) -> Result<Vec<String>, AllocErro
 }
 
 /// Returns the files below the paths of the command line that aren't among `files` and name a
-/// symbol. What can't be read is left out: the run's own walk has told of it.
+/// symbol. What can't be read is left out; the run's own walk has told of directories.
 ///
 /// # Errors
 /// Fails if memory runs out.
