@@ -3,17 +3,14 @@
 # the rules of -f, and faults. What must come out follows from the manual of 2.10, or from the text.
 #
 # unifdef2.sh [PROGRAM]: with ./unifdef, or PROGRAM.
-set -u -o pipefail
-export LC_ALL=C
+# shellcheck disable=SC1003 # A backslash ends a text.
+UNIFDEF=$(realpath "${1:-$(dirname "$0")/../unifdef}")
+# shellcheck source=tests/checks.sh
+source "$(dirname "$0")/checks.sh"
+[ -x "$UNIFDEF" ] || { echo "unifdef2: $UNIFDEF is not there: run make" >&2; exit 1; }
+export UNIFDEF
 umask 022
-here=$(cd "$(dirname "$0")/.." && pwd)
-program=$(realpath "${1:-$here/unifdef}")
 script=$here/packaging/unifdef2
-[ -x "$program" ] || { echo "unifdef2: $program is not there: run make" >&2; exit 1; }
-export UNIFDEF=$program
-work=$(mktemp -d)
-trap 'rm -rf "$work"' EXIT
-right=0 wrong=0
 
 # fresh: makes the files of a case anew, and goes to them.
 fresh() {
@@ -25,34 +22,23 @@ fresh() {
   printf 'x\n#endif\n' > bad.c
 }
 
-# note STATUS WHAT: counts a check, which holds if the status is 0.
-note() {
-  if [ "$1" -eq 0 ]; then
-    right=$((right + 1))
-  else
-    wrong=$((wrong + 1))
-    printf 'unifdef2: %s: %s\n' "${shell[*]}" "$2"
-  fi
-}
-
 # run ARGUMENT..: runs the script in the files of the case, with in.c as its input, and sets `status`.
 run() {
   status=0
-  "${shell[@]}" "$script" "$@" < in.c > "$work/out" 2> "$work/said" || status=$?
+  "${shell[@]}" "$script" "$@" < in.c > "$work/out" 2> "$work/message" || status=$?
 }
+
+# in_shell WHAT COMMAND..: a check, which names the shell if it fails.
+in_shell() { check "${shell[*]}: $1" "${@:2}"; }
 
 # gives STATUS OUTPUT ARGUMENT..: runs the script, which must have no message.
 gives() {
   run "${@:3}"
-  [ "$status" -eq "$1" ] && [ "$(cat "$work/out")" = "$2" ] && [ ! -s "$work/said" ]
-  note $? "$(printf '%q ' "${@:3}"): status $status"$'\n'"$(cat "$work/out" "$work/said")"
+  in_shell "${*:3}" same "$status, $(cat "$work/message"), $(cat "$work/out")" "$1, , $2"
 }
 
-# has FILE TEXT: checks a file that the last run wrote.
-has() {
-  [ "$(cat -- "$1" 2>&1)" = "$2" ]
-  note $? "$1 has: $(cat -- "$1" 2>&1)"
-}
+# holds FILE TEXT: checks a file that the last run wrote.
+holds() { in_shell "$1" same "$(cat -- "$1" 2>&1)" "$2"; }
 
 # listed: prints what a run may change of the files.
 listed() { find . -mindepth 1 -printf '%p %i %m %s %t\n' | sort; }
@@ -61,8 +47,12 @@ listed() { find . -mindepth 1 -printf '%p %i %m %s %t\n' | sort; }
 refuses() {
   listed > "$work/before"
   run "${@:2}"
-  [ "$status" -eq 2 ] && [ ! -s "$work/out" ] && grep -qxF -e "$1" "$work/said" && listed | cmp -s - "$work/before"
-  note $? "$(printf '%q ' "${@:2}"): status $status"$'\n'"$(cat "$work/out" "$work/said"; listed | diff "$work/before" -)"
+  in_shell "${*:2}" refused "$1"
+}
+refused() {
+  cat "$work/message"
+  same "$status $(cat "$work/out")" '2 ' && grep -qxF -e "$1" "$work/message" &&
+    listed | diff "$work/before" -
 }
 
 # decides HEADER TEXT OUTPUT: -f with a header must make this of a text, both as printf reads them.
@@ -77,18 +67,18 @@ clients() {
   # WebKit's generate-api-header.py: the text comes by a pipe, and the status is 0 if it changed.
   fresh
   gives 0 '' -DA -UB -x1 -oout.h -
-  has out.h a
+  holds out.h a
   gives 1 '' -DQ -x1 -oout.h -
-  has out.h "$(cat in.c)"
+  holds out.h "$(cat in.c)"
   # C-Vise and C-Reduce: the file of -o is there, or is the input.
   fresh
   printf '\n#if 0\nz\n#endif\n' >> in.c
   gives 0 A -s in.c
   echo old > old.c
   gives 0 '' -B -x 2 -UA -o old.c in.c
-  has old.c $'b\n\n#if 0\nz\n#endif'
+  holds old.c $'b\n\n#if 0\nz\n#endif'
   gives 0 '' -B -x 2 -k -o in.c in.c
-  has in.c $'#ifdef A\na\n#else\nb\n#endif'
+  holds in.c $'#ifdef A\na\n#else\nb\n#endif'
   gives 1 '' -B -x 0 -DA -o in.c in.c
   # unifdefall: later options override those of a header.
   fresh
@@ -106,12 +96,12 @@ options() {
   # In place, with all options after the files, too.
   fresh
   gives 1 '' -m -DA a.c same.c c.c
-  has a.c a
-  has same.c x
-  has c.c a
+  holds a.c a
+  holds same.c x
+  holds c.c a
   fresh
   gives 0 '' a.c -x1 -m same.c -DA
-  has a.c a
+  holds a.c a
   fresh
   gives 1 '' -x1 -m same.c
   gives 0 '' -m same.c
@@ -122,28 +112,26 @@ options() {
   chmod 640 a.c
   ln -s c.c a.c.bak
   gives 1 '' -bM .bak -DA a.c same.c
-  has a.c $'\na'
-  has a.c.bak "$(cat in.c)"
-  has same.c.bak x
-  has c.c "$(cat in.c)"
-  [ "$(stat -c %a a.c a.c.bak)" = $'640\n640' ]
-  note $? 'the modes of -M'
+  holds a.c $'\na'
+  holds a.c.bak "$(cat in.c)"
+  holds same.c.bak x
+  holds c.c "$(cat in.c)"
+  in_shell 'the modes of -M' same "$(stat -c %a a.c a.c.bak)" $'640\n640'
   gives 1 '' -M '' -DA c.c
-  has c.c a
-  [ ! -e c.c.bak ]
-  note $? 'an empty suffix'
+  holds c.c a
+  in_shell 'an empty suffix' test ! -e c.c.bak
   # Standard input and output, and what is no regular file.
   fresh
   gives 1 a -DA
   gives 1 a -DA -
   gives 1 a -DA in.c -o -
   run -o/dev/fd/3 -DA in.c 3> out
-  has out a
+  holds out a
   mkfifo pipe
   exec 4<> pipe
   gives 1 '' -o pipe -UA in.c
-  read -r -t 10 -u 4 line && [ "$line" = b ] && [ -p pipe ]
-  note $? 'a pipe'
+  read -r -t 10 -u 4 line
+  in_shell 'a pipe' same "$line $(stat -c %F pipe)" 'b fifo'
   exec 4>&-
   # Modes, and the links of the file of -o, which get no new text.
   fresh
@@ -153,71 +141,55 @@ options() {
   gives 1 '' -DA -o c.c in.c
   gives 1 '' -UA -o soft in.c
   gives 1 '' -DA -o new in.c
-  has c.c a
-  has hard "$(cat in.c)"
-  has soft b
-  [ "$(stat -c %a c.c new soft)" = $'751\n644\n751' ]
-  note $? 'the modes of -o'
-  (umask 077; gives 1 '' -DA -o private in.c)
-  [ "$(stat -c %a private)" = 600 ]
-  note $? 'the mode of a new file'
+  holds c.c a
+  holds hard "$(cat in.c)"
+  holds soft b
+  in_shell 'the modes of -o' same "$(stat -c %a c.c new soft)" $'751\n644\n751'
+  (umask 077; run -DA -o private in.c)
+  in_shell 'the mode of a new file' same "$(stat -c %a private; cat private)" $'600\na'
   # Letters with their words attached or apart.
   fresh
   gives 0 '' -x2 -DA -oout.c a.c
-  has out.c a
+  holds out.c a
   gives 0 '' -Bx 2 -o out.c -UA a.c
-  has out.c b
+  holds out.c b
   gives 1 '' -m -DA a.c c.c
-  has a.c a
-  has c.c a
+  holds a.c a
+  holds c.c a
   # Bytes of a name and of a value, and words that begin with a hyphen.
   fresh
-  local name=$'-n a\n\'"$(x)`y`\\*'
-  cp in.c "./$name"
-  gives 1 '' -m -DA -- "$name"
-  has "./$name" a
-  gives 1 '' "-o$name" -UA in.c
-  has "./$name" b
+  local odd=$'-n a\n\'"$(x)`y`\\*'
+  cp in.c "./$odd"
+  gives 1 '' -m -DA -- "$odd"
+  holds "./$odd" a
+  gives 1 '' "-o$odd" -UA in.c
+  holds "./$odd" b
   # shellcheck disable=SC2016 # The value isn't for this shell.
   gives 1 a -D "A=\$(x) \"'*" in.c
   gives 1 b -U A -i DB=1 -iUC in.c
-  [ "$(ls -A)" = "$name"$'\na.c\nbad.c\nc.c\nin.c\nsame.c' ]
-  note $? 'the files that are left'
+  in_shell 'the files that are left' same "$(ls -A)" "$odd"$'\na.c\nbad.c\nc.c\nin.c\nsame.c'
   # What has no effect, and options that unifdef has itself.
   gives 1 $'\na' -dedb -DA in.c
   gives 1 $'#ifdef A\n#else\nb\n#endif' -cDA -I. in.c
-  gives 0 "unifdef2 $("$here/packaging/version.sh")" -V -z
+  gives 0 "unifdef2 $version" -V -z
 }
 
 headers() {
   local ask='#if A == 2\n2\n#elif defined A\nyes\n#else\nno\n#endif\n'
   # A value is a word. Others, and that of a macro with arguments, only say that there is a macro.
-  # shellcheck disable=SC1003 # The last backslash is one.
   decides '#define A 2\n' "$ask" '2\n'
   decides ' # \tdefine\fA\v 2 /* two */ // 2\n' "$ask" '2\n'
-  # shellcheck disable=SC1003 # The last backslash is one.
   decides '#define A 2\r\n' "$ask" '2\n'
-  # shellcheck disable=SC1003 # The last backslash is one.
   decides '#define A 2' "$ask" '2\n'
-  # shellcheck disable=SC1003 # The last backslash is one.
   decides '#def\\\nine A\\\n 2\\' "$ask" '2\n'
-  # shellcheck disable=SC1003 # The last backslash is one.
   decides '#define A 2 /* one\n and a half */\n' "$ask" '2\n'
-  # shellcheck disable=SC1003 # The last backslash is one.
   decides '#define A 1 /* one */ /*\n*/ + 1\n' "$ask" '#if A == 2\n2\n#else\nyes\n#endif\n'
-  # shellcheck disable=SC1003 # The last backslash is one.
   decides '#define A B\n#define B 2\n' "$ask" '2\n'
-  # shellcheck disable=SC1003 # The last backslash is one.
   decides '#define A -2\n' '#if A == -2\n-2\n#endif\n' '-2\n'
-  # shellcheck disable=SC1003 # The last backslash is one.
   decides '#define A 0x2UL\n' "$ask" '2\n'
-  # shellcheck disable=SC1003 # The last backslash is one.
   decides '#define A "2"\n' '#ifdef A\na\n#endif\n#if A\n#endif\n' 'a\n#if A\n#endif\n'
-  # shellcheck disable=SC1003 # The last backslash is one.
   decides '#define A caf\0351\n' '#ifdef A\na\n#endif\n' 'a\n'
-  # shellcheck disable=SC1003 # The last backslash is one.
   decides '#define A\n' '#ifdef A\na\n#endif\n#if A\n#endif\n' 'a\n#if A\n#endif\n'
-  # shellcheck disable=SC1003 # The last backslash is one.
   decides '#define A(x) 2\n' '#ifdef A\na\n#endif\n#if A(1)\n#endif\n' 'a\n#if A(1)\n#endif\n'
   # What isn't defined, also as autoconf and CMake write it.
   decides '#undef A\n' "$ask" 'no\n'
@@ -228,15 +200,11 @@ headers() {
   decides '/*\n/* #undef A */\n#define A 2\n' "$ask" '2\n'
   decides '// #undef A\n' "$ask" "$ask"
   # The last one counts. A comment is none if the header has another one.
-  # shellcheck disable=SC1003 # The last backslash is one.
   decides '#define A 1\n#define A 2\n' "$ask" '2\n'
-  # shellcheck disable=SC1003 # The last backslash is one.
   decides '#define A 2\n#undef A\n' "$ask" 'no\n'
   decides '/* #undef A */\n#define A 2\n' "$ask" '2\n'
-  # shellcheck disable=SC1003 # The last backslash is one.
   decides '#define A 2\n/* #undef A */\n' "$ask" '2\n'
   # A condition may hold or not, but an include guard holds. Its own name is no setting.
-  # shellcheck disable=SC1003 # The last backslash is one.
   decides '#define A 1\n#ifdef B\n#define A 2\n#endif\n' "$ask" "$ask"
   decides '#ifdef B\n#undef A\n#endif\n#define A 2\n' "$ask" "$ask"
   decides '#if 1\n/* #undef A */\n#else\n#endif\n' "$ask" "$ask"
@@ -252,7 +220,6 @@ headers() {
   decides '#if !G\n#define A 2\n#endif\n' "$ask" "$ask"
   # Comments, strings and characters as C has them, and what else may be in a header.
   decides '/*\n#define A 2\n*/ /* */ // /*\n#define B 1\n' "$ask" "$ask"
-  # shellcheck disable=SC1003 # The last backslash is one.
   decides '#define/**/A/**/2\n' "$ask" '2\n'
   decides '#define S "\\"/*"\n#define A 2\n' "$ask" '2\n'
   decides "#define C '\\\\'', '/*'\n#define A 2\n" "$ask" '2\n'
@@ -317,13 +284,11 @@ faults() {
   chmod +x half
   listed > "$work/before"
   UNIFDEF=./half run -o a.c in.c
-  [ "$status" -eq 2 ] && listed | cmp -s - "$work/before"
-  note $? 'a program that is killed'
+  in_shell 'a program that is killed' same "$status$(listed | diff "$work/before" -)" 2
   # A full disk. No test has a device as the file of -o: a script with a mistake could replace it.
   if [ -w /dev/full ]; then
-    "${shell[@]}" "$script" -DA in.c > /dev/full 2> "$work/said"
-    [ $? -eq 2 ] && [ -s "$work/said" ]
-    note $? 'a full disk'
+    "${shell[@]}" "$script" -DA in.c > /dev/full 2> "$work/message"
+    in_shell 'a full disk' same "$? $(grep -c . "$work/message")" '2 1'
   fi
 }
 
@@ -333,18 +298,17 @@ finds() {
   mkdir "$work/a bin" "$work/lib"
   cp "$script" "$work/a bin"
   ln -s '../a bin/unifdef2' "$work/lib/unifdef"
-  ln -s "$program" "$work/a bin/unifdef"
-  [ "$(unset UNIFDEF; PATH="$work/lib:$PATH" unifdef -x2 -DA in.c)" = a ]
-  note $? 'a program beside it'
+  ln -s "$UNIFDEF" "$work/a bin/unifdef"
+  unset UNIFDEF
+  in_shell 'a program beside it' same "$(PATH="$work/lib:$PATH" unifdef -x2 -DA in.c)" a
   mkdir "$work/bin"
   mv "$work/a bin/unifdef" "$work/bin"
-  [ "$(unset UNIFDEF; PATH="$work/bin:$PATH" "$work/lib/unifdef" -x2 -DA in.c)" = a ]
-  note $? 'a program on PATH'
+  in_shell 'a program on PATH' same "$(PATH="$work/bin:$PATH" "$work/lib/unifdef" -x2 -DA in.c)" a
 }
 
 for shell in dash 'bash --posix' 'busybox sh' mksh yash; do
   read -ra shell <<< "$shell"
-  command -v "${shell[0]}" > /dev/null || continue
+  has "${shell[0]}" || continue
   clients
   options
   headers
@@ -352,5 +316,4 @@ for shell in dash 'bash --posix' 'busybox sh' mksh yash; do
 done
 shell=(sh)
 finds
-echo "unifdef2: $right checks hold, $wrong don't"
-[ "$wrong" -eq 0 ] && [ "$right" -gt 150 ]
+finish && [ "$passed" -gt 150 ]
