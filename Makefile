@@ -107,11 +107,10 @@ install: unifdef unifdef-tree
 	ln -sfr "$(DESTDIR)$(BINDIR)/unifdef2" "$(DESTDIR)$(LIBDIR)/unifdef2/unifdef"
 	$(call into,644,$(MANDIR)/man1,docs/unifdef.1 docs/unifdef-tree.1 docs/unifdef2.1)
 	$(call into,644,$(DOCDIR),$(PAGES) LICENSE)
-	$(call into,644,$(ZSHDIR),$(COMPLETIONS)/_unifdef $(COMPLETIONS)/_unifdef-tree)
-	$(call into,644,$(FISHDIR),$(COMPLETIONS)/unifdef.fish $(COMPLETIONS)/unifdef-tree.fish)
-	$(INSTALL) -d "$(DESTDIR)$(BASHDIR)"
 	for name in unifdef unifdef-tree; do \
-	  $(INSTALL) -m 644 $(COMPLETIONS)/unifdef.bash "$(DESTDIR)$(BASHDIR)/$$name" || exit; \
+	  $(INSTALL) -Dm 644 $(COMPLETIONS)/unifdef.bash "$(DESTDIR)$(BASHDIR)/$$name" && \
+	  $(INSTALL) -Dm 644 $(COMPLETIONS)/_unifdef "$(DESTDIR)$(ZSHDIR)/_$$name" && \
+	  $(INSTALL) -Dm 644 $(COMPLETIONS)/unifdef.fish "$(DESTDIR)$(FISHDIR)/$$name.fish" || exit; \
 	done
 	@test -n "$(DESTDIR)" || packaging/warn.sh "$(BINDIR)"
 

@@ -6,6 +6,9 @@ needs ./unifdef ./unifdef-tree
 completions=$here/packaging/completions
 mkdir -p "$work/bin" "$work/here/below"
 ln -s "$here/unifdef" "$here/unifdef-tree" "$work/bin"
+for it in unifdef unifdef-tree; do
+  cp "$here/packaging/completions/unifdef.fish" "$work/$it.fish"
+done
 export PATH=$work/bin:$PATH HOME=$work XDG_CONFIG_HOME=$work XDG_DATA_HOME=$work
 cd "$work/here" || exit 1
 printf '#if DEBUG > 1 && defined(DEEP)\n#endif\n' > a.h
@@ -27,7 +30,7 @@ in_bash() {
 # shellcheck disable=SC2016 # The variables are those of the other shell.
 in_fish() {
   fish --no-config -c 'source $argv[1]/unifdef.fish; source $argv[1]/unifdef-tree.fish
-    complete -C $argv[2]' "$completions" "$1"
+    complete -C $argv[2]' "$work" "$1"
 }
 # zsh completes only at a terminal, so this script makes one. The shell announces that it is ready,
 # and, by a second key after the one that completes, that it has completed. An hour for each is a

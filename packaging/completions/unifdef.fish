@@ -1,21 +1,26 @@
-# Completions of unifdef for fish.
+# Completions of unifdef for fish, and of unifdef-tree, if the file has its name.
 
 # Prints the names in the conditions of the C files below the directory: of the first files, and for
-# two seconds at most, so that a key press doesn't wait longer.
-function __unifdef_names
-    timeout 2 find . -name '.?*' -prune -o -type f \( -name '*.[ch]' -o -name '*.cc' -o -name '*.hh' \
+# two seconds at most, so that a key press doesn't wait longer. One of them is for find, since
+# unifdef-tree prints at its end.
+function __unifdef_names -a program
+    timeout 1 find . -name '.?*' -prune -o -type f \( -name '*.[ch]' -o -name '*.cc' -o -name '*.hh' \
         -o -name '*.cpp' -o -name '*.hpp' -o -name '*.cxx' -o -name '*.hxx' \) -print0 2> /dev/null |
-        head -z -n 200 | timeout 2 xargs -0 -r -n 1 unifdef -s 2> /dev/null | sort -u
+        if test $program = unifdef-tree
+            head -z -n 2000 | timeout 2 unifdef-tree -0 -q -s 2> /dev/null | awk '{ print $2 }'
+        else
+            head -z -n 200 | timeout 2 xargs -0 -r -n 1 unifdef -s 2> /dev/null
+        end | sort -u
 end
 
 # Prints each name with the end of a value too, so that no space follows it.
-function __unifdef_values
-    __unifdef_names | sed 'p; s/$/=/'
+function __unifdef_values -a program
+    __unifdef_names $program | sed 'p; s/$/=/'
 end
 
-function __unifdef_ignoring
-    __unifdef_values | sed 's/^/D/'
-    __unifdef_names | sed 's/^/U/'
+function __unifdef_ignoring -a program
+    __unifdef_values $program | sed 's/^/D/'
+    __unifdef_names $program | sed 's/^/U/'
 end
 
 # Returns whether no path precedes the typed word, since options come before it.
@@ -26,7 +31,7 @@ function __unifdef_at_options
     for word in $words
         if test $value = yes
             set value no
-        else if string match -qr '^-[^DUix]*[DUix]$' -- $word
+        else if string match -qr '^-[^DUixg]*[DUixg]$' -- $word
             set value yes
         else if not string match -q -- '-?*' $word
             return 1
@@ -34,16 +39,33 @@ function __unifdef_at_options
     end
 end
 
-complete -c unifdef -n __unifdef_at_options -s b -d 'Leave removed lines blank'
-complete -c unifdef -n __unifdef_at_options -s c -d 'Print only the lines that would be removed'
-complete -c unifdef -n __unifdef_at_options -s D -x -a '(__unifdef_values)' -d 'Define a symbol'
-complete -c unifdef -n __unifdef_at_options -s i -x -a '(__unifdef_ignoring)' -d 'Ignore text inside sections that a symbol controls'
-complete -c unifdef -n __unifdef_at_options -s K -d 'Leave && and || unknown if an operand is'
-complete -c unifdef -n __unifdef_at_options -s k -d 'Decide constant expressions'
-complete -c unifdef -n __unifdef_at_options -s l -d 'Leave removed lines blank'
-complete -c unifdef -n __unifdef_at_options -s t -d 'Plain text'
-complete -c unifdef -n __unifdef_at_options -s U -x -a '(__unifdef_names)' -d 'Undefine a symbol'
-complete -c unifdef -n __unifdef_at_options -s x -x -a '0 1 2' -d 'Meaning of the exit status'
-complete -c unifdef -n __unifdef_at_options -s n -d 'Insert #line directives'
-complete -c unifdef -n __unifdef_at_options -s S -d 'List the names in conditions with their depth'
-complete -c unifdef -n __unifdef_at_options -s s -d 'List the names in conditions'
+set -l program (basename (status filename) .fish)
+set -l option complete -c $program -n __unifdef_at_options
+$option -s b -d 'Leave removed lines blank'
+$option -s c -d 'Print only the lines that would be removed'
+$option -s D -x -a "(__unifdef_values $program)" -d 'Define a symbol'
+$option -s i -x -a "(__unifdef_ignoring $program)" -d 'Ignore text inside sections that a symbol controls'
+$option -s K -d 'Leave && and || unknown if an operand is'
+$option -s k -d 'Decide constant expressions'
+$option -s l -d 'Leave removed lines blank'
+$option -s t -d 'Plain text'
+$option -s U -x -a "(__unifdef_names $program)" -d 'Undefine a symbol'
+$option -s x -x -a '0 1 2' -d 'Meaning of the exit status'
+if test $program = unifdef
+    $option -s n -d 'Insert #line directives'
+    $option -s S -d 'List the names in conditions with their depth'
+    $option -s s -d 'List the names in conditions'
+else
+    $option -s B -d 'Leave out blank lines that only stood there because of removed ones'
+    $option -s 0 -d 'Read paths from standard input'
+    $option -s d -d 'Print a diff of what is changed'
+    $option -s g -x -d 'Select files by name, or leave them out after !'
+    $option -s h -l help -d 'Print a line for each option'
+    $option -s n -d 'Show what would change'
+    $option -s p -d 'Remove decided operands from conditions that stay'
+    $option -s q -d 'Leave out the counts'
+    $option -s r -d 'List the conditions that still name a symbol, and its definitions'
+    $option -s s -d 'Count the names in conditions'
+    $option -s V -l version -d 'Print the version'
+    $option -s w -d 'Write into files that cannot be replaced'
+end
