@@ -18,7 +18,7 @@ from pathlib import Path
 from typing import NamedTuple
 
 import texts
-from measure import counted, faulted, finished, peak
+from measure import counted, finished, peak
 
 BYTES = int(os.environ.get("BENCH_BYTES", "20000000"))
 RUNS = int(os.environ.get("BENCH_RUNS", "5"))
@@ -29,8 +29,15 @@ COUNTED_BYTES = min(BYTES // 10, 1_000_000)
 EMPTY_LINES = 20_000_000
 MOST_KIB, MOST_DEEP_KIB = 2048, 3072
 NOWHERE = Path(os.devnull)
-NEWLINE = b"\n"
 CONDITIONAL = re.compile(rb"^[ \t]*#[ \t]*(?:if|ifn?def|el(?:if|ifn?def|se)|endif)\b", re.MULTILINE)
+
+# Numbers of symbols with the options under which each text is measured.
+ROWS = {
+    "C source": [(50,), (1000,), (50, "-t"), (50, "-s")],
+    "C headers": [(50,), (50, "-b"), (50, "-n"), (50, "-s")],
+    "comments": [(50,)],
+    "conditionals": [(50,), (1000,)],
+}
 
 # The condition that takes the most memory: as long as a line may be, with parentheses.
 DEEP = b"#if " + b"(" * 32_760 + b"__cplusplus" + b")" * 32_760 + b"\n#endif\n"
@@ -52,33 +59,28 @@ def heading(title, *cells):
     row(*["---"] * len(cells))
 
 
+def text_of(name, symbols, programs):
+    """Returns a text, of whole files on which the programs agree or of the lines in texts.py."""
+    if name == "C source":
+        return texts.files(SOURCES, "*.c", BYTES, programs)
+    if name == "C headers":
+        return texts.files(HEADERS, "*.h", BYTES, programs)
+    if name == "comments":
+        return texts.COMMENTS * (BYTES // len(texts.COMMENTS))
+    return texts.conditionals(BYTES, symbols)
+
+
 def cases(work, programs):
-    names = ("source.c", "headers.h", "crlf.h", "comments", "comments.c")
-    source, headers, crlf, comments, real = (work / name for name in names)
-    if SOURCES:
-        source.write_bytes(texts.files(SOURCES, "*.c", BYTES, list(programs.values())))
-        for symbols in (0, 50, 1000):
-            yield Case(f"C source, {symbols:,} symbols", source, texts.c_words(symbols))
-        for option in ("-t", "-s", "-S"):
-            yield Case(f"C source, 50 symbols, `{option}`", source, [*texts.c_words(50), option])
-    headers.write_bytes(texts.files(HEADERS, "*.h", BYTES, list(programs.values())))
-    for symbols in (0, 50, 1000):
-        yield Case(f"C headers, {symbols:,} symbols", headers, texts.c_words(symbols))
-    for option in ("-t", "-b", "-n", "-c", "-s"):
-        yield Case(f"C headers, 50 symbols, `{option}`", headers, [*texts.c_words(50), option])
-    crlf.write_bytes(headers.read_bytes().replace(b"\n", b"\r\n"))
-    yield Case("C headers with CRLF, 50 symbols", crlf, texts.c_words(50))
-    comments.write_bytes(texts.COMMENTS * (BYTES // len(texts.COMMENTS)))
-    yield Case("comments, 50 symbols", comments, texts.c_words(50))
-    if SOURCES:
-        real.write_bytes(texts.comments_of(source.read_bytes(), BYTES))
-        yield Case("comments of C source, 50 symbols", real, texts.c_words(50))
-    for symbols in (50, 1000):
-        conditionals = work / f"conditionals{symbols}"
-        conditionals.write_bytes(texts.conditionals(BYTES, symbols))
-        words = texts.conditional_words(symbols)
-        yield Case(f"conditionals, {symbols:,} symbols", conditionals, words)
-        yield Case(f"conditionals, {symbols:,} symbols, `-s`", conditionals, [*words, "-s"])
+    """Yields what is measured, of texts that it writes."""
+    for name, rows in ROWS.items():
+        for symbols, *options in rows if SOURCES or name != "C source" else []:
+            path, words = work / name, texts.c_words(symbols)
+            if name == "conditionals":
+                path, words = work / f"{name}{symbols}", texts.conditional_words(symbols)
+            if not path.exists():
+                path.write_bytes(text_of(name, symbols, list(programs.values())))
+            title = [f"{name}, {symbols:,} symbols", *[f"`{it}`" for it in options]]
+            yield Case(", ".join(title), path, [*words, *options])
 
 
 def commands(programs, words, other):
@@ -108,46 +110,32 @@ def best(case, programs, output):
 
 
 def contents(measures):
-    """Prints how many lines each text has for one conditional, as a whole and as far as its
-    instructions are counted."""
-
-    def lines_of_one(text):
-        found = len(CONDITIONAL.findall(text))
-        return f"{text.count(NEWLINE) / found:,.0f}" if found else "none"
-
-    heading("Lines for one conditional", "text", "lines", "in all", "in the bytes that are counted")
+    """Prints how many lines each text has for one conditional."""
+    heading("Lines for one conditional", "text", "lines", "for one")
     for path in dict.fromkeys(case.text for case in measures):
         text = path.read_bytes()
-        row(path.name, f"{text.count(NEWLINE):,}", lines_of_one(text), lines_of_one(short(text)))
-
-
-def short(text):
-    """Returns the lines of the text's beginning whose instructions are counted."""
-    return text[: text.rfind(NEWLINE, 0, COUNTED_BYTES) + 1]
+        lines, found = text.count(b"\n"), len(CONDITIONAL.findall(text))
+        row(path.name, f"{lines:,}", f"{lines / found:,.0f}" if found else "none")
 
 
 def speeds(measures, programs, title, output):
-    first, *others = [*programs, "cat"]
-    columns = [f"{it} MB/s" for it in (first, *others)] + [f"{first} / {it}" for it in others]
-    columns += [] if output == NOWHERE else ["output"]
+    columns = [f"{it} MB/s" for it in (*programs, "cat")]
+    columns += ["output"] if output != NOWHERE else []
     heading(title, "text and options", "bytes", *columns)
     for case in measures:
-        times, outputs = best(case, programs, output)
-        rates = [f"{case.text.stat().st_size / seconds / 1e6:,.0f}" for seconds in times.values()]
-        ratios = [f"{times[name] / times[first]:.2f}" for name in others]
-        same = [] if output == NOWHERE else ["the same" if len(outputs) == 1 else "differs"]
-        row(case.name, f"{case.text.stat().st_size:,}", *rates, *ratios, *same)
+        (times, outputs), size = best(case, programs, output), case.text.stat().st_size
+        rates = [f"{size / seconds / 1e6:,.0f}" for seconds in times.values()]
+        rates += ["the same" if len(outputs) == 1 else "differs"] if outputs else []
+        row(case.name, f"{size:,}", *rates)
 
 
 def instructions(measures, programs):
-    """Prints instructions a byte of the text's first lines.
-
-    Those of a run with the same options on an empty text are subtracted.
-    """
+    """Prints instructions a byte of the text's first lines, without those of an empty text."""
 
     def of_byte(job):
         case, program = job
-        command, text = [program, *case.words], short(case.text.read_bytes())
+        text, command = case.text.read_bytes(), [program, *case.words]
+        text = text[: text.rfind(b"\n", 0, COUNTED_BYTES) + 1]
         return (counted(command, text) - counted(command, b"")) / len(text)
 
     if not shutil.which("valgrind"):
@@ -161,28 +149,18 @@ def instructions(measures, programs):
 
 
 def starts(programs, work):
-    """Prints the median processor time of starting and running a small file, beside `true`. Then
-    what a run on an empty text takes."""
+    """Prints the median processor time of starting and running a small file, beside `true`."""
     paths = [work / f"{n}.h" for n in range(FILES)]
+    times = {}
     for n, path in enumerate(paths):
         path.write_text(texts.SMALL.format(n))
-    times = {}
-    for path in paths:
         for name, command in commands(programs, texts.DECIDED, "true").items():
             whole = [*command, path] if name in programs else command
             seconds = measured("small", finished(whole, os.devnull, os.devnull))
             times.setdefault(name, []).append(seconds)
     size = paths[0].stat().st_size
     heading(f"Start: {FILES:,} headers of {size} bytes or a few more", "", *times)
-    middle = [statistics.median(of) for of in times.values()]
-    row("microseconds a file", *[f"{seconds * 1e6:.0f}" for seconds in middle])
-    row("beside `true`", *[f"{seconds / middle[-1]:.2f}" for seconds in middle])
-    empty = commands(programs, [], "true").values()
-    row("page faults, empty text", *[f"{measured('empty', faulted(it)):,}" for it in empty])
-    if shutil.which("valgrind"):
-        row("instructions, empty text", *[f"{counted(it, b''):,}" for it in empty])
-        many = commands(programs, texts.c_words(1000), "true").values()
-        row("the same with 1,000 symbols", *[f"{counted(it, b''):,}" for it in many])
+    row("microseconds a file", *[f"{statistics.median(it) * 1e6:.0f}" for it in times.values()])
 
 
 def memory(measures, programs, work):
@@ -199,9 +177,9 @@ def memory(measures, programs, work):
         most = max(most, held[0])
         row(case.name, *[f"{kib:,}" for kib in held])
     (work / "deep").write_bytes(DEEP)
-    first, *others = programs.values()
+    first = next(iter(programs.values()))
     deep = measured("deep", peak([first, *texts.c_words(1000)], work / "deep"))
-    row("an `#if` of 65,536 bytes, 1,000 symbols", f"{deep:,}", *[""] * len([*others, "cat"]))
+    row("an `#if` of 65,536 bytes, 1,000 symbols", f"{deep:,}", *[""] * len(programs))
     return most, deep
 
 

@@ -14,6 +14,7 @@ import os
 import sys
 import tempfile
 import time
+import timeit
 from pathlib import Path
 
 import texts
@@ -23,18 +24,11 @@ BYTES = int(os.environ.get("BENCH_BYTES", "100000000"))
 HEADERS = os.environ.get("BENCH_HEADERS", "/usr/include")
 ROUNDS = int(os.environ.get("BENCH_RUNS", "5"))
 CHUNK = 65_536
-SMALL = b"#ifdef A\n1\n#else\n2\n#endif\n"
-CALLS = 20_000
 
 
 def seconds_of(work):
     """Returns the least processor time of some rounds."""
-    times = []
-    for _ in range(ROUNDS):
-        begin = time.process_time()
-        work()
-        times.append(time.process_time() - begin)
-    return min(times)
+    return min(timeit.repeat(work, timer=time.process_time, number=1, repeat=ROUNDS))
 
 
 class Calls:
@@ -87,11 +81,6 @@ def main():
     print(f"\nThe library on {len(text):,} bytes\n\n| | MB/s |\n| --- | --- |")
     for name, seconds in rows.items():
         print(f"| {name} | {len(text) / seconds / 1e6:,.0f} |")
-    small = Calls(SMALL, calls.words)
-    whole = seconds_of(lambda: [small.whole() for _ in range(CALLS)]) / CALLS
-    stream = seconds_of(lambda: [small.stream() for _ in range(CALLS)]) / CALLS
-    print(f"\nMicroseconds for {len(SMALL)} bytes, Python's own calls among them: ", end="")
-    print(f"{whole * 1e6:.1f} by unifdef_text, {stream * 1e6:.1f} by a stream")
 
 
 main()

@@ -13,30 +13,15 @@ import termios
 from pathlib import Path
 
 
-def run(command, source, output, messages=None):
-    """Returns the status of one run, and what it used, as `os.wait4` has it. Its messages go where
-    those of this program go, if there is no file for them."""
+def finished(command, source, output):
+    """Returns the status of one run, and its processor time in seconds."""
     actions = [
         (os.POSIX_SPAWN_OPEN, 0, source, os.O_RDONLY, 0),
         (os.POSIX_SPAWN_OPEN, 1, output, os.O_WRONLY | os.O_CREAT, 0o600),
     ]
-    if messages:
-        actions.append((os.POSIX_SPAWN_OPEN, 2, messages, os.O_WRONLY, 0))
     pid = os.posix_spawn(shutil.which(command[0]), command, os.environ, file_actions=actions)
     _, status, usage = os.wait4(pid, 0)
-    return os.waitstatus_to_exitcode(status), usage
-
-
-def finished(command, source, output):
-    """Returns the status of one run, and its processor time in seconds."""
-    status, usage = run(command, source, output)
-    return status, usage.ru_utime + usage.ru_stime
-
-
-def faulted(command):
-    """Returns the status of one run on an empty text, and the number of its page faults."""
-    status, usage = run(command, os.devnull, os.devnull)
-    return status, usage.ru_minflt
+    return os.waitstatus_to_exitcode(status), usage.ru_utime + usage.ru_stime
 
 
 def peak(command, source):

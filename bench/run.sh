@@ -47,4 +47,3 @@ export BENCH_SOURCES
 python3 "$here/compare.py" "$work" "${programs[@]}" | tee "$work/tables"
 python3 "$here/chart.py" "$work/tables" > "$work/speed.svg"
 cp "$work/speed.svg" "$here/speed.svg"
-if command -v valgrind > /dev/null; then python3 "$here/hard.py" "$program"; fi

@@ -2,7 +2,6 @@
 
 import os
 import random
-import re
 import subprocess
 from concurrent.futures import ThreadPoolExecutor
 from pathlib import Path
@@ -53,15 +52,6 @@ def files(directory, pattern, limit, programs):
     if not text:
         raise SystemExit(f"bench: no {pattern} in {directory}")
     return bytes(text) * -(-limit // len(text))
-
-
-def comments_of(text, limit):
-    """Returns at least `limit` bytes of the block comments of a C text, repeated as needed.
-
-    A string that looks like a comment counts too. What is left is comments for each program.
-    """
-    comments = b"\n".join(re.findall(rb"/\*.*?\*/", text, re.DOTALL)) + b"\n"
-    return comments * -(-limit // len(comments))
 
 
 def conditional_words(symbols):
