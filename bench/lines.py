@@ -26,10 +26,11 @@ import re
 import shutil
 import subprocess
 import sys
+from collections import Counter
 from pathlib import Path
 
-from selects import CONDITIONAL, chosen, code_of, is_comment, jobs_of, logical_lines
-from selects import neutral, parser_of, selected, shown
+from selects import CONDITIONAL, bare, chosen, code_of, jobs_of, logical_lines, neutral
+from selects import parser_of, selected, shown
 
 WORD = b"line_%d __LINE__ "
 RENUMBERED = re.compile(rb"#line (\d+)\s*$")
@@ -43,11 +44,8 @@ FIXED = [
     ("-UA", b"#ifdef A\na\n#elif defined X\nb\n#else\nc\n#endif\nd\n"),
     ("-DA", b"#if X\r\na\r\n#elif A\r\nb\r\n#elif Y\r\nc\r\n#else\r\nd\r\n#endif\r\ne\r\n"),
     ("-UA -DB=2", b"#ifdef X\na\n#elif A\nb\n#elif B > 1\nc\n#elif Y\nd\n#endif\ne\n"),
-    (
-        "-UA",
-        b"/* a\n * b\n */ c\n#ifdef A\n/* d\n*/\n#endif\ne /* f\n*/ g\n"
-        b"#if defined X && \\\n    1\nh \\\n\ni\n#endif\nj",
-    ),
+    ("-UA", b"/* a\n * b\n */ c\n#ifdef A\n/* d\n*/\n#endif\ne /* f\n*/ g\n"
+            b"#if defined X && \\\n    1\nh \\\n\ni\n#endif\nj"),
     ("-UA", b"#ifdef A\na\n#endif\n\n\n#ifdef A\nb\n#endif\n// c \\\nd\ne\n"),
     ("-UA", b"#ifdef A\r\na\r\n#elif X\r\nb\r\n#endif\r\nc\n#ifndef A\nd\n#endif"),
 ]
@@ -55,12 +53,8 @@ FIXED = [
 
 def taken(text):
     """Returns the text without its conditional directives. Each line keeps its number."""
-    out = []
-    for line in logical_lines(text):
-        if CONDITIONAL.match(code_of(line)):
-            line = [p for p in line if is_comment(p) or p.endswith(b"\n")]
-        out += line
-    return b"".join(out)
+    lines = (bare(it) if CONDITIONAL.match(code_of(it)) else it for it in logical_lines(text))
+    return b"".join(it for line in lines for it in line)
 
 
 def numbers(cc, arguments, text):
@@ -88,11 +82,7 @@ def first_difference(expected, found, excused=()):
     """Returns the first difference in words, if there is one, and the number of excused ones."""
     if [w for w, _ in expected] != [w for w, _ in found]:
         return "selected in another way", 0
-    wrong = [
-        (word, number, other)
-        for (word, number), (_, other) in zip(expected, found)
-        if number != other
-    ]
+    wrong = [(*was, now) for was, (_, now) in zip(expected, found) if was[1] != now]
     for word, number, other in wrong:
         if word not in excused:
             return f"{word.decode()}: numbered {other.decode()} in place of {number.decode()}", 0
@@ -105,16 +95,14 @@ def check(cc, unifdef, options, arguments, source):
     if before is None:
         return "rejected by the compiler", None, 0, 0
     of_word = dict(all_before)
-    compared = excused = 0
-    changed = False
+    compared, excused, changed = 0, 0, False
     for flags in (["-b"], ["-n"], ["-c", "-b"], ["-c", "-n"]):
         run = subprocess.run([unifdef, *options, *flags], input=source, capture_output=True)
         if run.returncode == 2:
             return "faulty", None, 0, 0
         after = numbers(cc, [], taken(run.stdout))
-        difference, _ = first_difference(
-            [(word, of_word.get(word, b"?")) for word, _ in after], after
-        )
+        all_after = [(word, of_word.get(word, b"?")) for word, _ in after]
+        difference, _ = first_difference(all_after, after)
         compared += len(after)
         if difference is None and "-c" not in flags:
             changed = changed or run.returncode == 1
@@ -153,19 +141,16 @@ def compare_fixed(cc, unifdef):
 
 def report(results, what):
     """Prints each difference, and what was compared. Returns the exit status."""
-    hows, files, compared, excused = {}, 0, 0, 0
+    hows, sums = Counter(), [0, 0]
     for how, where, difference, counts in results:
-        files += 1
-        hows[how] = hows.get(how, 0) + 1
-        compared += counts[0]
-        excused += counts[1]
+        hows[how] += 1
+        sums = [it + more for it, more in zip(sums, counts)]
         if difference is not None:
             print(f"{where}: {difference}", flush=True)
-    print(f"{files} {what}: " + ", ".join(f"{n} {how}" for how, n in sorted(hows.items())))
-    print(
-        f"{compared} lines compared; {excused} have another number after a #line "
-        "that the compiler skips"
-    )
+    each = ", ".join(f"{n} {how}" for how, n in sorted(hows.items()))
+    print(f"{sum(hows.values())} {what}: {each}")
+    other = "have another number after a #line that the compiler skips"
+    print(f"{sums[0]} lines compared; {sums[1]} {other}")
     return 1 if "numbered in another way" in hows else 0
 
 

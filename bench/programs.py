@@ -1,7 +1,7 @@
 #!/usr/bin/env python3
 """Compares what a compiler selects of small programs before and after ./unifdef-tree.
 
-    bench/programs.py [--cc CC] [--tree PROGRAM] [--seed N] [--count N]
+    bench/programs.py [--cc CC] [--unifdef PROGRAM] [--seed N] [--count N]
 
 Each program is made from the seed: a file and some headers, which define and undefine names and
 include each other in sections. Two names are those of the options, and the source leaves them
@@ -11,7 +11,6 @@ symbol of the options any more, the compiler must select the same without it, an
 value. The status is 1 if a program is selected in another way.
 """
 
-import argparse
 import multiprocessing
 import os
 import random
@@ -20,6 +19,8 @@ import subprocess
 import sys
 import tempfile
 from pathlib import Path
+
+from selects import parser_of, selected
 
 DECIDED, OTHERS = ("A", "B"), ("C", "D", "E", "F")
 FORMS = ("defined({})", "!defined({})", "defined {}", "{}", "!{}", "{} > 1", "({} == 2)")
@@ -64,18 +65,6 @@ def lines(rng, name, later, depth=0):
             yield f"{name[0]}_{rng.randrange(10**6)} C D E F;"
 
 
-def settings(rng):
-    """Returns options, and arguments for the compiler that agree with them."""
-    options = [rng.choice([f"-U{n}", f"-D{n}={rng.randrange(4)}"]) for n in DECIDED]
-    return options, [f"-D{n}={rng.randrange(4)}" for n in OTHERS if rng.randrange(2)]
-
-
-def selected(cc, arguments, directory):
-    command = [cc, "-E", "-P", "-undef", "-nostdinc", "-w", *arguments, f"{directory}/main.c"]
-    run = subprocess.run(command, capture_output=True)
-    return run.stdout.split() if run.returncode == 0 else None
-
-
 def run(tree, arguments, directory):
     return subprocess.run([tree, "-q", *arguments, "--", directory], capture_output=True).returncode
 
@@ -86,16 +75,19 @@ def compare(job):
     rng = random.Random(seed)
     names = ["main.c", "h1.h", "h2.h", "h3.h"]
     files = {n: "\n".join(lines(rng, n, names[i + 1 :])) + "\n" for i, n in enumerate(names)}
-    options, others = settings(rng)
+    # Arguments of both, and of the compiler alone.
+    options = [rng.choice([f"-U{n}", f"-D{n}={rng.randrange(4)}"]) for n in DECIDED]
+    others = [f"-D{n}={rng.randrange(4)}" for n in OTHERS if rng.randrange(2)]
     gone = 0
     for prune in ([], ["-p"]):
         with tempfile.TemporaryDirectory() as directory:
             for name, text in files.items():
                 Path(directory, name).write_text(text, encoding="ascii")
-            before = selected(cc, options + others, directory)
+            main_file = f"{directory}/main.c"
+            before = selected(cc, options + others, path=main_file)
             if run(tree, prune + options, directory) == 2:
                 return f"seed {seed}: {prune} {options}: a fault", gone
-            if selected(cc, options + others, directory) != before:
+            if selected(cc, options + others, path=main_file) != before:
                 return f"seed {seed}: {prune} {options}: selected in another way", gone
             if run(tree, prune + options, directory) != 0:
                 return f"seed {seed}: {prune} {options}: changed by a second run", gone
@@ -107,19 +99,16 @@ def compare(job):
                 gone += 1
                 rest = options[:i] + options[i + 1 :] + others
                 for other in ([], [f"-D{name}=0"], [f"-D{name}=3"]):
-                    if selected(cc, rest + other, directory) != before:
+                    if selected(cc, rest + other, path=main_file) != before:
                         return f"seed {seed}: {prune} {options}: {name} isn't gone", gone
     return None, gone
 
 
 def main():
-    parser = argparse.ArgumentParser(description="Compares what a compiler selects of programs.")
-    parser.add_argument("--cc", default=os.environ.get("CC", "cc"))
-    parser.add_argument("--tree", default="./unifdef-tree")
-    parser.add_argument("--seed", type=int, default=1)
-    parser.add_argument("--count", type=int, default=300)
+    parser = parser_of("Compares what a compiler selects of programs.")
+    parser.set_defaults(unifdef="./unifdef-tree", count=300)
     args = parser.parse_args()
-    tree = os.path.realpath(args.tree)
+    tree = os.path.realpath(args.unifdef)
     jobs = [(args.seed * 10**6 + i, args.cc, tree) for i in range(args.count)]
     wrong = gone = 0
     with multiprocessing.Pool() as pool:

@@ -20,6 +20,7 @@ import re
 import subprocess
 import sys
 import tempfile
+from collections import Counter
 from pathlib import Path
 
 CONDITIONAL = re.compile(rb"\s*#\s*(if|ifn?def|elif|elifn?def|else|endif)(?![A-Za-z0-9_])")
@@ -38,27 +39,25 @@ NOT_CHOSEN = re.compile(
 WRONG = ("selected in another way", "changed by a second run")
 
 
-def is_comment(lexeme):
-    return lexeme.startswith((b"/*", b"//"))
-
-
 def logical_lines(text):
     line = []
-    for lexeme in LEXEME.finditer(text):
-        line.append(lexeme.group())
-        if line[-1] == b"\n":
+    for lexeme in LEXEME.findall(text):
+        line.append(lexeme)
+        if lexeme == b"\n":
             yield line
             line = []
-    if line:
-        yield line
+    yield from [line] if line else []
 
 
 def code_of(line):
     """Returns a logical line without its splices, and with a space in place of each comment."""
-    return b"".join(
-        b" " if is_comment(p) else b"" if p.startswith(b"\\") and p.endswith(b"\n") else p
-        for p in line
-    )
+    code = [b" " if it.startswith((b"/*", b"//")) else it for it in line]
+    return b"".join(it for it in code if not re.match(rb"\\\r?\n", it))
+
+
+def bare(line):
+    """Returns the comments, the splices and the newline of a logical line."""
+    return [it for it in line if it.startswith((b"/*", b"//")) or it.endswith(b"\n")]
 
 
 def neutral(text, word=b"line_%d "):
@@ -72,9 +71,7 @@ def neutral(text, word=b"line_%d "):
         if CONDITIONAL.match(code):
             conditions.append(code)
         else:
-            kept = [p for p in line if is_comment(p) or p.endswith(b"\n")]
-            if code.strip():
-                kept.insert(0, word % number)
+            kept = [word % number, *bare(line)] if code.strip() else bare(line)
         out += kept
         number += sum(p.count(b"\n") for p in kept)
     return b"".join(out), conditions
@@ -101,8 +98,9 @@ def chosen(conditions, rng):
     return options, arguments
 
 
-def selected(cc, arguments, text):
-    command = [cc, "-E", "-P", "-undef", "-nostdinc", "-w", "-x", "c", *arguments, "-"]
+def selected(cc, arguments, text=b"", path="-"):
+    """Returns the words that the compiler selects of a text or a file; None if it rejects it."""
+    command = [cc, "-E", "-P", "-undef", "-nostdinc", "-w", "-x", "c", *arguments, path]
     run = subprocess.run(command, input=text, capture_output=True)
     return run.stdout.split() if run.returncode == 0 else None
 
@@ -147,29 +145,23 @@ def compare(job):
     return f"{how} and edited" if edited else how, path, ""
 
 
-def files(paths):
-    for path in paths:
-        if not os.path.isdir(path):
-            yield path
-        for directory, _, names in os.walk(path):
-            found = [it for it in sorted(names) if it.endswith((".c", ".h"))]
-            yield from (os.path.join(directory, it) for it in found)
-
-
 def parser_of(description):
     """The options of a comparison over files."""
     parser = argparse.ArgumentParser(description=description)
     parser.add_argument("--cc", default=os.environ.get("CC", "cc"))
     parser.add_argument("--unifdef", default="./unifdef")
     parser.add_argument("--seed", type=int, default=1)
-    parser.add_argument("--count", type=int, default=0, help="that many files at random; 0 for all")
+    parser.add_argument("--count", type=int, default=0, help="that many at random; 0 for all files")
     parser.add_argument("paths", nargs="*", default=["/usr/include"])
     return parser
 
 
 def jobs_of(args):
     """What is compared: each file with the seed, the compiler and the program."""
-    found = [p for p in files(args.paths) if os.path.isfile(p)]
+    found = [p for p in args.paths if os.path.isfile(p)]
+    for directory, _, names in (it for path in args.paths for it in os.walk(path)):
+        every = [os.path.join(directory, it) for it in sorted(names) if it.endswith((".c", ".h"))]
+        found += filter(os.path.isfile, every)
     if args.count and args.count < len(found):
         found = random.Random(args.seed).sample(found, args.count)
     return [(p, args.seed, args.cc, args.unifdef) for p in found]
@@ -180,10 +172,10 @@ def main():
     parser.add_argument("--prune", help="a unifdef-tree, whose -p is tried too")
     args = parser.parse_args()
     jobs = [(*it, args.prune) for it in jobs_of(args)]
-    counts = {}
+    counts = Counter()
     with multiprocessing.Pool() as pool:
         for how, path, options in pool.imap_unordered(compare, jobs, chunksize=16):
-            counts[how] = counts.get(how, 0) + 1
+            counts[how] += 1
             if how in WRONG:
                 print(f"{path}: {how}, seed {args.seed}: {options}", flush=True)
     print(f"{len(jobs)} files: " + ", ".join(f"{n} {how}" for how, n in sorted(counts.items())))
