@@ -137,7 +137,9 @@ def compare(job):
     if selected(cc, arguments, run.stdout) != before:
         return "selected in another way", path, shown(options)
     how = "changed" if run.returncode else "left as they are"
-    out, edited, settled = pruned(tree, options, source) if tree else (source, 0, True)
+    # Without a symbol and -k, unifdef-tree refuses to run.
+    is_pruned = tree and set(options) - {"-K"}
+    out, edited, settled = pruned(tree, options, source) if is_pruned else (source, 0, True)
     if not settled:
         return "changed by a second run", path, shown(options)
     if edited and selected(cc, arguments, out) != before:
