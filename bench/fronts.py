@@ -25,33 +25,24 @@ CONDITION = re.compile(rb"^[ \t]*#[ \t]*(?:if|ifdef|ifndef|elif|elifdef|elifndef
 NAME = re.compile(rb"[A-Za-z_][A-Za-z_0-9]*")
 
 
-def files_of(tree):
-    """Returns the files of a tree, each once, in order."""
-    return [it for it in sorted(Path(tree).rglob("*")) if it.is_file() and not it.is_symlink()]
-
-
 def part_of(dice, text):
     """Returns the text, a prefix of it, or a part from its middle."""
     kind = dice.randrange(8)
     if kind == 0 or not text:
         return text
     end = dice.randrange(len(text) + 1)
-    begin = 0 if kind < 6 else dice.randrange(end + 1)
-    return text[begin:end]
+    return text[0 if kind < 6 else dice.randrange(end + 1) : end]
 
 
 def arguments_for(dice, text):
     """Returns some flags, and options for some names of the text's conditions."""
-    names = sorted(
-        {name for line in CONDITION.findall(text) for name in NAME.findall(line)} - {b"defined"}
-    )
+    names = sorted(set(NAME.findall(b" ".join(CONDITION.findall(text)))) - {b"defined"})
     arguments = dice.sample(FLAGS, dice.choice([0, 0, 0, 1, 1, 2]))
     for name in dice.sample(names, min(len(names), dice.choice([0, 1, 2, 4, 8]))):
-        ignoring = "i" if dice.randrange(8) == 0 else ""
-        if dice.randrange(2):
-            arguments.append(f"-{ignoring}U{name.decode()}")
-        else:
-            arguments.append(f"-{ignoring}D{name.decode()}{dice.choice(VALUES)}")
+        option = "-i" if dice.randrange(8) == 0 else "-"
+        undefined = dice.randrange(2)
+        option += f"U{name.decode()}" if undefined else f"D{name.decode()}{dice.choice(VALUES)}"
+        arguments.append(option)
     dice.shuffle(arguments)
     return arguments
 
@@ -73,8 +64,7 @@ def outcome(program, arguments, text, prepare):
 def check(program, reference, path, seed):
     """Returns None if the answers to a case agree, else its arguments, text and both answers."""
     dice = random.Random(seed)
-    with open(path, "rb") as file:
-        text = part_of(dice, file.read())
+    text = part_of(dice, path.read_bytes())
     arguments = arguments_for(dice, text)
     ours = outcome(program, arguments, text, small_stack)
     theirs = outcome(reference, ["reference", *arguments], text, None)
@@ -86,7 +76,7 @@ def check(program, reference, path, seed):
 def main():
     program, reference, tree = sys.argv[1:4]
     cases, seed = map(int, sys.argv[4:6])
-    paths = files_of(tree)
+    paths = [it for it in sorted(Path(tree).rglob("*")) if it.is_file() and not it.is_symlink()]
     if not paths:
         sys.exit(f"fronts: no file below {tree}")
     todo = [(paths[at % len(paths)], at) for at in range(seed, seed + cases)]
