@@ -22,6 +22,9 @@ override RT := $(if $(findstring /,$(RT)),$(shell realpath -ms -- '$(RT)'),$(RT)
 # The processor of `make native`, which is no other's.
 CPU = x86-64-v3
 
+# Python leaves nothing next to its files.
+export PYTHONDONTWRITEBYTECODE = 1
+
 # Recipes name make by MAKE_COMMAND: make -n runs each line that names it by MAKE.
 TRIED = RT='$(RT)' MAKE='$(MAKE_COMMAND)'
 

@@ -18,8 +18,6 @@ import tempfile
 from pathlib import Path
 from typing import Iterator, Optional
 
-sys.dont_write_bytecode = True
-
 from cases import TOP, Answer, Case, CaseError, as_literal, cases_in, check, unescaped
 
 EXAMPLE = re.compile(

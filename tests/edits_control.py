@@ -12,8 +12,6 @@ import os
 import sys
 import tempfile
 
-sys.dont_write_bytecode = True
-
 sys.path.insert(0, f"{os.path.dirname(os.path.dirname(os.path.realpath(__file__)))}/tools")
 from edits import BAD, OPEN, PROVED, REFUSED, edits_of, run
 

@@ -30,8 +30,6 @@ import sys
 import tempfile
 from pathlib import Path
 
-sys.dont_write_bytecode = True
-
 from cases import unescaped
 
 TOP = Path(__file__).resolve().parent.parent

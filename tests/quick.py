@@ -16,19 +16,16 @@ import concurrent.futures
 import glob
 import os
 import re
-import signal
 import sys
 import tempfile
 import time
 from pathlib import Path
 
-sys.dont_write_bytecode = True
-
 HERE = os.path.dirname(os.path.dirname(os.path.realpath(__file__)))
 sys.path[:0] = [f"{HERE}/tools", f"{HERE}/tests"]
 
 import cases  # noqa: E402
-from prove import RT, Commands, say  # noqa: E402
+from prove import RT, Commands, end_by_signals, say  # noqa: E402
 
 MAKE = os.environ.get("MAKE", "make")
 UNPROVED = "crates/unifdef_cli/out/unproved"
@@ -155,8 +152,7 @@ def main():
     todo = [it for it in todo if not names or it.name in names]
     count = sum(bool(case.streams) == (it.name == RUNNER) for it in todo for case in it.cases)
     say("test", f"{len(todo)} tasks, with {count} cases")
-    for number in (signal.SIGHUP, signal.SIGINT, signal.SIGTERM):
-        signal.signal(number, lambda number, _: sys.exit(128 + number))
+    end_by_signals()
     with concurrent.futures.ThreadPoolExecutor(PROCESSORS) as pool:
         try:
             passed = [it.result() for it in [pool.submit(it.ends_well) for it in todo]]

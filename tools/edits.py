@@ -35,16 +35,14 @@ import concurrent.futures
 import os
 import re
 import shutil
-import signal
 import subprocess
 import sys
 import tempfile
 import time
 
-sys.dont_write_bytecode = True
-
 from gate import is_of_gate, jobs
-from prove import HERE, RT, Build, Commands, at_or_below, found_repository, libraries, link
+from prove import HERE, RT, Build, Commands, at_or_below, end_by_signals, found_repository
+from prove import libraries, link
 
 REFUSED, OPEN, PROVED, BAD = "refused", "not decided", "PROVED", "BAD EDIT"
 
@@ -467,6 +465,5 @@ def main():
 
 
 if __name__ == "__main__":
-    for number in (signal.SIGHUP, signal.SIGTERM):
-        signal.signal(number, lambda number, _: sys.exit(128 + number))
+    end_by_signals()
     sys.exit(main())

@@ -2,9 +2,6 @@
 import os
 import shutil
 import subprocess
-import sys
-
-sys.dont_write_bytecode = True
 
 TOP = os.path.dirname(os.path.dirname(os.path.realpath(__file__)))
 

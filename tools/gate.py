@@ -15,14 +15,11 @@ import glob
 import os
 import re
 import shutil
-import signal
 import subprocess
 import sys
 import tempfile
 
-sys.dont_write_bytecode = True
-
-from prove import HERE, RT, free_memory, libraries, processors, say, take
+from prove import HERE, RT, end_by_signals, free_memory, libraries, processors, say, take
 
 LOG = f"{HERE}/gate.log"
 
@@ -128,6 +125,5 @@ def main():
 
 
 if __name__ == "__main__":
-    for number in (signal.SIGHUP, signal.SIGTERM):
-        signal.signal(number, lambda number, _: sys.exit(128 + number))
+    end_by_signals()
     sys.exit(main())

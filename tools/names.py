@@ -25,8 +25,6 @@ import os
 import re
 import sys
 
-sys.dont_write_bytecode = True
-
 from files import tracked
 
 PAGES = re.compile(r"(README|CONTRIBUTING)\.md|docs/\w+\.md|(bench|tests|crates)/.*README\.md")

@@ -23,8 +23,6 @@ import tempfile
 import threading
 import time
 
-sys.dont_write_bytecode = True
-
 HERE = os.path.dirname(os.path.dirname(os.path.realpath(__file__)))
 # Rattle's command, which is run in other directories.
 RT = os.environ.get("RT", "rt")
@@ -108,6 +106,12 @@ def processors():
     found = len(os.sched_getaffinity(0))
     quota = numbers_in("/sys/fs/cgroup/cpu.max", r"^(\d+) (\d+)")
     return max(min(found, quota[0] // quota[1]), 1) if quota else found
+
+
+def end_by_signals():
+    """Lets a signal end this program by an exception, so that it leaves nothing behind."""
+    for number in (signal.SIGHUP, signal.SIGINT, signal.SIGTERM):
+        signal.signal(number, lambda number, _: sys.exit(128 + number))
 
 
 def link(source, target):
@@ -291,6 +295,5 @@ class Build:
 if __name__ == "__main__":
     if sys.argv[1:2] in (["-h"], ["--help"]):
         sys.exit(__doc__)
-    for number in (signal.SIGHUP, signal.SIGINT, signal.SIGTERM):
-        signal.signal(number, lambda number, _: sys.exit(128 + number))
+    end_by_signals()
     sys.exit(0 if Build(sys.argv[1:] or ["unifdef_cli"]).run() else 1)

@@ -10,8 +10,6 @@ a text in quotes may be wide.
 import re
 import sys
 
-sys.dont_write_bytecode = True
-
 from files import tracked
 
 COLUMNS = 100

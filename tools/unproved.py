@@ -8,15 +8,12 @@ So here the program is run on a text that takes it a while, and is copied meanwh
 """
 import glob
 import os
-import signal
 import subprocess
 import sys
 import tempfile
 import time
 
-sys.dont_write_bytecode = True
-
-from prove import HERE, RT, take
+from prove import HERE, RT, end_by_signals, take
 
 # Lines of a text that takes a program without optimization some seconds.
 LINES = 20_000_000
@@ -67,6 +64,5 @@ if __name__ == "__main__":
         sys.exit(__doc__)
     if not os.path.exists("/proc/self/cmdline"):
         sys.exit("unproved: /proc is not mounted, where the program is found while it runs")
-    for number in (signal.SIGHUP, signal.SIGINT, signal.SIGTERM):
-        signal.signal(number, lambda number, _: sys.exit("unproved: interrupted"))
+    end_by_signals()
     sys.exit(build(sys.argv[1], sys.argv[2]))
