@@ -13,6 +13,7 @@ crates below have become, and what it becomes is moved back.
 
 Says on the error stream what begins, and what has ended after how long.
 """
+import contextlib
 import os
 import re
 import shutil
@@ -22,6 +23,7 @@ import sys
 import tempfile
 import threading
 import time
+from pathlib import Path
 
 HERE = os.path.dirname(os.path.dirname(os.path.realpath(__file__)))
 # Rattle's command, which is run in other directories.
@@ -30,10 +32,8 @@ RT = os.path.abspath(RT) if "/" in RT else RT
 CPU = os.environ.get("UNIFDEF_CPU", "")
 
 # Those with the longest chain above them, which begin first.
-FIRST = [
-    *("ud_model", "ud_cond", "ud_faults", "ud_text", "ud_sections", "ud_args", "ud_simplified"),
-    *("ud_io", "ud_passes", "ud_engine", "ud_replace", "ud_diff", "unifdef", "ud_tree"),
-]
+FIRST = """ud_model ud_cond ud_faults ud_text ud_sections ud_args ud_simplified
+ud_io ud_passes ud_engine ud_replace ud_diff unifdef ud_tree""".split()
 
 # Among how many processors a check is split, if it is one of the longest of the chain. A split
 # check takes half as much time of a processor again.
@@ -43,7 +43,6 @@ SPLIT = {"ud_cond": 2, "ud_engine": 4}
 # is split among all processors.
 FREE = 6_000_000_000
 FREE_FOR_ALL = 10_000_000_000
-
 
 BEGIN = time.monotonic()
 
@@ -56,13 +55,9 @@ def say(name, text):
 
 def libraries():
     """Returns each crate of crates.txt with the crates of this repository that it uses."""
-    named = {}
-    with open(f"{HERE}/crates.txt", encoding="utf-8") as lines:
-        for line in lines:
-            found = re.match(r"(\w+)[^:]*:(.*)", line.partition("#")[0])
-            if found:
-                named[found[1]] = found[2].split()
-    return {crate: [it for it in used if it in named] for crate, used in named.items()}
+    with open(f"{HERE}/crates.txt", encoding="utf-8") as it:
+        named = dict(re.findall(r"^(\w+)[^:\n#]*:([^\n#]*)", it.read(), re.MULTILINE))
+    return {crate: [it for it in used.split() if it in named] for crate, used in named.items()}
 
 
 def at_or_below(crate, used):
@@ -71,15 +66,6 @@ def at_or_below(crate, used):
     for it in used[crate]:
         found += [below for below in at_or_below(it, used) if below not in found]
     return [*found, crate]
-
-
-def words_of(directory):
-    """Returns the arguments of a program's stored run."""
-    try:
-        with open(f"{directory}/args", encoding="utf-8") as lines:
-            return lines.read().splitlines()
-    except FileNotFoundError:
-        return []
 
 
 def numbers_in(path, pattern=r"(\d+)"):
@@ -157,9 +143,20 @@ class Commands:
         """Ends all that run, and what they started."""
         with self.lock:
             self.is_stopped = True
-            for it in self.running:
-                if it.poll() is None:
-                    os.killpg(it.pid, signal.SIGTERM)
+            left = [it for it in self.running if it.poll() is None]
+            for number, seconds in ((signal.SIGTERM, 10), (signal.SIGKILL, None)):
+                for it in left:
+                    with contextlib.suppress(ProcessLookupError):
+                        os.killpg(it.pid, number)
+                left = [it for it in left if not has_ended(it, seconds)]
+
+
+def has_ended(process, seconds):
+    """Waits for the end of a process, for some seconds at most."""
+    try:
+        return process.wait(seconds) is not None
+    except subprocess.TimeoutExpired:
+        return False
 
 
 class Room:
@@ -172,8 +169,8 @@ class Room:
         found_repository(HERE, self.top, (*below, crate))
         for it in (*below, crate):
             source, target = f"{HERE}/crates/{it}", f"{self.top}/crates/{it}"
-            ignore = shutil.ignore_patterns("out")
-            shutil.copytree(source, target, ignore=ignore, copy_function=link)
+            without = {"ignore": shutil.ignore_patterns("out"), "copy_function": link}
+            shutil.copytree(source, target, **without)
             if it != crate:
                 shutil.copytree(f"{source}/out/rlib", f"{target}/out/rlib", copy_function=link)
         self.move_out(HERE, self.top)
@@ -194,33 +191,18 @@ class Room:
 class Run:
     """The check of one crate, from its start to its end."""
 
-    def __init__(self, crate, below, jobs):
+    def __init__(self, crate, below, jobs, commands):
         self.crate, self.jobs, self.begin = crate, jobs, time.monotonic()
         self.log = tempfile.TemporaryFile()
         self.room = Room(crate, below)
-        directory = self.room.directory
-        # `rt run` proves and builds before it runs. The words of the stored run give status 0.
-        is_program = os.path.exists(f"{directory}/src/main.rt")
-        split, cpu = ["--jobs", str(jobs)], ["--cpu", CPU] if CPU else []
-        program = ["run", *split, *cpu, "--", *words_of(directory)]
-        verb = program if is_program else ["lib", *split]
+        directory = Path(self.room.directory)
+        words, stored = ["lib", "--jobs", str(jobs)], directory / "args"
+        if (directory / "src/main.rt").exists():
+            # `rt run` proves and builds before it runs. The words of the stored run give status 0.
+            words = ["run", *words[1:], *(["--cpu", CPU] if CPU else []), "--"]
+            words += stored.read_text(encoding="utf-8").splitlines() if stored.exists() else []
         how = {"stdin": subprocess.DEVNULL, "stdout": self.log, "stderr": self.log}
-        self.process = subprocess.Popen([RT, *verb], cwd=directory, start_new_session=True, **how)
-
-    def spent(self):
-        return time.monotonic() - self.begin
-
-    def stop(self):
-        """Ends the check and all that it started."""
-        try:
-            os.killpg(self.process.pid, signal.SIGTERM)
-            self.process.wait(timeout=10)
-        except subprocess.TimeoutExpired:
-            os.killpg(self.process.pid, signal.SIGKILL)
-            self.process.wait()
-        except ProcessLookupError:
-            pass
-        self.room.leave()
+        self.process = commands.start([RT, *words], cwd=directory, **how)
 
 
 class Build:
@@ -234,6 +216,7 @@ class Build:
             self.left += [it for it in at_or_below(crate, self.used) if it not in self.left]
         self.left.sort(key=lambda it: FIRST.index(it) if it in FIRST else len(FIRST))
         self.running, self.done, self.processors = [], set(), processors()
+        self.commands = Commands()
 
     def ready(self):
         """Returns the crates that can start, in their order."""
@@ -245,8 +228,8 @@ class Build:
             if self.running and (self.busy() >= self.processors or free_memory() < FREE):
                 return
             self.left.remove(crate)
-            jobs = self.jobs_of(crate)
-            self.running.append(Run(crate, at_or_below(crate, self.used)[:-1], jobs))
+            below, jobs = at_or_below(crate, self.used)[:-1], self.jobs_of(crate)
+            self.running.append(Run(crate, below, jobs, self.commands))
             say("prove", f"{crate} begins")
 
     def busy(self):
@@ -274,7 +257,7 @@ class Build:
         else:
             self.done.add(run.crate)
         how = f"failed with status {status}" if status else "is proved"
-        say("prove", f"{run.crate} {how} after {run.spent():.0f} s")
+        say("prove", f"{run.crate} {how} after {time.monotonic() - run.begin:.0f} s")
         return not status
 
     def run(self):
@@ -288,8 +271,9 @@ class Build:
                         return False
             return True
         finally:
+            self.commands.stop()
             for it in self.running:
-                it.stop()
+                it.room.leave()
 
 
 if __name__ == "__main__":
