@@ -300,8 +300,8 @@ pictures: unifdef
 
 #= To measure it
 
-## measures speed (bench/README.md): the next four
-bench: bench-text bench-library bench-conditions bench-directories
+## measures speed (bench/README.md): the next three
+bench: bench-text bench-library bench-directories
 
 ## measures ./unifdef beside the released program
 bench-text: unifdef
@@ -310,11 +310,6 @@ bench-text: unifdef
 ## measures the library beside ./unifdef
 bench-library: unifdef lib
 	python3 bench/library.py ./unifdef lib/libunifdef.so
-
-## measures how fast conditions are decided
-bench-conditions: kit
-	cd crates/bench_conditions && $(RT) run -- conditions 1 < /dev/null > /dev/null
-	bench/conditions.sh
 
 ## measures ./unifdef-tree over copies of the headers
 bench-directories: unifdef-tree

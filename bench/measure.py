@@ -1,14 +1,10 @@
-"""Runs a filter on a file, and prints its best processor time in seconds, user and system together.
-
-measure.py RUNS INPUT COMMAND..: the output goes to /dev/null, and each run must end with status 0.
-"""
+"""Runs a program, and says what it took: for compare.py and library.py."""
 
 import fcntl
 import os
 import re
 import shutil
 import subprocess
-import sys
 import termios
 from pathlib import Path
 
@@ -47,10 +43,3 @@ def counted(command, text):
     valgrind = ["valgrind", "--tool=callgrind", "--callgrind-out-file=/dev/null"]
     ended = subprocess.run([*valgrind, *command], input=text, capture_output=True)
     return int(re.search(rb"Collected : (\d+)", ended.stderr).group(1))
-
-
-if __name__ == "__main__":
-    outcomes = [finished(sys.argv[3:], sys.argv[2], os.devnull) for _ in range(int(sys.argv[1]))]
-    if any(status for status, _ in outcomes):
-        sys.exit(f"measure: {sys.argv[3]} failed")
-    print(f"{min(seconds for _, seconds in outcomes):.4f}")

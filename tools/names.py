@@ -41,7 +41,7 @@ COMMENTED = re.compile(r"^\s*(?://|--).*?\b(\w+(?:/\w+)+\.(?:antt|rt|md|sh|py))\
 # names of Debian and Linux.
 EXCEPTED = {
     *("intmax_t", "uintmax_t", "\\xHH", "a.c", "in.c", "third_party", "include/uapi"),
-    *("lib/libunifdef.a", "lib/libunifdef.so", "libunifdef.so.1", "conditions/s", "MB/s"),
+    *("lib/libunifdef.a", "lib/libunifdef.so", "libunifdef.so.1", "MB/s"),
     *("NAME.antt", "NAME.case", "vVERSION", "step_counts_no_line"),
     *("linux-source-6.1", "make headers", "make headers_install"),
 }
