@@ -25,7 +25,6 @@ GONE = ' class="gone" text-decoration="line-through"'
 
 
 def printed(*words):
-    """Returns the lines that ./unifdef prints."""
     command = [f"{TOP}/unifdef", *words]
     return subprocess.run(command, stdout=subprocess.PIPE, text=True).stdout.splitlines()
 
@@ -40,7 +39,6 @@ def line(left, row, words, more="", shade="", width=0):
 
 
 def drawing(name, options):
-    """Yields the lines of the picture."""
     with open(name, encoding="utf-8") as file:
         before = file.read().splitlines()
     # Under -b each line is still in its position.

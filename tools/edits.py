@@ -32,6 +32,7 @@ of a crate have one name.
 import argparse
 import collections
 import concurrent.futures
+import glob
 import os
 import re
 import shutil
@@ -40,9 +41,10 @@ import sys
 import tempfile
 import time
 
+from files import text_of
 from gate import is_of_gate, jobs
-from prove import HERE, RT, Build, Commands, at_or_below, end_by_signals, found_repository
-from prove import libraries, link
+from prove import CAUGHT, HERE, RT, Build, Commands, at_or_below, end_by_signals
+from prove import found_repository, libraries, link
 
 REFUSED, OPEN, PROVED, BAD = "refused", "not decided", "PROVED", "BAD EDIT"
 
@@ -65,6 +67,9 @@ ERROR = re.compile(r"(?:note: )?(?:\./)?\S+:\d+:\d+: error")
 IN_ANSWER = re.compile(r"(?:\./)?(proofs/\S+/Answers\.antt):(\d+):\d+: error: ")
 BEGINS_ANSWER = re.compile(r"(?:pub )?\S+ : ")
 FALSE = re.compile(r"the facts known there allow values at which this goal is false")
+
+# The root of a crate, as the module of a file.
+ROOT = re.compile(r"(^|/)lib$")
 
 # What a check says of a function that isn't proved.
 UNPROVED = re.compile(r"fn \S+: (?:not proved|no proof)")
@@ -105,14 +110,6 @@ def owns(function, line):
     return above < line < function.last
 
 
-def text_of(file):
-    """Returns the text of a file, which is empty if there is no file."""
-    if not os.path.isfile(file):
-        return ""
-    with open(file, encoding="utf-8") as it:
-        return it.read()
-
-
 class Edit:
     """An edit: pairs of an old and a new text, each with its file."""
 
@@ -120,13 +117,13 @@ class Edit:
         self.name, self.pairs = os.path.basename(file)[: -len(".edit")], []
         self.is_of_gate = is_of_gate(file)
         path = old = None
-        for line in text_of(file).split("\n"):
-            if line.startswith("file: "):
-                path = line[len("file: ") :].strip()
-            elif line.startswith("old: "):
-                old = line[len("old: ") :]
-            elif line.startswith("new:"):
-                self.pairs.append((path, old, line[len("new:") :].removeprefix(" ")))
+        for key, text in re.findall("^(file|old|new): ?(.*)", text_of(file), re.MULTILINE):
+            if key == "file":
+                path = text.strip()
+            elif key == "old":
+                old = text
+            else:
+                self.pairs.append((path, old, text))
 
     def apply(self, texts, read):
         """Returns the texts with this edit, and the functions that it changes: none if something
@@ -156,9 +153,7 @@ COMMANDS = Commands()
 
 
 def run_check(directory):
-    """Returns the status of a check, and what it prints."""
-    how = {"cwd": directory, "errors": "replace", "stdin": subprocess.DEVNULL}
-    how |= {"stdout": subprocess.PIPE, "stderr": subprocess.STDOUT}
+    how = {"cwd": directory, "stdin": subprocess.DEVNULL, **CAUGHT}
     check = COMMANDS.start([RT, "check", "--jobs", "1"], **how)
     said, _ = check.communicate()
     if COMMANDS.is_stopped:
@@ -188,25 +183,15 @@ class Room:
             shutil.copytree(f"{top}/crates/{it}", f"{place}/crates/{it}", **how)
         shutil.copytree(f"{top}/crates/{crate}", self.directory, copy_function=link_kept)
 
-    def sources(self):
-        """Yields the paths of the crate's files of code."""
-        for at, _, names in sorted(os.walk(f"{self.directory}/src")):
-            for it in sorted(names):
-                if it.endswith(".rt"):
-                    yield os.path.relpath(f"{at}/{it}", self.directory)
-
     def read(self, path):
-        """Returns the text of a file, which is empty if there is no file."""
-        return text_of(f"{self.directory}/{path}")
+        return text_of(f"{self.directory}/{path}", "")
 
     def write(self, texts):
-        """Writes texts by path."""
         for path, text in texts.items():
             with open(f"{self.directory}/{path}", "w", encoding="utf-8") as it:
                 it.write(text)
 
     def check(self, texts):
-        """Returns the status of a check with these texts, and the lines that it prints."""
         own = {path: self.read(path) for path in texts}
         edited = any(path.startswith("../") for path in texts)
         self.write(texts)
@@ -242,7 +227,8 @@ class Batch:
         """Returns the failed goals of each edit's own functions. There are none if anything else
         fails too."""
         every, found = [], {}
-        for path in room.sources():
+        for it in glob.glob(f"{room.directory}/src/**/*.rt", recursive=True):
+            path = os.path.relpath(it, room.directory)
             every += functions_of(path, self.texts.get(path) or room.read(path))
         for line in said:
             places = owners_of(line, every)
@@ -263,18 +249,14 @@ def owners_of(line, every):
         number = int(at[2])
         owners = [it for it in every if it.path == at[1] and it.first <= number <= it.last][-1:]
     elif answer:
-        # MODULE/TYPE/NAME or MODULE/NAME. The module is the type's, if it has another one.
+        # MODULE/TYPE/NAME or MODULE/NAME. The module is the type's, if it has another one, and none
+        # for the root of the crate.
         named = [it for it in every if it.name == answer[1].split("/")[-1]]
-        owners = [it for it in named if answer[1].startswith(module_of(it))]
+        owners = [it for it in named if answer[1].startswith(re.sub(ROOT, "", it.path[4:-3]))]
         owners = owners or (named if len(named) == 1 else [])
     elif not ERROR.match(line):
         return None
     return {(it.path, it.name) for it in owners}
-
-
-def module_of(function):
-    """Returns the module of a function as a path. It is empty for the root of the crate."""
-    return re.sub(r"(^|/)lib$", "", function.path[len("src/") : -len(".rt")])
 
 
 def batches_of(edits, read, alone):
@@ -383,7 +365,7 @@ def edits_of(top, crate, directories):
         for edit in [Edit(f"{at}/{directory}/{it}") for it in files]:
             if edit.name in names:
                 bad.append(f"{BAD} {crate}/{edit.name}: another edit has this name")
-            elif not edit.apply({}, lambda path: text_of(f"{at}/{path}")):
+            elif not edit.apply({}, lambda path: text_of(f"{at}/{path}", "")):
                 bad.append(f"{BAD} {crate}/{edit.name}: an old text isn't there exactly once")
             else:
                 good.append(edit)
@@ -400,8 +382,8 @@ def say(*lines):
 def run(top, crate, below, directories, alone):
     """Tries the edits of a crate that is proved, and returns their names by verdict."""
     found, begin = {REFUSED: [], OPEN: [], PROVED: [], BAD: []}, time.monotonic()
-    edits, bad = edits_of(top, crate, directories)
-    edits = [it for it in edits if not it.is_of_gate]
+    every, bad = edits_of(top, crate, directories)
+    edits = [it for it in every if not it.is_of_gate]
     with tempfile.TemporaryDirectory(prefix=".edits-", dir=top) as place:
         room = Room(place, top, crate, below, {name for it in edits for name in it.below()})
         for name, verdict, reason in try_edits(room, edits, alone):
@@ -418,13 +400,13 @@ def run(top, crate, below, directories, alone):
 def run_all(crates, used, directories, alone):
     """Tries the edits of crates side by side, and returns how many there are of each verdict."""
     order = sorted(crates, key=lambda it: -len(edits_of(HERE, it, directories)[0]))
-    count = dict.fromkeys((REFUSED, OPEN, PROVED, BAD), 0)
+    count = collections.Counter()
     with concurrent.futures.ThreadPoolExecutor(jobs()) as pool:
         try:
             below = {it: at_or_below(it, used)[:-1] for it in order}
             runs = [pool.submit(run, HERE, it, below[it], directories, alone) for it in order]
             for it in concurrent.futures.as_completed(runs):
-                count = {verdict: count[verdict] + len(it.result()[verdict]) for verdict in count}
+                count.update({verdict: len(names) for verdict, names in it.result().items()})
         except BaseException:
             pool.shutdown(wait=False, cancel_futures=True)
             COMMANDS.stop()
@@ -436,15 +418,14 @@ def read_all(used):
     """Reads the edits of all crates. Returns 1 if some can't be tried."""
     edits = [edits_of(HERE, crate, DIRECTORIES) for crate in used]
     bad = [it for _, messages in edits for it in messages]
-    print(*bad, sep="\n", end="\n" if bad else "")
+    say(*bad)
     print(f"edits: {sum(len(good) for good, _ in edits)} can be tried, {len(bad)} can't")
     return 1 if bad else 0
 
 
 def main():
-    how = argparse.RawDescriptionHelpFormatter
-    hidden = argparse.SUPPRESS
-    parser = argparse.ArgumentParser(description=__doc__, usage=hidden, formatter_class=how)
+    how = {"usage": argparse.SUPPRESS, "formatter_class": argparse.RawDescriptionHelpFormatter}
+    parser = argparse.ArgumentParser(description=__doc__, **how)
     parser.add_argument("crates", nargs="*")
     for flag in ("--all", "--alone", "--read"):
         parser.add_argument(flag, action="store_true")

@@ -1,4 +1,4 @@
-"""Which files belong to this repository, with git and without: for style.py and names.py."""
+"""Which files belong to this repository, with git and without, and what is in them."""
 import os
 import shutil
 import subprocess
@@ -9,14 +9,20 @@ TOP = os.path.dirname(os.path.dirname(os.path.realpath(__file__)))
 OTHERS = (".git", "out", "__pycache__", "build", "release")
 
 
+def text_of(path, otherwise=None):
+    """Returns the text of a file. If there is none, returns `otherwise`, if that is given."""
+    if otherwise is not None and not os.path.isfile(path):
+        return otherwise
+    with open(path, encoding="utf-8", errors="replace") as it:
+        return it.read()
+
+
 def tracked():
     """Returns the files that git tracks, without those that were removed. Without git, as in a
     tarball: all files."""
     if os.path.exists(f"{TOP}/.git") and shutil.which("git"):
-        listed = subprocess.run(
-            ["git", "ls-files"], cwd=TOP, check=True, capture_output=True, text=True
-        )
-        return [it for it in listed.stdout.split() if os.path.exists(f"{TOP}/{it}")]
+        listed = subprocess.check_output(["git", "ls-files"], cwd=TOP, text=True).split()
+        return [it for it in listed if os.path.exists(f"{TOP}/{it}")]
     found = []
     for directory, below, names in os.walk(TOP):
         below[:] = [it for it in below if it not in OTHERS and not it.startswith(".prove-")]

@@ -19,7 +19,8 @@ import subprocess
 import sys
 import tempfile
 
-from prove import HERE, RT, end_by_signals, free_memory, libraries, processors, say, take
+from files import text_of
+from prove import CAUGHT, HERE, RT, end_by_signals, free_memory, libraries, processors, say, take
 
 LOG = f"{HERE}/gate.log"
 
@@ -34,17 +35,10 @@ def is_of_gate(file):
     """Returns whether the gate tries the edit in this file: one of a definition of ud_model, which
     is checked alone in any case, or one of a crate of laws itself, since `rt ci` edits one crate
     alone."""
-    with open(file, encoding="utf-8") as it:
-        first = it.readline()
+    text = text_of(file)
     if "_laws/must-fail/" in file:
-        return not first.startswith("file: ../")
-    return "/ud_model/must-fail/" in file and first.startswith("file: specs/")
-
-
-def edits_of_gate(crate):
-    """Returns the files of the edits of a crate that the gate tries."""
-    found = glob.glob(f"{HERE}/crates/{crate}/must-fail/*.edit")
-    return [it for it in found if is_of_gate(it)]
+        return not text.startswith("file: ../")
+    return "/ud_model/must-fail/" in file and text.startswith("file: specs/")
 
 
 def copy_crates(top):
@@ -56,13 +50,12 @@ def copy_crates(top):
     for crate in libraries():
         ignore = shutil.ignore_patterns("out", "must-fail", "must-fail-second")
         shutil.copytree(f"{HERE}/crates/{crate}", f"{top}/crates/{crate}", ignore=ignore)
-        for it in edits_of_gate(crate):
+        for it in filter(is_of_gate, glob.glob(f"{HERE}/crates/{crate}/must-fail/*.edit")):
             os.makedirs(f"{top}/crates/{crate}/must-fail", exist_ok=True)
             shutil.copy2(it, f"{top}/crates/{crate}/must-fail")
 
 
 def take_programs(top, status):
-    """Copies the programs that the gate built in a directory."""
     for crate in libraries():
         made = f"{top}/crates/{crate}/out/{crate}"
         if os.path.exists(made):
@@ -93,7 +86,6 @@ def show(lines):
 
 
 def jobs():
-    """Returns how many checks run side by side: one a processor, as far as there is memory."""
     given = os.environ.get("RT_JOBS", "")
     if given.isdigit() and int(given) > 0:
         return int(given)
@@ -101,10 +93,8 @@ def jobs():
 
 
 def run(top, lanes):
-    """Runs `rt ci` in a directory, and returns its status."""
     say("gate", f"{lanes} checks side by side; all lines go to gate.log")
-    how = {"cwd": top, "env": {**os.environ, "RT_JOBS": str(lanes)}, "errors": "replace"}
-    how |= {"stdout": subprocess.PIPE, "stderr": subprocess.STDOUT}
+    how = {"cwd": top, "env": {**os.environ, "RT_JOBS": str(lanes)}, **CAUGHT}
     with subprocess.Popen([RT, "ci"], **how) as ci:
         try:
             show(ci.stdout)

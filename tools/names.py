@@ -25,7 +25,7 @@ import os
 import re
 import sys
 
-from files import tracked
+from files import text_of, tracked
 
 PAGES = re.compile(r"(README|CONTRIBUTING)\.md|docs/\w+\.md|(bench|tests|crates)/.*README\.md")
 SOURCE = re.compile(r"(crates|bench|lib|tests|tools|packaging)/.*|Makefile|crates\.txt")
@@ -47,18 +47,8 @@ EXCEPTED = {
 }
 
 
-def is_checked(word, alone):
-    """Returns whether a word of a citation has to exist; `alone` if it is all of the citation."""
-    if word.startswith("__"):
-        return False  # A name that C reserves.
-    if "_" in word.strip("_") or re.search(r"[a-z]\w*[A-Z]", word):
-        return True
-    return alone and re.fullmatch(r"[A-Z]\w*[a-z]\w*", word) is not None
-
-
 def without_comments(path, text):
-    """Returns the text of a source without its lines of comment."""
-    mark = {"rt": "//", "antt": "--"}.get(path.rsplit(".", 1)[-1], "#")
+    mark = {"rt": "//", "antt": "--"}.get(path.rpartition(".")[2], "#")
     return "\n".join(line for line in text.split("\n") if not line.lstrip().startswith(mark))
 
 
@@ -75,19 +65,16 @@ class Tree:
         for path in filter(SOURCE.fullmatch, self.files):
             if path in ("tools/names.py", "tools/style.py") or path.endswith((".md", ".svg")):
                 continue
-            with open(path, encoding="utf-8", errors="replace") as file:
-                whole = file.read()
+            whole = text_of(path)
             if path.endswith((".rt", ".antt")):
                 self.labels.update(LABEL.findall(whole))
                 self.commented += [(path, cited) for cited in COMMENTED.findall(whole)]
             self.words_of[path] = set(WORD.findall(without_comments(path, whole)))
         self.words = EXCEPTED.union(*self.words_of.values())
         self.words.update(end.split(".")[0] for end in self.ends if "/" not in end)
-        with open("Makefile", encoding="utf-8") as file:
-            self.targets = set(re.findall(r"^([\w-]+):", file.read(), re.MULTILINE))
+        self.targets = set(re.findall(r"^([\w-]+):", text_of("Makefile"), re.MULTILINE))
 
     def missing(self, cited):
-        """Yields the names in a citation that don't exist."""
         if cited in EXCEPTED or re.match(r"[-#$/\"'~.]", cited):
             return  # An option, C text, a shell's variable, a directory of the machine, an ending.
         if PATH.fullmatch(cited) and ("/" in cited or ENDING.search(cited)):
@@ -103,7 +90,10 @@ class Tree:
             if not any(wanted <= it for path, it in self.words_of.items() if path.endswith(ending)):
                 yield first + mark + second
         for word in WORD.findall(cited):
-            if is_checked(word, word == cited) and word not in self.words:
+            is_name = "_" in word.strip("_") or re.search(r"[a-z]\w*[A-Z]", word)
+            is_name = is_name or (word == cited and re.fullmatch(r"[A-Z]\w*[a-z]\w*", word))
+            # C reserves names that begin with two of them.
+            if is_name and not word.startswith("__") and word not in self.words:
                 yield word
 
 
@@ -126,10 +116,7 @@ def clauses(text):
 
 
 def headings(page):
-    """Returns the anchors of a page's headings."""
-    with open(page, encoding="utf-8") as file:
-        text = BLOCK.sub("", file.read())
-    titles = re.findall(r"^#+ (.*)$", text, re.MULTILINE)
+    titles = re.findall(r"^#+ (.*)$", BLOCK.sub("", text_of(page)), re.MULTILINE)
     return {re.sub(r"[^\w -]", "", title.lower()).replace(" ", "-") for title in titles}
 
 
@@ -145,10 +132,8 @@ def dead_links(page, text):
 
 
 def problems(tree, pages):
-    """Yields a message for each name in a page that doesn't exist."""
     for page in pages:
-        with open(page, encoding="utf-8") as file:
-            text = file.read()
+        text = text_of(page)
         for line, cited in citations(text):
             yield from (f"{page}:{line}: {name} doesn't exist" for name in tree.missing(cited))
         yield from (f"{page}:{line}: {link} leads nowhere" for line, link in dead_links(page, text))
@@ -159,11 +144,9 @@ def problems(tree, pages):
 
 def unlisted_messages(tree):
     """Yields each part of a message of the program that the manual doesn't have."""
-    with open("docs/unifdef.1", encoding="utf-8") as file:
-        listed = file.read().partition("\n.Sh DIAGNOSTICS\n")[2].partition("\n.Sh ")[0]
+    listed = text_of("docs/unifdef.1").partition("\n.Sh DIAGNOSTICS\n")[2].partition("\n.Sh ")[0]
     for path in filter(re.compile(r"crates/unifdef(_cli)?/src/.*\.rt").fullmatch, tree.files):
-        with open(path, encoding="utf-8") as file:
-            source = without_comments(path, file.read())
+        source = without_comments(path, text_of(path))
         for literal in re.findall(r'"((?:[^"\\]|\\.)*)"', source):
             for part in re.split(r"\{\w+\}|\\n", literal):
                 if part.strip(": ") not in listed:

@@ -23,13 +23,16 @@ import sys
 import tempfile
 import threading
 import time
-from pathlib import Path
 
-HERE = os.path.dirname(os.path.dirname(os.path.realpath(__file__)))
+from files import TOP as HERE
+from files import text_of
+
 # Rattle's command, which is run in other directories.
 RT = os.environ.get("RT", "rt")
 RT = os.path.abspath(RT) if "/" in RT else RT
 CPU = os.environ.get("UNIFDEF_CPU", "")
+# How the output of a command comes, on both streams.
+CAUGHT = {"stdout": subprocess.PIPE, "stderr": subprocess.STDOUT, "errors": "replace"}
 
 # Those with the longest chain above them, which begin first.
 FIRST = """ud_model ud_cond ud_faults ud_text ud_sections ud_args ud_simplified
@@ -55,8 +58,8 @@ def say(name, text):
 
 def libraries():
     """Returns each crate of crates.txt with the crates of this repository that it uses."""
-    with open(f"{HERE}/crates.txt", encoding="utf-8") as it:
-        named = dict(re.findall(r"^(\w+)[^:\n#]*:([^\n#]*)", it.read(), re.MULTILINE))
+    text = text_of(f"{HERE}/crates.txt")
+    named = dict(re.findall(r"^(\w+)[^:\n#]*:([^\n#]*)", text, re.MULTILINE))
     return {crate: [it for it in used.split() if it in named] for crate, used in named.items()}
 
 
@@ -70,12 +73,8 @@ def at_or_below(crate, used):
 
 def numbers_in(path, pattern=r"(\d+)"):
     """Returns the numbers in a file of the system that a pattern finds: none without the file."""
-    try:
-        with open(path, encoding="ascii") as it:
-            every = re.finditer(pattern, it.read())
-        return [int(number) for found in every for number in found.groups()]
-    except OSError:
-        return []
+    every = re.finditer(pattern, text_of(path, ""))
+    return [int(number) for found in every for number in found.groups()]
 
 
 def free_memory():
@@ -118,10 +117,9 @@ def take(made, target):
 def found_repository(source, target, crates):
     """Makes a directory the top of a repository with some of the crates of another one."""
     shutil.copy2(f"{source}/HANDLES", target)
-    with open(f"{source}/crates.txt", encoding="utf-8") as lines:
-        kept = [it for it in lines if re.match(r"\w*", it)[0] in crates]
+    lines = text_of(f"{source}/crates.txt").splitlines(keepends=True)
     with open(f"{target}/crates.txt", "w", encoding="utf-8") as it:
-        it.writelines(kept)
+        it.writelines(line for line in lines if re.match(r"\w*", line)[0] in crates)
 
 
 class Commands:
@@ -176,7 +174,6 @@ class Room:
         self.move_out(HERE, self.top)
 
     def move_out(self, source, target):
-        """Moves what was made of the crate."""
         made, place = (f"{top}/crates/{self.crate}/out" for top in (source, target))
         if os.path.isdir(made):
             shutil.rmtree(place, ignore_errors=True)
@@ -195,12 +192,11 @@ class Run:
         self.crate, self.jobs, self.begin = crate, jobs, time.monotonic()
         self.log = tempfile.TemporaryFile()
         self.room = Room(crate, below)
-        directory = Path(self.room.directory)
-        words, stored = ["lib", "--jobs", str(jobs)], directory / "args"
-        if (directory / "src/main.rt").exists():
+        directory, words = self.room.directory, ["lib", "--jobs", str(jobs)]
+        if os.path.exists(f"{directory}/src/main.rt"):
             # `rt run` proves and builds before it runs. The words of the stored run give status 0.
             words = ["run", *words[1:], *(["--cpu", CPU] if CPU else []), "--"]
-            words += stored.read_text(encoding="utf-8").splitlines() if stored.exists() else []
+            words += text_of(f"{directory}/args", "").splitlines()
         how = {"stdin": subprocess.DEVNULL, "stdout": self.log, "stderr": self.log}
         self.process = commands.start([RT, *words], cwd=directory, **how)
 
@@ -219,11 +215,9 @@ class Build:
         self.commands = Commands()
 
     def ready(self):
-        """Returns the crates that can start, in their order."""
         return [it for it in self.left if self.done.issuperset(self.used[it])]
 
     def start(self):
-        """Starts what can run beside the others."""
         for crate in self.ready():
             if self.running and (self.busy() >= self.processors or free_memory() < FREE):
                 return
@@ -233,7 +227,6 @@ class Build:
             say("prove", f"{crate} begins")
 
     def busy(self):
-        """Returns how many processors the checks keep busy."""
         return sum(it.jobs for it in self.running)
 
     def jobs_of(self, crate):
@@ -261,7 +254,6 @@ class Build:
         return not status
 
     def run(self):
-        """Proves all, and returns whether that succeeded."""
         try:
             while self.left or self.running:
                 self.start()

@@ -13,7 +13,8 @@ import os
 import re
 import sys
 
-TOP = os.path.dirname(os.path.dirname(os.path.realpath(__file__)))
+from files import TOP, text_of
+
 ANSWER = "crates/ud_model/specs/answer/Answer.antt"
 ROW = re.compile(r"`([^`]+)` \| (\d+ files, [\d,]+ lines) \|$", re.MULTILINE)
 IMPORT = re.compile(r"^\s*(?:ghost )?use Rattle\.(\w+)\.specs\.([\w.]+?)\.\{", re.MULTILINE)
@@ -21,12 +22,10 @@ IMPORT = re.compile(r"^\s*(?:ghost )?use Rattle\.(\w+)\.specs\.([\w.]+?)\.\{", r
 
 def path_of(crate, module):
     """Returns the file of a module, or of the nearest module around it that has one."""
-    while module:
-        path = f"crates/{crate}/specs/{module.replace('.', '/')}.antt"
-        if os.path.isfile(f"{TOP}/{path}"):
-            return path
-        module = module.rpartition(".")[0]
-    return None
+    path = f"crates/{crate}/specs/{module.replace('.', '/')}.antt"
+    if module and not os.path.isfile(f"{TOP}/{path}"):
+        return path_of(crate, module.rpartition(".")[0])
+    return module and path
 
 
 def read_all(paths, lines_of=None):
@@ -34,8 +33,7 @@ def read_all(paths, lines_of=None):
     lines_of = {} if lines_of is None else lines_of
     for path in paths:
         if path not in lines_of:
-            with open(f"{TOP}/{path}", encoding="utf-8") as file:
-                text = file.read()
+            text = text_of(f"{TOP}/{path}")
             lines_of[path] = 0  # So that no file is read twice.
             read_all(filter(None, (path_of(*it) for it in IMPORT.findall(text))), lines_of)
             del lines_of[path]
@@ -45,9 +43,7 @@ def read_all(paths, lines_of=None):
 
 def check(page):
     """Prints each number of a page that isn't that of this tree. Returns whether all are."""
-    right = True
-    with open(page, encoding="utf-8") as file:
-        rows = ROW.findall(file.read())
+    right, rows = True, ROW.findall(text_of(page))
     for path, written in rows:
         lines_of = read_all([path])
         found = f"{len(lines_of)} files, {sum(lines_of.values()):,} lines"

@@ -10,7 +10,7 @@ a text in quotes may be wide.
 import re
 import sys
 
-from files import tracked
+from files import text_of, tracked
 
 COLUMNS = 100
 
@@ -48,14 +48,13 @@ KINDS |= dict.fromkeys(("sh", "py", "Makefile", "crates.txt", "run"), "script")
 
 
 def comment_of(line, kind):
-    """Returns the comment of a line, or None."""
     found = re.match(MARKS[kind] + "(.*)", line)
     return found and found[1]
 
 
 def kind_of(path):
     """Returns how the comments of a file are written, or None if it has none to check."""
-    name = path.split("/")[-1]
+    name = path.rpartition("/")[2]
     return KINDS.get(name) or KINDS.get(name.rpartition(".")[2])
 
 
@@ -70,7 +69,7 @@ def may_be_wide(path, kind, line):
 
 
 def findings(path, text):
-    """Yields a line number and a reason for each finding."""
+    """Yields each finding, as a line's number and a reason."""
     kind, lines, fenced = kind_of(path), text.split("\n"), False
     for number, line in enumerate(lines, 1):
         if kind == "page" and line.lstrip().startswith("```"):
@@ -120,7 +119,6 @@ def sentences(lines):
 
 
 def long_sentences(lines):
-    """Yields each sentence of a page that has too many words."""
     for number, text in sentences(lines):
         text = re.sub(r"`[^`]*`", "code", re.sub(r"\]\([^)]*\)", "]", text))
         words = len(re.findall(r"\w[\w'.,-]*", text))
@@ -130,22 +128,19 @@ def long_sentences(lines):
 
 def bare_items(path, lines):
     """Yields each public item without a line that says what it is."""
-    for within, ending, item, mark in (
-        ("/src/", ".rt", RUST_ITEM, "///"),
-        ("/specs/", ".antt", DEFINITION, "--"),
-    ):
-        for number, line in enumerate(lines, 1):
-            found = item.match(line) if within in path and path.endswith(ending) else None
-            if found and not documented(lines, number - 1, mark):
-                yield number, f"no line says what `{found[1]}` is"
-
-
-def documented(lines, index, mark):
-    """Returns whether the item at an index has a comment above it, or above its attributes."""
-    for line in map(str.strip, reversed(lines[:index])):
-        if not line.startswith("#[") and line not in ("mutual", "abbrev mutual"):
-            return line.startswith(mark)
-    return False
+    if re.search(r"/src/.*\.rt$", path):
+        item, mark = RUST_ITEM, "///"
+    elif re.search(r"/specs/.*\.antt$", path):
+        item, mark = DEFINITION, "--"
+    else:
+        return
+    above = ""  # The last line that is no attribute.
+    for number, line in enumerate(lines, 1):
+        found = item.match(line)
+        if found and not above.startswith(mark):
+            yield number, f"no line says what `{found[1]}` is"
+        bare = line.strip()
+        above = above if bare.startswith("#[") or bare in ("mutual", "abbrev mutual") else bare
 
 
 def main():
@@ -153,10 +148,9 @@ def main():
     for path in sys.argv[1:] or tracked():
         if kind_of(path) is None or path.endswith("style.py"):
             continue
-        with open(path, encoding="utf-8") as file:
-            for number, reason in findings(path, file.read()):
-                print(f"{path}:{number}: {reason}")
-                count += 1
+        for number, reason in findings(path, text_of(path)):
+            print(f"{path}:{number}: {reason}")
+            count += 1
     if count:
         print(f"style: {count} findings", file=sys.stderr)
     return 1 if count else 0

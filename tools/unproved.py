@@ -6,6 +6,7 @@
 `rt try` builds the program with checks of each index, overflow and access, runs it, and removes it.
 So here the program is run on a text that takes it a while, and is copied meanwhile.
 """
+import contextlib
 import glob
 import os
 import subprocess
@@ -13,6 +14,7 @@ import sys
 import tempfile
 import time
 
+from files import text_of
 from prove import HERE, RT, end_by_signals, take
 
 # Lines of a text that takes a program without optimization some seconds.
@@ -22,18 +24,14 @@ LINES = 20_000_000
 def program_in(directory):
     """Returns the path of the program that `rt try` built in a directory and runs, or None."""
     for it in glob.glob("/proc/[0-9]*/cmdline"):
-        try:
-            with open(it, encoding="utf-8", errors="replace") as words:
-                ran = [it for it in words.read().split("\0") if it.startswith(f"{directory}/")]
-        except OSError:
-            continue
-        if ran and ran[0].endswith("/program"):
-            return ran[0]
+        with contextlib.suppress(OSError):
+            ran = [it for it in text_of(it).split("\0") if it.startswith(f"{directory}/")]
+            if ran and ran[0].endswith("/program"):
+                return ran[0]
     return None
 
 
 def build(crate, file):
-    """Builds the program of a crate, and returns what went wrong, or nothing."""
     with tempfile.TemporaryDirectory(prefix="unproved-") as work:
         text, said = f"{work}/text.c", f"{work}/said"
         with open(text, "wb") as it:
@@ -48,8 +46,7 @@ def build(crate, file):
                 time.sleep(0.05)
                 built = program_in(work)
             if not built:
-                with open(said, encoding="utf-8", errors="replace") as it:
-                    return f"{it.read()}unproved: rt try built no program"
+                return f"{text_of(said)}unproved: rt try built no program"
             take(built, file)
             os.utime(file)  # It is newer than its sources, however old what is built is.
         finally:
