@@ -47,7 +47,6 @@ class Answer:
     status: int = 0
 
     def matches(self, found: "Answer") -> bool:
-        """Returns whether the answer that was found is this one."""
         same = self.output == found.output and self.status == found.status
         return same and self.message in (None, found.message)
 
@@ -89,8 +88,6 @@ def unescaped(inside: str) -> bytes:
 
 
 class Reader:
-    """Reads one case file, line by line."""
-
     def __init__(self, path: Path) -> None:
         self.path = path
         self.number = 0
@@ -101,11 +98,9 @@ class Reader:
         self.commands = 0
 
     def fail(self, reason: str) -> NoReturn:
-        """Raises the error of the present line."""
         raise CaseError(f"{self.path}:{self.number}: {reason}")
 
     def read(self) -> Case:
-        """Returns the case of the file."""
         text = self.path.read_bytes().decode(errors="surrogateescape")
         case = Case(self.path, text.partition("\n")[0].removeprefix("# "))
         for self.number, line in enumerate(text.removesuffix("\n").split("\n"), 1):
@@ -131,7 +126,6 @@ class Reader:
         return Answer(output, message, self.statuses.get(before, usual.status))
 
     def take(self, case: Case, line: str) -> None:
-        """Adds what a line says."""
         before, rest = ("2.10", line[4:]) if line.startswith("2.10") else ("", line)
         plain = rest.removeprefix(" ") if before else rest
         if rest.startswith((">", "!") if before else ("<", ">", "!")):
@@ -163,7 +157,6 @@ class Reader:
         self.parts[part] = self.parts.get(part, b"") + added
 
     def arguments_of(self, text: str) -> Iterator[str]:
-        """Yields the arguments of a line."""
         for found in ARGUMENT.finditer(text):
             if found[1] is None and found[2] is None:
                 self.fail(f"no argument and no C string literal: {found[0]!a}")
@@ -217,7 +210,6 @@ def check(program: Path, case: Case, wanted: Answer, what: str) -> bool:
 
 
 def main() -> int:
-    """Runs the cases that the command line names. Returns the exit status."""
     parser = argparse.ArgumentParser(description="Runs a built program on case files.")
     parser.add_argument("program", nargs="?", type=Path, default=TOP / "unifdef")
     parser.add_argument("--case", nargs="+", action="extend", type=Path, metavar="NAME")

@@ -60,7 +60,6 @@ OLD, NEW = "2.10", "2.12"
 
 
 def is_released(program: Path, version: str) -> bool:
-    """Returns whether a program is the released unifdef of this version."""
     how = {"stdin": subprocess.DEVNULL, "capture_output": True, "check": False}
     try:
         done = subprocess.run([str(program), "-V"], **how)
@@ -70,7 +69,6 @@ def is_released(program: Path, version: str) -> bool:
 
 
 def released_in(programs: list[Path], version: str) -> Optional[Path]:
-    """Returns the first of the programs that is the released unifdef of this version."""
     return next((it for it in programs if is_released(it, version)), None)
 
 
@@ -170,7 +168,6 @@ def check_new(program: Path, cases: list[Case]) -> Iterator[bool]:
 
 
 def results(program: Path, released: Optional[Path], new: Optional[Path]) -> Iterator[bool]:
-    """Yields whether each check holds."""
     cases = [case for case in cases_in() if case.released]
     yield from check_manual(cases)
     for case in cases:
@@ -189,7 +186,6 @@ def results(program: Path, released: Optional[Path], new: Optional[Path]) -> Ite
 
 
 def main() -> int:
-    """Runs all checks. Returns the exit status."""
     program = Path(sys.argv[1] if len(sys.argv) > 1 else TOP / "unifdef").resolve()
     if not os.access(program, os.X_OK):
         print(f"differences: {program} is not there: run make", file=sys.stderr)

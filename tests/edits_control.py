@@ -175,14 +175,12 @@ UNREADABLE = {"lesser_is_absent": ("a % b", "b % a"), "origin_is_1": ("a / 2", "
 
 
 def write(file, text):
-    """Writes a file, and the directories above it."""
     os.makedirs(os.path.dirname(file), exist_ok=True)
     with open(file, "w", encoding="utf-8") as it:
         it.write(text)
 
 
 def write_edits(directory, edits, path="src/lib.rt"):
-    """Writes a file for each edit."""
     for name, (old, new) in edits.items():
         write(f"{directory}/{name}.edit", f"file: {path}\nold: {old}\nnew: {new}\n")
 

@@ -71,12 +71,11 @@ class Examples:
 
 
 def run(command, place, top):
-    """Returns the status and the output of a command in a place."""
-    env = {key: it for key, it in os.environ.items() if key not in ("MAKEFLAGS", "MAKELEVEL")}
+    env = {it: os.environ[it] for it in os.environ.keys() - {"MAKEFLAGS", "MAKELEVEL"}}
     env |= {"LC_ALL": "C", "PATH": f"{top}:{env['PATH']}"}
-    how = {"cwd": place, "env": env, "stdin": subprocess.DEVNULL, "text": True}
-    how |= {"stdout": subprocess.PIPE, "stderr": subprocess.STDOUT, "errors": "replace"}
-    done = subprocess.run(["bash", "-c", command], check=False, **how)
+    how = {"cwd": place, "env": env, "stdin": subprocess.DEVNULL, "errors": "replace"}
+    how |= {"stdout": subprocess.PIPE, "stderr": subprocess.STDOUT}
+    done = subprocess.run(["bash", "-c", command], **how)
     return done.returncode, done.stdout
 
 
@@ -90,13 +89,11 @@ def commands_in(block):
 
 
 def linked(top):
-    """Puts the programs into a directory."""
     for it in ("unifdef", "unifdef-tree"):
         os.symlink(TOP / it, f"{top}/{it}")
 
 
 def run_block(examples, block):
-    """Runs the commands of a block."""
     with tempfile.TemporaryDirectory() as work:
         top = place = f"{work}/directory"
         os.mkdir(top)
@@ -116,14 +113,12 @@ def run_block(examples, block):
 
 
 def run_page(examples):
-    """Runs the blocks of a page."""
     for block in re.findall(r"^```console\n(.*?)^```$", examples.text, re.MULTILINE | re.DOTALL):
         run_block(examples, block)
     return examples.told()
 
 
 def run_manual(examples):
-    """Runs the examples of the manual."""
     text = examples.text.replace("\\e", "\\")
     options, rest = (text.partition(f"\n.Sh {it}\n")[2] for it in ("OPTIONS", "EXAMPLES"))
     with tempfile.TemporaryDirectory() as top:
@@ -144,7 +139,6 @@ def run_manual(examples):
 
 
 def stripped(text):
-    """Returns a text without indentation, after a newline."""
     return "\n" + "".join(f"{line.lstrip()}\n" for line in text.splitlines())
 
 

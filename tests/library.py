@@ -14,7 +14,7 @@ from concurrent.futures import ThreadPoolExecutor
 from pathlib import Path
 
 TOP = Path(__file__).resolve().parent.parent
-sys.path[:0] = [str(TOP / "tests"), str(TOP / "lib" / "python")]
+sys.path.insert(0, str(TOP / "lib" / "python"))
 
 import cases  # noqa: E402
 import unifdef  # noqa: E402
@@ -24,14 +24,12 @@ CHUNKS = (1, 7, 64)
 
 
 def by_filter(program: str, case: cases.Case) -> cases.Answer:
-    """Returns what the C program gives for a case."""
     how = {"input": case.input, "capture_output": True, "timeout": cases.HANG}
     done = subprocess.run([program, *case.arguments], **how)
     return cases.Answer(done.stdout, done.stderr, done.returncode)
 
 
 def by_module(case: cases.Case) -> cases.Answer:
-    """Returns what the Python module gives for a case."""
     answer = unifdef.run(case.input, *case.arguments)
     message = answer.message.encode(errors="surrogateescape")
     return cases.Answer(answer.output, message, answer.status)
@@ -51,29 +49,19 @@ def by_stream(case: cases.Case, most: int) -> cases.Answer:
 
 
 def main() -> int:
-    """Compares all cases. Returns the exit status."""
-    programs = sys.argv[1:]
-    wrong = 0
-
-    def compare(way: str, case: cases.Case, found: cases.Answer) -> None:
-        nonlocal wrong
-        if not case.answer.matches(found):
-            wrong += 1
-            print(f"library: {way}: {case.path}\n  expected {case.answer}\n  found    {found}")
-
     tried = [case for case in cases.cases_in() if not case.streams]
-    for case in tried:
-        for program in programs:
-            compare("C", case, by_filter(program, case))
-        compare("Python", case, by_module(case))
-        for most in CHUNKS:
-            compare(f"Python in chunks of {most}", case, by_stream(case, most))
+    found = [("C", it, by_filter(program, it)) for program in sys.argv[1:] for it in tried]
+    found += [("Python", it, by_module(it)) for it in tried]
+    for most in CHUNKS:
+        found += [(f"Python in chunks of {most}", it, by_stream(it, most)) for it in tried]
     with ThreadPoolExecutor(THREADS) as pool:
-        for _ in range(THREADS):
-            for way in by_module, lambda case: by_stream(case, 64):
-                for case, answer in zip(tried, list(pool.map(way, tried))):
-                    compare("threads", case, answer)
-    print(f"library: {len(tried)} cases in C, in Python and in {THREADS} threads, {wrong} wrong")
+        for way in [by_module, lambda case: by_stream(case, 64)] * THREADS:
+            found += [("threads", it, answer) for it, answer in zip(tried, pool.map(way, tried))]
+    wrong = [it for it in found if not it[1].answer.matches(it[2])]
+    for way, case, answer in wrong:
+        print(f"library: {way}: {case.path}\n  expected {case.answer}\n  found    {answer}")
+    counts = f"{len(tried)} cases in C, in Python and in {THREADS} threads, {len(wrong)} wrong"
+    print(f"library: {counts}")
     return 1 if wrong or not tried else 0
 
 

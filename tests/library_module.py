@@ -33,7 +33,6 @@ right, wrong = 0, 0
 
 
 def check(what: str, holds: bool) -> None:
-    """Counts one check."""
     global right, wrong
     right, wrong = right + holds, wrong + (not holds)
     if not holds:
@@ -50,7 +49,6 @@ def is_fault(error: object) -> bool:
 
 
 def raised(call: Callable[[], object]) -> object:
-    """Returns what a call raises."""
     try:
         call()
     except Exception as error:  # pylint: disable=broad-except
@@ -161,8 +159,6 @@ def long_texts() -> None:
 
 
 class Named:
-    """An object that names a file."""
-
     def __init__(self, name: str) -> None:
         self.name = name
 
@@ -222,14 +218,12 @@ def wrong_types() -> None:
 
 
 def hints() -> None:
-    """The types of a function can be read."""
     found = typing.get_type_hints(unifdef.run)
     check("the types of run", found["return"] is unifdef.Answer and "text" in found)
     check("what is public", set(dir(unifdef)) == {*unifdef.__all__, "__version__", "__doc__"})
 
 
 def as_program() -> None:
-    """The module as a program is the filter."""
     text = b"#ifdef A\nx\n#endif\ny\n"
     with tempfile.TemporaryDirectory() as work:
         with open(f"{work}/a.c", "wb") as it:
@@ -272,7 +266,6 @@ def libraries() -> None:
 
 
 def main() -> int:
-    """Makes all checks. Returns the exit status."""
     for it in chunks, streams, buffers, long_texts, arguments, wrong_types, hints, as_program:
         it()
     libraries()

@@ -13,7 +13,6 @@ Prints a line for each task with its seconds, and how many cases ran. What a tas
 only if it failed. No task is bounded by the clock, but one that hangs ends after an hour.
 """
 import concurrent.futures
-import glob
 import os
 import re
 import sys
@@ -22,12 +21,15 @@ import time
 from pathlib import Path
 
 HERE = os.path.dirname(os.path.dirname(os.path.realpath(__file__)))
-sys.path[:0] = [f"{HERE}/tools", f"{HERE}/tests"]
+sys.path.insert(0, f"{HERE}/tools")
 
 import cases  # noqa: E402
+from files import text_of  # noqa: E402
 from prove import RT, Commands, end_by_signals, say  # noqa: E402
 
 MAKE = os.environ.get("MAKE", "make")
+# What is run is no part of this make.
+ENVIRONMENT = {it: os.environ[it] for it in os.environ.keys() - {"MAKEFLAGS", "MAKELEVEL"}}
 UNPROVED = "crates/unifdef_cli/out/unproved"
 RUNNER = "test_runner"
 HANG = "3600"
@@ -37,29 +39,16 @@ FIRST = ["cases", RUNNER, "test_text", "test_sections", "test_engine"]
 # the run of the built program counts.
 NO_INTERPRETER = re.compile(rb"^interpreter: no-answer.*\n", re.M)
 PROCESSORS = len(os.sched_getaffinity(0))
-
-
-def bytes_of(path):
-    """Returns the bytes of a file, or none if it isn't there."""
-    return Path(path).read_bytes() if os.path.exists(path) else b""
-
-
 COMMANDS = Commands()
 
 
-def run(words, directory, out, given=b""):
-    """Runs a command to its end, and returns its status."""
-    leave_out = ("MAKEFLAGS", "MAKELEVEL")
-    env = {key: it for key, it in os.environ.items() if key not in leave_out}
-    with tempfile.TemporaryFile() as source:
-        source.write(given)
-        source.seek(0)
-        how = {"cwd": directory, "env": env, "stdin": source, "stdout": out[0], "stderr": out[1]}
-        return COMMANDS.start(words, **how).wait()
+def run(words, directory, out, err, given=os.devnull):
+    how = {"cwd": directory, "env": ENVIRONMENT, "stdout": out, "stderr": err}
+    with open(given, "rb") as source:
+        return COMMANDS.start(words, stdin=source, **how).wait()
 
 
 def is_right(case, out):
-    """Runs one case, and returns whether its answer is right."""
     if COMMANDS.is_stopped:
         return False
     found = cases.run(Path(HERE, UNPROVED), case)
@@ -91,13 +80,13 @@ class Task:
             for it in (out, err) if failed else ():
                 it.seek(0)
                 sys.stdout.buffer.write(NO_INTERPRETER.sub(b"", it.read()))
-                sys.stdout.flush()
+            sys.stdout.flush()
         return not failed
 
 
 def program_cases(task, out, err):
     """Runs the cases by the built program, each in a process of its own."""
-    status = run([MAKE, "-s", UNPROVED], HERE, (err, err))
+    status = run([MAKE, "-s", UNPROVED], HERE, err, err)
     if status:
         return f"the program isn't built: status {status}"
     with concurrent.futures.ThreadPoolExecutor(PROCESSORS) as pool:
@@ -107,9 +96,8 @@ def program_cases(task, out, err):
 
 
 def tests(task, out, err):
-    """Runs the tests of a crate."""
     words = [RT, "try", "--test", "--seconds", HANG]
-    status = run(words, f"{HERE}/crates/{task.name}", (out, err))
+    status = run(words, f"{HERE}/crates/{task.name}", out, err)
     return f"status {status}" if status else ""
 
 
@@ -117,14 +105,14 @@ def stored_run(task, out, err):
     """Runs a program with a file `stdout`. The runner of cases has some as its arguments."""
     directory = f"{HERE}/crates/{task.name}"
     arguments = [os.path.relpath(it.path.resolve(), directory) for it in task.cases]
-    arguments = arguments or bytes_of(f"{directory}/args").decode().splitlines()
-    words = [RT, "try", "--seconds", HANG, "--", *arguments]
-    status = run(words, directory, (out, err), bytes_of(f"{directory}/stdin"))
-    wanted = int(bytes_of(f"{directory}/status") or b"0")
+    arguments = arguments or text_of(f"{directory}/args", "").splitlines()
+    words, given = [RT, "try", "--seconds", HANG, "--", *arguments], f"{directory}/stdin"
+    status = run(words, directory, out, err, given if os.path.exists(given) else os.devnull)
+    wanted = int(text_of(f"{directory}/status", "0"))
     out.seek(0)
     if status != wanted:
         return f"status {status}, and {wanted} is wanted"
-    if out.read() != bytes_of(f"{directory}/stdout"):
+    if out.read() != Path(f"{directory}/stdout").read_bytes():
         return "the output isn't the stored one"
     # It runs those without streams too, which count as the program's.
     task.right = sum(bool(it.streams) for it in task.cases)
@@ -136,13 +124,12 @@ def tasks(every_case, is_all):
     streams = [it for it in every_case if it.streams]
     found = [Task("cases", "program", program_cases, (it for it in every_case if not it.streams))]
     found.append(Task(RUNNER, "program", stored_run, every_case if is_all else streams))
-    for directory in sorted(glob.glob(f"{HERE}/crates/*")) if is_all else []:
-        name = os.path.basename(directory)
-        texts = (bytes_of(it) for it in glob.glob(f"{directory}/src/**/*.rt", recursive=True))
-        if any(re.search(rb"^\s*#\[test\]", it, re.M) for it in texts):
-            found.append(Task(name, "tests", tests))
-        if os.path.exists(f"{directory}/stdout") and name != RUNNER:
-            found.append(Task(name, "program", stored_run))
+    for directory in sorted(Path(HERE, "crates").iterdir()) if is_all else []:
+        texts = (text_of(it) for it in directory.glob("src/**/*.rt"))
+        if any(re.search(r"^\s*#\[test\]", it, re.M) for it in texts):
+            found.append(Task(directory.name, "tests", tests))
+        if (directory / "stdout").exists() and directory.name != RUNNER:
+            found.append(Task(directory.name, "program", stored_run))
     return sorted(found, key=lambda it: FIRST.index(it.name) if it.name in FIRST else len(FIRST))
 
 
