@@ -77,7 +77,6 @@ def rect(x, y, width, height, colour):
 
 
 def drawing(names, rows, form):
-    """Yields the lines of the picture in a form."""
     width, left, right, top, bar, gap, font, x = form.size
     across, height = width - left - right, top + len(rows) * (len(names) * bar + gap) + 10
     yield f'<svg xmlns="http://www.w3.org/2000/svg" width="{width}" height="{height}"'

@@ -71,7 +71,6 @@ def text_of(name, symbols, programs):
 
 
 def cases(work, programs):
-    """Yields what is measured, of texts that it writes."""
     for name, rows in ROWS.items():
         for symbols, *options in rows if SOURCES or name != "C source" else []:
             path, words = work / name, texts.c_words(symbols)
@@ -110,7 +109,6 @@ def best(case, programs, output):
 
 
 def contents(measures):
-    """Prints how many lines each text has for one conditional."""
     heading("Lines for one conditional", "text", "lines", "for one")
     for path in dict.fromkeys(case.text for case in measures):
         text = path.read_bytes()

@@ -44,7 +44,6 @@ class Calls:
         self.sizes, self.state, self.size = Sizes(), StreamState(), ctypes.c_size_t()
 
     def whole(self):
-        """Calls unifdef_text on the whole text."""
         output, message = self.output, self.message
         status = self.library.unifdef_text(
             self.words, len(self.words), self.text, len(self.text), output, len(output), message,

@@ -140,7 +140,6 @@ def compare_fixed(cc, unifdef):
 
 
 def report(results, what):
-    """Prints each difference, and what was compared. Returns the exit status."""
     hows, sums = Counter(), [0, 0]
     for how, where, difference, counts in results:
         hows[how] += 1

@@ -119,7 +119,6 @@ def pruned(tree, options, text):
 
 
 def shown(options):
-    """Returns options as a text."""
     return b" ".join(map(os.fsencode, options)).decode("latin-1")
 
 
@@ -148,7 +147,6 @@ def compare(job):
 
 
 def parser_of(description):
-    """The options of a comparison over files."""
     parser = argparse.ArgumentParser(description=description)
     parser.add_argument("--cc", default=os.environ.get("CC", "cc"))
     parser.add_argument("--unifdef", default="./unifdef")

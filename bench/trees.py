@@ -18,8 +18,6 @@ from pathlib import Path
 
 
 class Outcome:
-    """What a program gives for a file."""
-
     def __init__(self, program, arguments, path):
         begin = time.perf_counter()
         command = [program, *arguments, path]
