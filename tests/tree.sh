@@ -101,13 +101,18 @@ is() {
 }
 none_left() { check same "$(find -L "$work/run" -name '.unifdef-tree*')" ''; }
 
-# fresh FILE..: makes a new tree, whose files are changed by -DA. small_tree: one with files that
-# are changed, unchanged, faulty, and in a directory.
+# fresh FILE..: makes a new tree, whose files are changed by -DA. alone FILE.. TEXT: one of files with
+# this text. small_tree: one with files that are changed, unchanged, faulty, and in a directory.
+# anew COMMAND..: runs a command over a small tree.
 fresh() {
   rm -rf "$work/run"
   mkdir -p "$work/run/src"
   cd "$work/run" || exit 1
   put "$@" "$text"
+}
+alone() {
+  fresh
+  put "$@"
 }
 small_tree() {
   fresh src/a.c
@@ -115,6 +120,11 @@ small_tree() {
   put src/directory/b.c "$text"
   put src/bad.c '#endif\n'
   put src/same.c 'int a;\n'
+}
+
+anew() {
+  small_tree
+  "$@"
 }
 
 # each_old_or_new: checks that each file of the small tree is old or new.

@@ -20,8 +20,7 @@ test_faults() {
 }
 
 test_statuses() {
-  fresh
-  put src/good.c 'yes\n'
+  alone src/good.c 'yes\n'
   run 0 -DA src
   run 1 -x1 -DA src
   put src/good.c "$text"

@@ -9,15 +9,13 @@ named() { sed -n "s/^[0-9]* *\\($1\\).*/\\1/p" "$work/calls" | tr '\n' ' '; }
 # old or new, and a second run does the rest.
 test_kills() {
   local calls it killed=0
-  small_tree
-  traced any all -DA src
+  anew traced any all -DA src
   mapfile -t calls < <(sed -n 's/^[0-9]* *\([a-z_0-9]*\)(\(.*\)/\1 \2/p' "$work/calls" | awk '
     { count[$1]++ }
     /AT_FDCWD, "src"/ { begun = 1 }
     begun && !/^exit/ { print $1, count[$1] }')
   for it in "${calls[@]}"; do
-    small_tree
-    injected any "${it% *}:signal=KILL:when=${it#* }" -DA src
+    anew injected any "${it% *}:signal=KILL:when=${it#* }" -DA src
     [ "$status" -ne 137 ] || killed=$((killed + 1))
     each_old_or_new
     tree -DA src
@@ -31,8 +29,7 @@ test_kills() {
 test_signals() {
   local it
   for it in HUP INT TERM; do
-    small_tree
-    injected any "rename:signal=$it:when=1" -DA src
+    anew injected any "rename:signal=$it:when=1" -DA src
     check test "$status" -gt 128
     is src/a.c 'yes\n'
     is src/directory/b.c "$text"
@@ -44,15 +41,13 @@ test_signals() {
 test_failing_calls() {
   local call errors error i first count
   while read -r call errors; do
-    small_tree
-    traced any all -DA src
+    anew traced any all -DA src
     first=$(awk -v call="$call(" '{ count += index($0, call) > 0 }
       /AT_FDCWD, "src"/ { print count + (index($0, call) == 0); exit }' "$work/calls")
     count=$(grep -c " $call(" "$work/calls")
     for error in $errors; do
       for i in $(seq "$first" "$count"); do
-        small_tree
-        injected any "$call:error=$error:when=$i" -DA src
+        anew injected any "$call:error=$error:when=$i" -DA src
         each_old_or_new
         [ "$status" -eq 2 ] || is src/a.c src/directory/b.c 'yes\n'
       done
@@ -72,17 +67,14 @@ EOT
 # The bytes of the new file are on the disk before it takes the place of the old one. A file system
 # may take all that is written, and say only then that it kept nothing.
 test_syncs() {
-  small_tree
-  traced any fsync,rename -DA src
+  anew traced any fsync,rename -DA src
   check same "$(named 'fsync\|rename')" 'fsync rename fsync rename '
-  small_tree
-  injected 2 fsync:error=EIO:when=1 -DA src
+  anew injected 2 fsync:error=EIO:when=1 -DA src
   says 'src/a.c: Cannot be written: Input/output error'
   is src/a.c "$text"
   is src/directory/b.c 'yes\n'
   none_left
-  small_tree
-  injected 2 fsync:error=EDQUOT -DA src
+  anew injected 2 fsync:error=EDQUOT -DA src
   says 'src/a.c: Cannot be written: Disk quota exceeded' \
     'src/directory/b.c: Cannot be written: Disk quota exceeded'
   is src/a.c src/directory/b.c "$text"
@@ -96,16 +88,14 @@ test_syncs() {
 # A diff of -d that goes to a file is on the disk before the next file is changed, and no file is
 # changed after one that isn't.
 test_synced_diffs() {
-  small_tree
-  traced any write,fdatasync,rename -q -d -DA src
+  anew traced any write,fdatasync,rename -q -d -DA src
   check same "$(named 'write(1\|fdatasync\|rename')" \
     'rename write(1 fdatasync rename write(1 fdatasync '
   small_tree
   strace -f -o "$work/calls" -e trace=fdatasync "$TREE" -q -d -DA src 2> "$work/err" |
     cat > "$work/out"
   check same "$(grep -c fdatasync "$work/calls")" 0
-  small_tree
-  injected 2 fdatasync:error=EIO:when=1 -q -d -DA src
+  anew injected 2 fdatasync:error=EIO:when=1 -q -d -DA src
   says 'stdout: Cannot be written'
   is src/a.c 'yes\n'
   is src/directory/b.c "$text"

@@ -4,8 +4,7 @@
 
 # A diff has the changed lines, three lines around them, and no other ones.
 test_small_diffs() {
-  fresh
-  put src/a.c "1\\n2\\n3\\n4\\n${text}5\\n6\\n7\\n8\\n"
+  alone src/a.c "1\\n2\\n3\\n4\\n${text}5\\n6\\n7\\n8\\n"
   tree -n -q -DA src
   prints '--- src/a.c
 +++ src/a.c
@@ -134,8 +133,7 @@ test_undoes() {
 # So it does for an absolute path, and for one that begins with ../.
 test_undoes_elsewhere() {
   has patch || return 0
-  small_tree
-  tree -d -DA "$work/run/src"
+  anew tree -d -DA "$work/run/src"
   is src/a.c 'yes\n'
   patch -s -R -d / -p1 -i "$work/out"
   is src/a.c "$text"

@@ -6,8 +6,7 @@ squeezed() { tr -s ' '; }
 listed() { grep '^src'; }
 
 test_names_of_conditions() {
-  fresh
-  put src/a.h '#if B > 1 && defined(C) // c\n#elif A\n#endif\n#ifdef A\n#endif\n# if 0\n# endif\n'
+  alone src/a.h '#if B > 1 && defined(C) // c\n#elif A\n#endif\n#ifdef A\n#endif\n# if 0\n# endif\n'
   put src/b.h '#if A && \\\n  D\n#elif E ? 1 : 2\n#endif\n#ifdef X Y\n#endif
 /*\n#if C\n*/\n#if(A)\n#endif\n'
   put src/c.h '#endif\n'
@@ -39,8 +38,7 @@ src/crlf.h:6: #elifdef A B \'
   put src/b.h '#ifdef X Y\n#endif\n'
   run 0 -s src
   says '1 file listed, 0 faulty; 1 condition could not be listed; -r lists it'
-  fresh
-  put src/full.h "#if FULL$(printf '%65527s' '')\\n#endif\\n"
+  alone src/full.h "#if FULL$(printf '%65527s' '')\\n#endif\\n"
   tree -s src
   prints ' 1 FULL' squeezed
   says '1 file listed, 0 faulty; 0 conditions could not be listed'
@@ -48,8 +46,8 @@ src/crlf.h:6: #elifdef A B \'
 
 # Conditions over several lines: each is listed as if it were on one.
 test_names_over_lines() {
-  fresh
-  put src/a.c '#if A && \\\n  B\n#elif C /* c\n  d */ || D\n#else \\\n\n#endif\n#ifdef E \\\n\n#endif\n'
+  alone src/a.c '#if A && \\\n  B\n#elif C /* c\n  d */ || D\n#else \\\n\n#endif
+#ifdef E \\\n\n#endif\n'
   run 0 -s src
   prints $' 1 A\n 1 B\n 1 C\n 1 D\n 1 E' squeezed
   says '1 file listed, 0 faulty; 0 conditions could not be listed'
@@ -90,8 +88,7 @@ src/b.c:4: #elif VMS ? 1 : 2
 src/b.c:5: a comment names it: #endif // VMS
 src/c.c:5: the source defines it: #define VMS
 src/c.c:7: #if A\'
-  fresh
-  put src/a.c '#ifdef VMS\nx\n#endif\n#if defined(UNIX) || defined(VMS)\n#elif A\n#endif
+  alone src/a.c '#ifdef VMS\nx\n#endif\n#if defined(UNIX) || defined(VMS)\n#elif A\n#endif
 # elif VMS\n'
   put src/b.c '#if A && \\\n  B || V\\\nMS\r\n#elif VMS ? 1 : 2\n#elifdef VMS\n#endif // VMS
 #if C /* VMS */\n#endif\n'
@@ -129,8 +126,7 @@ test_definitions() {
   local both='src/a.c:1: the source defines it: #define VMS 1
 src/b.c:1: the source defines it: #define AMIGA'
   local one='1 line of the source defines a symbol; -r lists it'
-  fresh
-  put src/a.c '#define VMS 1\n#ifdef VMS\nimportant();\n#endif\n'
+  alone src/a.c '#define VMS 1\n#ifdef VMS\nimportant();\n#endif\n'
   put src/b.c '#ifndef AMIGA\n#define AMIGA\n#endif\n#ifdef VMS\n#undef VMS\n#endif\n'
   tree -p -r -n -UVMS -UAMIGA src
   prints "$both" listed
@@ -175,8 +171,7 @@ test_comments() {
   local wanted='src/a.c:3: a comment names it: #endif /* a
 src/a.c:6: a comment names it: # else // !VMS || X
 src/a.c:7: a comment names it: #endif VMS'
-  fresh
-  put src/a.c '#if X\n#else /* VMS2 */\n#endif /* a\n VMS */\n#if X // VMS\n# else // !VMS || X\r
+  alone src/a.c '#if X\n#else /* VMS2 */\n#endif /* a\n VMS */\n#if X // VMS\n# else // !VMS || X\r
 #endif VMS\n#if X || VMS\n#endif /*VMS*/\n#ifdef VMS\n#endif // VMS\n'
   tree -n -r -UVMS src
   prints "$wanted

@@ -16,8 +16,7 @@ prunes() {
 
 test_pruned_files() {
   local before words
-  fresh
-  put src/a.c "$unpruned"
+  alone src/a.c "$unpruned"
   put src/only.c '#if X || VMS /* c */\r\n#endif\r\n'
   put src/same.c '#if X\n#endif\n'
   before=$(stat -c '%i %y' src/same.c)
@@ -93,8 +92,7 @@ test_pruned_by_options() {
 
 # Why a condition stays.
 test_unpruned() {
-  fresh
-  put src/a.c '#if X || V\\\nMS\n#endif\n#if!VMS&&X\n#endif\n#if X ? VMS : 1\n#endif
+  alone src/a.c '#if X || V\\\nMS\n#endif\n#if!VMS&&X\n#endif\n#if X ? VMS : 1\n#endif
 #if X || VMS + Y\n#endif\n#if F(VMS)\n#endif\n'
   tree -p -r -UVMS src
   says_only '0 changed, 1 unchanged, 0 faulty' '0 conditions edited' \

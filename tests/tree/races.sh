@@ -47,17 +47,14 @@ edited='#ifdef B\nyes\n#else\nno\n#endif\n'
 
 # A file that changes between read and rename, and two runs at once.
 test_meanwhile() {
-  small_tree
-  paused 2 -DA fchmod 1 put src/a.c 'mine\n'
+  anew paused 2 -DA fchmod 1 put src/a.c 'mine\n'
   says 'src/a.c: Changed meanwhile'
   is src/a.c 'mine\n'
   is src/directory/b.c 'yes\n'
   none_left
-  small_tree
-  paused 2 -DA fchmod 1 rm src/a.c
+  anew paused 2 -DA fchmod 1 rm src/a.c
   check same "$(ls src)" $'bad.c\ndirectory\nsame.c'
-  small_tree
-  paused any -DA fchmod 1 other_run
+  anew paused any -DA fchmod 1 other_run
   check grep -qxF "unifdef-tree: src/a.c: Another run is at it; if none is, remove\
  src/.unifdef-tree.a.c" "$work/other"
   is src/a.c 'yes\n'
@@ -67,15 +64,12 @@ test_meanwhile() {
 # A file that changed is left alone even if its size and its times are the old ones. New times alone
 # are no change.
 test_compares_bytes() {
-  small_tree
-  paused any -DA fsync 1 edit_in_secret
+  anew paused any -DA fsync 1 edit_in_secret
   says 'src/a.c: Changed meanwhile'
   is src/a.c "$edited"
-  small_tree
-  paused 2 -DA fsync 1 touch src/a.c
+  anew paused 2 -DA fsync 1 touch src/a.c
   is src/a.c 'yes\n'
-  small_tree
-  paused any -DA fsync 1 chmod 600 src/a.c
+  anew paused any -DA fsync 1 chmod 600 src/a.c
   says 'src/a.c: Changed meanwhile'
   check same "$(stat -c %a src/a.c)" 600
 }
@@ -98,14 +92,12 @@ test_looks_at_times() {
 test_links_for_new_files() {
   put "$work/victim" 'mine\n'
   chmod 600 "$work/victim"
-  small_tree
-  paused 2 -DA fchmod 1 put_link src/.unifdef-tree.a.c
+  anew paused 2 -DA fchmod 1 put_link src/.unifdef-tree.a.c
   says 'src/a.c: Changed meanwhile'
   is src/a.c "$text"
   check same "$(stat -c %a "$work/victim") $(cat "$work/victim")" '600 mine'
   check same "$(readlink src/.unifdef-tree.a.c)" "$work/victim"
-  small_tree
-  paused any -DA fchmod 1 rm src/.unifdef-tree.a.c
+  anew paused any -DA fchmod 1 rm src/.unifdef-tree.a.c
   says 'src/a.c: Changed meanwhile'
   is src/a.c "$text"
 }
@@ -113,8 +105,7 @@ test_links_for_new_files() {
 # The file that is read is the one that was found.
 test_finds_same_file() {
   local number options
-  small_tree
-  traced any openat -DA src
+  anew traced any openat -DA src
   number=$(number_of openat '/a.c"')
   for options in -DA '-n -DA'; do
     with_outside
@@ -122,8 +113,7 @@ test_finds_same_file() {
     says 'src/directory/b.c: Cannot be read: changed meanwhile'
     is outside/b.c "$text"
   done
-  small_tree
-  paused 2 -DA openat "$number" put_pipe
+  anew paused 2 -DA openat "$number" put_pipe
   check grep -q '^unifdef-tree: src/directory/b.c: Cannot be read' "$work/err"
 }
 
@@ -131,8 +121,7 @@ test_finds_same_file() {
 # nor between the look at a file in it and the file's replacement.
 test_stays_in_tree() {
   local number options
-  small_tree
-  traced any statx -DA src
+  anew traced any statx -DA src
   number=$(number_of statx '/directory"')
   with_outside
   put outside/c.c "$text"
@@ -140,8 +129,7 @@ test_stays_in_tree() {
   says 'src/directory/: Cannot be read: changed meanwhile'
   check same "$(find outside -type f | wc -l)" 2
   is outside/b.c outside/c.c "$text"
-  small_tree
-  traced any openat -DA src
+  anew traced any openat -DA src
   number=$(number_of openat '/b.c", O_RDWR')
   for options in -DA '-w -DA'; do
     with_outside
@@ -208,12 +196,10 @@ test_vanishing() {
   rm src/bad.c
   failing_look 1 ENOENT -DA src
   says '1 changed, 1 unchanged, 0 faulty'
-  small_tree
-  failing_look 2 EIO -DA src
+  anew failing_look 2 EIO -DA src
   says 'src/a.c: Cannot be found: Input/output error'
   is src/directory/b.c 'yes\n'
-  small_tree
-  failing_look 2 ENOENT -DA src/directory src/a.c
+  anew failing_look 2 ENOENT -DA src/directory src/a.c
   says 'src/a.c: No such file or directory'
   is src/directory/b.c "$text"
   printf 'src/a.c\0src/directory/b.c\0' > "$work/paths"

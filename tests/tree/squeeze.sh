@@ -43,8 +43,7 @@ test_squeezed_counts() {
   local before='int a;\n\n#ifdef VMS\nint v;\n#endif\n\nint b;\nvoid f(void) {\n#ifdef VMS\n  v();
 #endif\n\n  a = 1;\n\n#ifdef VMS\n  v();\n#endif\n}\n'
   local after='int a;\n\nint b;\nvoid f(void) {\n  a = 1;\n}\n'
-  fresh
-  put src/a.c "$before"
+  alone src/a.c "$before"
   run 1 -n -B -UVMS src
   is src/a.c "$before"
   cp "$work/out" "$work/diff"

@@ -76,8 +76,7 @@ counted() { grep -o 'unifdef-tree: [0-9]* of .* files' | tr '\r' '\n'; }
 test_counter() {
   local words none='unifdef-tree: 0 changed, 100 unchanged, 0 faulty'
   has script || return 0
-  fresh
-  put src/{1..100}.c "$text"
+  alone src/{1..100}.c "$text"
   on_terminal '-DA src'
   prints $'unifdef-tree: 0 of 100 files \nunifdef-tree: 64 of 100 files' counted
   check grep -q $'\r\x1b\\[Kunifdef-tree: 100 changed, 0 unchanged, 0 faulty' "$work/out"

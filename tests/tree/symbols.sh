@@ -9,8 +9,7 @@ unnamed() {
 }
 
 test_unnamed_symbols() {
-  fresh
-  put src/n.c '#ifdef HAIKU\nx\n#endif\n'
+  alone src/n.c '#ifdef HAIKU\nx\n#endif\n'
   run 0 -U__HAIKU__ -UVMS src
   says_only '0 changed, 1 unchanged, 0 faulty' 'no condition names __HAIKU__' \
     'no condition names VMS'
