@@ -86,6 +86,13 @@ prints() {
   check same "$("${filter[@]}" < "$work/out")" "$1"
 }
 
+# lists WORDS FILTER TEXT: what a run with a status and words writes, as a filter leaves it.
+lists() {
+  # shellcheck disable=SC2086 # Words are split.
+  run $1
+  prints "$3" "$2"
+}
+
 # put FILE.. TEXT: writes a text, with its escapes, into files. is FILE.. TEXT: they have it.
 put() {
   local file

@@ -5,8 +5,7 @@
 # A diff has the changed lines, three lines around them, and no other ones.
 test_small_diffs() {
   alone src/a.c "1\\n2\\n3\\n4\\n${text}5\\n6\\n7\\n8\\n"
-  tree -n -q -DA src
-  prints '--- src/a.c
+  lists 'any -n -q -DA src' cat '--- src/a.c
 +++ src/a.c
 @@ -2,11 +2,7 @@
  2
@@ -21,8 +20,7 @@ test_small_diffs() {
  6
  7'
   put src/a.c "$text"
-  tree -n -q -c -UA src
-  prints '--- src/a.c
+  lists 'any -n -q -c -UA src' cat '--- src/a.c
 +++ src/a.c
 @@ -1,5 +1,4 @@
  #ifdef A

@@ -106,14 +106,12 @@ src/a.c:10: among arguments of a call: #if F(VMS)'
   prints 'src/a.c:4: #if!VMS&&X' sed -n 2p
   put src/a.c '#if X\n#endif\n#if VMS && X\n#elif F(VMS) || VMS\n#endif\n/*\n*/ #ifdef X VMS
 #elifdef VMS -1\n#endif\n'
-  tree -p -r -K -UVMS src
-  prints 'src/a.c:3: an operand is unknown: #if VMS && X
+  lists 'any -p -r -K -UVMS src' cat 'src/a.c:3: an operand is unknown: #if VMS && X
 src/a.c:4: among arguments of a call: #elif F(VMS)
 src/a.c:7: not understood: */ #ifdef X VMS
 src/a.c:8: not understood: #elifdef VMS -1'
   put src/a.c '#ifdef A\n#if VMS /* q */\n#endif\n#endif\n'
-  tree -p -r -iDA -UVMS src
-  prints 'src/a.c:1: decided as C: #if VMS /* q */'
+  lists 'any -p -r -iDA -UVMS src' cat 'src/a.c:1: decided as C: #if VMS /* q */'
 }
 
 # folds BEFORE AFTER [OPTIONS]: checks what -p makes of a file. A second run changes nothing.
@@ -152,12 +150,10 @@ src/a.c:6: a comment names it: #else /* no
 src/a.c:8: a comment names it: #endif // VMS'
   prints "$listed"
   says_last '2 conditions still name a symbol'
-  tree -p -r -b -UVMS src
-  prints "$listed"
+  lists 'any -p -r -b -UVMS src' cat "$listed"
   put src/a.c '#ifdef VMS\na\n#else /* no\n VMS */\nb\n#endif
 #if A || \\\n VMS || \\\n B\nq\n#endif\n'
-  tree -n -p -q -UVMS src
-  prints '--- src/a.c
+  lists 'any -n -p -q -UVMS src' cat '--- src/a.c
 +++ src/a.c
 @@ -1,11 +1,5 @@
 -#ifdef VMS

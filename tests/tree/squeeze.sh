@@ -58,6 +58,5 @@ test_squeezed_counts() {
   patch -s -p0 < "$work/diff"
   is src/a.c "$after"
   put src/a.c 'a;\n\n#ifdef Y\n#endif\n\n#if Y(1)\n#endif\n'
-  run 1 -B -r -q -UY src
-  prints 'src/a.c:3: #if Y(1)'
+  lists '1 -B -r -q -UY src' cat 'src/a.c:3: #if Y(1)'
 }
