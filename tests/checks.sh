@@ -35,6 +35,10 @@ check() {
 }
 same() { [ "$1" = "$2" ] || { printf '%s\n---\n%s\n' "$1" "$2"; false; }; }
 
+# lines WORD..: prints a line for each. files_in DIRECTORY TEST..: prints what find finds, in order.
+lines() { printf '%s\n' "$@"; }
+files_in() { find "$@" | sed 's|^\./||' | sort; }
+
 # finish: says how many checks hold, and fails if one doesn't.
 finish() {
   echo "$name: $passed checks hold, $failed don't"

@@ -52,17 +52,10 @@ check 'install-lib: DESTDIR' make_lib install-lib DESTDIR="$work/target"
 check 'install-lib: DESTDIR refreshes nothing' test ! -e "$work/refreshed"
 check install-lib make_lib install-lib PREFIX="$prefix"
 check 'install-lib: ldconfig' same "$(grep -xs ldconfig "$work/refreshed")" "$refreshed"
-check 'install-lib: files' same "$(cd "$prefix" && find . ! -type d | sort)" \
-"./include/unifdef.h
-./lib/libunifdef.a
-./lib/libunifdef.so
-./lib/libunifdef.so.1
-./lib/pkgconfig/unifdef.pc
-./lib/python3/dist-packages/unifdef/__init__.py
-./lib/python3/dist-packages/unifdef/__main__.py
-./lib/python3/dist-packages/unifdef/_library.py
-./lib/python3/dist-packages/unifdef/py.typed
-./share/man/man3/unifdef.3"
+modules=(lib/python3/dist-packages/unifdef/{__init__.py,__main__.py,_library.py,py.typed})
+check 'install-lib: files' same "$(cd "$prefix" && files_in . ! -type d)" \
+  "$(lines include/unifdef.h lib/{libunifdef.{a,so,so.1},pkgconfig/unifdef.pc} "${modules[@]}" \
+    share/man/man3/unifdef.3)"
 check 'install-lib: the manual' shows "$prefix/share/man/man3/unifdef.3"
 odd="$work/b&c|d #e"
 private() { (umask 077; "$@"); }
@@ -99,7 +92,7 @@ rm -f "$work/refreshed"
 touch "$prefix/lib/libunifdef.so.0"
 check uninstall-lib make_lib uninstall-lib PREFIX="$prefix"
 check 'uninstall-lib: ldconfig' same "$(grep -xs ldconfig "$work/refreshed")" "$refreshed"
-check 'uninstall-lib: files' same "$(find "$prefix" ! -type d)" "$prefix/lib/libunifdef.so.0"
+check 'uninstall-lib: files' same "$(files_in "$prefix" ! -type d)" "$prefix/lib/libunifdef.so.0"
 # The link of another version stays.
 ln -s libunifdef.so.0 "$prefix/lib/libunifdef.so"
 check 'uninstall-lib: again' make_lib uninstall-lib PREFIX="$prefix"
@@ -115,7 +108,7 @@ fi
 directory=usr/lib/$("${cc[@]}" -print-multiarch) architecture=$(dpkg --print-architecture)
 packages=({libunifdef1,libunifdef-dev}"_${version}_$architecture.deb"
   "python3-unifdef_${version}_all.deb")
-check deb-lib same "$(make_lib deb-lib)" "$(printf '%s\n' "${packages[@]}")"
+check deb-lib same "$(make_lib deb-lib)" "$(lines "${packages[@]}")"
 mkdir "$work/first"
 cp "${packages[@]}" "$work/first"
 check 'deb-lib: again' env CC="env ${cc[*]}" "$make" -s -o lib/libunifdef.a deb-lib
@@ -157,20 +150,9 @@ check 'a private directory: modes' same "$(modes)" $'-rw-r--r--\ndrwxr-xr-x\nlrw
 # What is installed.
 new_root
 check 'installs' in_root -i "${packages[@]/#/$here/}"
-check 'installs: files' same "$(cd "$root/usr" && find . ! -type d | grep -v /doc/ | sort)" \
-  "$(sort << END
-./include/unifdef.h
-./${directory#usr/}/libunifdef.a
-./${directory#usr/}/libunifdef.so
-./${directory#usr/}/libunifdef.so.1
-./${directory#usr/}/pkgconfig/unifdef.pc
-./lib/python3/dist-packages/unifdef/__init__.py
-./lib/python3/dist-packages/unifdef/__main__.py
-./lib/python3/dist-packages/unifdef/_library.py
-./lib/python3/dist-packages/unifdef/py.typed
-./share/man/man3/unifdef.3.gz
-END
-)"
+check 'installs: files' same "$(cd "$root/usr" && files_in . ! -type d ! -path '*/doc/*')" \
+  "$(lines include/unifdef.h "${directory#usr/}"/{libunifdef.{a,so,so.1},pkgconfig/unifdef.pc} \
+    "${modules[@]}" share/man/man3/unifdef.3.gz | sort)"
 symbols=$(dpkg-deb -I "${packages[0]}" symbols)
 check 'symbols: each function' same "$(grep -c ' unifdef_.*@UNIFDEF_1 ' <<< "$symbols")" \
   "$(objdump -T lib/libunifdef.so.1 | grep -c ' UNIFDEF_1 *unifdef_')"
@@ -195,5 +177,5 @@ if has python3; then
 fi
 check 'goes away' in_root --purge python3-unifdef libunifdef-dev libunifdef1
 check 'leaves no module' test ! -e "$root/usr/lib/python3/dist-packages/unifdef"
-check 'leaves nothing' same "$(find "$root" -path "$root/var" -prune -o -type f -print)" ''
+check 'leaves nothing' same "$(files_in "$root" -type f ! -path "$root/var/*")" ''
 finish

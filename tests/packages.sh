@@ -29,27 +29,16 @@ make_with() { "$make" -s -o unifdef -o unifdef-tree "$@"; }
 target="$work/a directory/with spaces" prefix='/opt/my tools'
 check install make_with install DESTDIR="$target" PREFIX="$prefix"
 works_in install "$target$prefix"
-check 'install: files' same "$(cd "$target$prefix" && find . -type f | sort)" \
-"./bin/unifdef
-./bin/unifdef-tree
-./bin/unifdef2
-./share/bash-completion/completions/unifdef
-./share/bash-completion/completions/unifdef-tree
-./share/doc/unifdef/LICENSE
-./share/doc/unifdef/PROVED.md
-./share/fish/vendor_completions.d/unifdef-tree.fish
-./share/fish/vendor_completions.d/unifdef.fish
-./share/man/man1/unifdef-tree.1
-./share/man/man1/unifdef.1
-./share/man/man1/unifdef2.1
-./share/zsh/site-functions/_unifdef
-./share/zsh/site-functions/_unifdef-tree"
+check 'install: files' same "$(cd "$target$prefix" && files_in . -type f)" \
+  "$(lines bin/unifdef{,-tree,2} share/bash-completion/completions/unifdef{,-tree} \
+    share/doc/unifdef/{LICENSE,PROVED.md} share/fish/vendor_completions.d/unifdef{-tree,}.fish \
+    share/man/man1/unifdef{-tree,,2}.1 share/zsh/site-functions/_unifdef{,-tree})"
 
 # A file of somebody else stays, and so does a directory that others use.
 documents="$target$prefix/share/doc/unifdef"
 touch "$documents/theirs"
 check uninstall make_with uninstall DESTDIR="$target" PREFIX="$prefix"
-check 'uninstall: files' same "$(find "$target" ! -type d)" "$documents/theirs"
+check 'uninstall: files' same "$(files_in "$target" ! -type d)" "$documents/theirs"
 rm "$documents/theirs"
 check 'uninstall: again' make_with uninstall DESTDIR="$target" PREFIX="$prefix"
 check 'uninstall: the directory' test ! -e "$documents"
@@ -94,7 +83,7 @@ if git rev-parse HEAD > /dev/null 2>&1; then
   unpacked=$work/unifdef-$version
   check dist "$make" -s dist
   check 'dist: unpacks' tar xzf "unifdef-$version.tar.gz" -C "$work"
-  check 'dist: files' same "$(cd "$unpacked" && find . -type f | sed 's|^\./||' | sort)" \
+  check 'dist: files' same "$(cd "$unpacked" && files_in . -type f)" \
     "$(git ls-tree -r --name-only HEAD | sort)"
   check 'dist: its version' same "$("$unpacked/packaging/version.sh")" "$version"
   check 'dist: its pages and scripts' "$unpacked/tools/lint.sh"
@@ -112,7 +101,7 @@ fi
 # The Debian packages.
 if has dpkg-deb && has objdump; then
   packages=({unifdef-tree,unifdef-proved}"_${version}_$(dpkg --print-architecture).deb")
-  check deb same "$(make_with deb)" "$(printf '%s\n' "${packages[@]}")"
+  check deb same "$(make_with deb)" "$(lines "${packages[@]}")"
   mkdir "$work/made"
   cp "${packages[@]}" "$work/made"
   check 'deb: again' make_with deb
@@ -131,13 +120,13 @@ if has dpkg-deb && has objdump; then
   check 'deb: is known' is_installed unifdef-proved
   works_in deb "$root/usr"
   check 'deb: goes away' in_root --purge unifdef-proved unifdef-tree
-  check 'deb: leaves nothing' same "$(find "$root" -path "$root/var" -prune -o ! -type d -print)" ''
+  check 'deb: leaves nothing' same "$(files_in "$root" ! -type d ! -path "$root/var/*")" ''
 
   # Beside a package with the name and the files of Debian's unifdef.
   theirs=$work/theirs
   mkdir -p "$theirs/DEBIAN" "$theirs/usr/bin" "$theirs/usr/share/man/man1"
   touch "$theirs/usr/bin/unifdef" "$theirs/usr/share/man/man1/unifdef.1.gz"
-  printf '%s\n' 'Package: unifdef' 'Version: 2.12-1' 'Architecture: all' \
+  lines 'Package: unifdef' 'Version: 2.12-1' 'Architecture: all' \
     'Maintainer: nobody <nobody@localhost>' 'Description: theirs' > "$theirs/DEBIAN/control"
   check 'deb: theirs' dpkg-deb --root-owner-group --build "$theirs" "$work/theirs.deb"
   check 'deb: beside unifdef' in_root -i "$work/theirs.deb" "$here/${packages[0]}"

@@ -37,16 +37,10 @@ check 'another clone' clone_to "$second" "$first"
 check 'release elsewhere' make_elsewhere "$second"
 check 'the same files' diff -r "$first/release" "$second/release"
 cd "$first/release" || exit 1
-check 'files' same "$(printf '%s\n' *)" \
-"NOTES.md
-SHA256SUMS
-libunifdef-dev_${version}_amd64.deb
-libunifdef1_${version}_amd64.deb
-python3-unifdef_${version}_all.deb
-unifdef-$version-linux-x86_64.tar.gz
-unifdef-$version.tar.gz
-unifdef-proved_${version}_amd64.deb
-unifdef-tree_${version}_amd64.deb"
+check 'files' same "$(lines *)" \
+  "$(lines NOTES.md SHA256SUMS libunifdef{-dev,1}"_${version}_amd64.deb" \
+    "python3-unifdef_${version}_all.deb" unifdef-"$version"{-linux-x86_64,}.tar.gz \
+    unifdef-{proved,tree}"_${version}_amd64.deb")"
 check 'checksums' sha256sum --quiet -c SHA256SUMS
 check 'checksums of all' same "$(wc -l < SHA256SUMS)" 8
 check 'what changed' same "$(grep '^## ' NOTES.md)" "## $version (2026-12-01)"
