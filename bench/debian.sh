@@ -2,6 +2,12 @@
 # Package lists and sources of Debian, for the scripts that read this file.
 # shellcheck disable=SC2154 # They set `work`, a temporary directory.
 
+# Installs Debian's program, if it is missing.
+released() {
+  [ -x /usr/bin/unifdef ] ||
+    $([ "$(id -u)" -eq 0 ] || echo sudo) apt-get install --yes --no-install-recommends unifdef
+}
+
 # lists_of KIND RELEASE: sets `apt` to an apt-get with package lists of its own, in the temporary
 # directory: those of packages (deb) or of sources (deb-src) of a release of Debian.
 lists_of() {

@@ -5,13 +5,8 @@
 # check what users of options may rely on, in place of the reference.
 set -eu -o pipefail
 export LC_ALL=C
-here=$(cd "$(dirname "$0")" && pwd)
-program=$(dirname "$here")/crates/test_runner/out/test_runner
-cases=${N:-100000}
-seed=${SEED:-0}
-jobs=${JOBS:-$(nproc)}
-checks=${CHECKS:-}
-
+program=$(dirname "$0")/../crates/test_runner/out/test_runner
+cases=${N:-100000} seed=${SEED:-0} jobs=${JOBS:-$(nproc)} checks=${CHECKS:-}
 [ -x "$program" ] || { echo "hostile: $program is not there: run make hostile" >&2; exit 1; }
 
 # Each process takes ranges of cases in turn, so that none waits long for the others, and says how
@@ -22,8 +17,5 @@ tried=$(seq "$seed" "$block" $((seed + cases - 1)) | while read -r from; do
   echo "$from $((left < block ? left : block))${checks:+ $checks}"
 done | xargs -P "$jobs" -L 1 "$program" hostile |
   awk '{ print | "cat >&2" } /^[0-9]+ cases from seed / { tried += $1 } END { print tried + 0 }')
-if [ "$tried" -ne "$cases" ]; then
-  echo "hostile: only $tried of $cases cases were tried" >&2
-  exit 1
-fi
+[ "$tried" -eq "$cases" ] || { echo "hostile: only $tried of $cases cases were tried" >&2; exit 1; }
 echo "hostile: $cases cases from seed $seed on: no mismatch"

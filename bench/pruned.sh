@@ -12,7 +12,10 @@ trap 'rm -rf "$work"' EXIT
 source "$here/debian.sh"
 
 # run WORD..: runs the program in the directory of a source.
-run() { (cd "$directory" && "$program" -x2 "$@" -- .) > "$work/listed" 2> "$work/said"; }
+run() { (cd "$directory" && "$program" -x2 "$@" -- .) > /dev/null 2> "$work/said"; }
+
+unchanged() { grep -q '^unifdef-tree: 0 changed' "$work/said"; }
+failed() { cat "$work/said" <(echo "pruned: $1") >&2; exit 1; }
 
 # counted WORDS: prints the number in the last line of a run that has these words, or 0.
 counted() { awk -v words="$1" 'index($0, words) { n = $2 } END { print n + 0 }' "$work/said"; }
@@ -29,12 +32,8 @@ unpacked() {
 # alone, and that a second run changes nothing.
 squeezed() {
   local pruned=$directory directory=$work/copy
-  if ! run -B -p "$@" || ! diff -rB --no-dereference "$pruned" "$directory" > "$work/said" ||
-    ! run -B -p "$@" || ! grep -q '^unifdef-tree: 0 changed' "$work/said"; then
-    cat "$work/said" >&2
-    echo "pruned: -B fails: ${pruned##*/}" >&2
-    exit 1
-  fi
+  { run -B -p "$@" && diff -rB --no-dereference "$pruned" "$directory" > "$work/said" &&
+    run -B -p "$@" && unchanged; } || failed "-B fails: ${pruned##*/}"
 }
 
 # pruned PACKAGE OPTION..: prints a row of the table.
@@ -46,12 +45,10 @@ pruned() {
   run -n "$@" || true # A directive over several lines that would go is a fault without -p.
   without=$(counted 'still name')
   rm -rf "$work/copy" && cp -a "$directory" "$work/copy"
-  run -p -r "$@" || { cat "$work/said" >&2; exit 1; }
+  run -p -r "$@" || failed "$package"
   # shellcheck disable=SC2016 # These are quotes of Markdown.
   printf '| %s | `%s` | %s | %s | %s |\n' "${directory##*/}" "$*" "$without" "$(counted 'edited')" "$(counted 'still name')"
-  cut -d: -f3 "$work/listed" | sort | uniq -c >> "$work/reasons"
-  run -p "$@" || { cat "$work/said" >&2; exit 1; }
-  grep -q '^unifdef-tree: 0 changed' "$work/said" || { echo "pruned: a second run changes $package" >&2; exit 1; }
+  { run -p "$@" && unchanged; } || failed "a second run changes $package"
   squeezed "$@"
 }
 
@@ -76,6 +73,3 @@ pruned tcl8.6 -U_WIN32 -UWIN32 -U__CYGWIN__ -UMSDOS
 pruned tcl8.6 -U_MSC_VER -U__BORLANDC__ -UMAC_OSX_TCL -UOS2 -UDJGPP
 pruned less -UOS2 -UWIN32
 pruned less -UMSDOS_COMPILER -DMSOFTC=1 -DBORLANDC=2 -DWIN32C=3 -DDJGPPC=4
-echo
-echo 'What -p -r lists of all, by its words:'
-awk '{ n = $1; $1 = ""; sum[$0] += n } END { for (it in sum) print sum[it] it }' "$work/reasons"

@@ -15,9 +15,6 @@ trap 'rm -rf "$work"' EXIT
 # shellcheck source=bench/debian.sh
 source "$here/debian.sh"
 
-# Installs Debian's program, if it is missing.
-released() { [ -x /usr/bin/unifdef ] || $([ "$(id -u)" -eq 0 ] || echo sudo) apt-get install --yes --no-install-recommends unifdef; }
-
 # Unpacks the program of Debian 13, and tries it: it may need another C library.
 newer() {
   local apt

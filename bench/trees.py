@@ -1,17 +1,15 @@
 """Runs two unifdefs over the C files of a tree and compares what they print, byte for byte.
 
 trees.py PROGRAM RELEASED TREE ARGUMENT..: runs both on each .c and .h file of the tree, the operand
-after the arguments. It prints the numbers of files and bytes. For each program, it prints the
-seconds, added up over all files, and the faults by name. It prints how many files have the same
-output and status, and the others by class. A class depends on the two outcomes alone; README.md has
-the causes. Files of class `other` are named.
+after the arguments. It prints the numbers of files and bytes, and for each program the faults by
+name. It prints how many files have the same output and status, and the others by class. A class
+depends on the two outcomes alone; README.md has the causes. Files of class `other` are named.
 """
 
 import os
 import re
 import subprocess
 import sys
-import time
 from collections import Counter
 from concurrent.futures import ThreadPoolExecutor
 from pathlib import Path
@@ -19,10 +17,8 @@ from pathlib import Path
 
 class Outcome:
     def __init__(self, program, arguments, path):
-        begin = time.perf_counter()
         command = [program, *arguments, path]
         run = subprocess.run(command, stdin=subprocess.DEVNULL, capture_output=True)
-        self.seconds = time.perf_counter() - begin
         self.output, self.status, self.fault = run.stdout, run.returncode, None
         if self.status not in (0, 1):
             # The text of the first line, without file and line.
@@ -49,9 +45,8 @@ def class_of(ours, theirs):
 
 def main():
     *programs, tree = sys.argv[1:4]
-    every = (it for it in sorted(Path(tree).rglob("*.[ch]")) if it.is_file())
-    paths = [it for it in every if not it.is_symlink()]
-    begin = time.perf_counter()
+    every = sorted(Path(tree).rglob("*.[ch]"))
+    paths = [it for it in every if it.is_file() and not it.is_symlink()]
 
     def both(path):
         ours, theirs = (Outcome(program, sys.argv[4:], path) for program in programs)
@@ -61,13 +56,11 @@ def main():
 
     with ThreadPoolExecutor(os.cpu_count()) as pool:
         outcomes = list(pool.map(both, paths))
-    size, taken = sum(it.stat().st_size for it in paths), time.perf_counter() - begin
-    print(f"{tree}: {len(paths)} files, {size} bytes, {taken:.0f} seconds in all")
+    print(f"{tree}: {len(paths)} files, {sum(it.stat().st_size for it in paths)} bytes")
     for name, found in zip(("here", "there"), list(zip(*outcomes))[1:3]):
         faults = Counter(it.fault for it in found if it.fault)
-        seconds, changed = sum(it.seconds for it in found), sum(it.status == 1 for it in found)
-        counts = f"{changed} files changed, {sum(faults.values())} with a fault"
-        print(f"  {name}: {seconds:.1f} seconds, {counts}")
+        changed = sum(it.status == 1 for it in found)
+        print(f"  {name}: {changed} files changed, {sum(faults.values())} with a fault")
         for fault, count in faults.most_common():
             print(f"    {count:6} {fault}")
     classes = Counter(kind for *_, kind in outcomes if kind)

@@ -6,20 +6,15 @@
 # tree, instead of Debian's kernel.
 set -eu -o pipefail
 export LC_ALL=C
-here=$(cd "$(dirname "$0")" && pwd)
-program=$(dirname "$here")/unifdef
+here=$(dirname "$0") program=$(realpath "$(dirname "$0")/../unifdef")
 read -r -a words <<< "${TREES_WORDS:--U__KERNEL__ -DCONFIG_SMP}"
-include=${TREES_INCLUDE:-/usr/include}
 source=${TREES_SOURCE:-}
-
 [ -x "$program" ] || { echo "trees: $program is not there: run make" >&2; exit 1; }
-
 work=$(mktemp -d)
 trap 'rm -rf "$work"' EXIT
-
-as_root=""
-[ "$(id -u)" -eq 0 ] || as_root=sudo
-[ -x /usr/bin/unifdef ] || $as_root apt-get install --yes --no-install-recommends unifdef >&2
+# shellcheck source=bench/debian.sh
+source "$here/debian.sh"
+released >&2
 
 # Fetches the C files of the kernel's source as Debian packs it. The package isn't installed.
 if [ -z "$source" ]; then
@@ -32,6 +27,6 @@ if [ -z "$source" ]; then
   source=$work/source
 fi
 
-for tree in "$include" "$source"; do
+for tree in "${TREES_INCLUDE:-/usr/include}" "$source"; do
   python3 "$here/trees.py" "$program" /usr/bin/unifdef "$tree" "${words[@]}"
 done

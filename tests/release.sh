@@ -37,7 +37,7 @@ check 'another clone' clone_to "$second" "$first"
 check 'release elsewhere' make_elsewhere "$second"
 check 'the same files' diff -r "$first/release" "$second/release"
 cd "$first/release" || exit 1
-check 'files' same "$(lines *)" \
+check 'files' same "$(ls)" \
   "$(lines NOTES.md SHA256SUMS libunifdef{-dev,1}"_${version}_amd64.deb" \
     "python3-unifdef_${version}_all.deb" unifdef-"$version"{-linux-x86_64,}.tar.gz \
     unifdef-{proved,tree}"_${version}_amd64.deb")"
