@@ -7,16 +7,13 @@ compare.py prints it and README.md has it. With --short it draws four rows and f
 import sys
 from html import escape
 from math import log10
+from pathlib import Path
 from types import SimpleNamespace
 
 # The colour of each program, which a light page and a dark one show.
-COLOURS = {
-    "this": "#12966c",
-    "released": "#c8553d",
-    "rebuilt": "#e9a03b",
-    "newer": "#9566b3",
-    "cat": "#8a8d91",
-}
+COLOURS = {"this": "#12966c", "released": "#c8553d", "rebuilt": "#e9a03b"}
+COLOURS |= {"newer": "#9566b3", "cat": "#8a8d91"}
+REBUILT = "2.10, cc -O2"
 STYLE = """<style>
 text { fill: #222 } line { stroke: #ddd } .page { fill: #fff }
 @media (prefers-color-scheme: dark) {
@@ -26,13 +23,8 @@ text { fill: #e6edf3 } line { stroke: #3d444d } .page { fill: #0d1117 }
 # All rows, on a logarithmic scale from 1 on, with each program that was there and its version.
 WHOLE = SimpleNamespace(
     head="Millions of bytes a second by processor time; each line is ten times the one before",
-    labels={
-        "this": "this program",
-        "released": "2.10 (Debian 12)",
-        "rebuilt": "2.10, cc -O2",
-        "newer": "2.12 (Debian 13)",
-        "cat": "cat",
-    },
+    labels={"this": "this program", "released": "2.10 (Debian 12)", "rebuilt": REBUILT}
+    | {"newer": "2.12 (Debian 13)", "cat": "cat"},
     rows=None,
     lines=[10**power for power in range(5)],
     share=lambda speed: log10(max(speed, 1)) / 4,
@@ -41,7 +33,7 @@ WHOLE = SimpleNamespace(
 # A few rows and programs, for a narrow page.
 SHORT = SimpleNamespace(
     head="Millions of bytes a second (processor time)",
-    labels={"this": "this program", "newer": "2.12", "rebuilt": "2.10, cc -O2", "cat": "cat"},
+    labels={"this": "this program", "newer": "2.12", "rebuilt": REBUILT, "cat": "cat"},
     rows=["C source", "C headers", "comments", "conditionals"],
     lines=[1000 * thousand for thousand in range(4)],
     share=lambda speed: speed / 3000,
@@ -72,19 +64,18 @@ def text(x, y, words, anchor="start"):
 
 
 def rect(x, y, width, height, colour):
-    size = f'width="{width:.1f}" height="{height}"'
-    return f'<rect x="{x:.1f}" y="{y}" {size} fill="{colour}"/>'
+    return f'<rect x="{x:.1f}" y="{y}" width="{width:.1f}" height="{height}" fill="{colour}"/>'
 
 
 def drawing(names, rows, form):
     width, left, right, top, bar, gap, font, x = form.size
     across, height = width - left - right, top + len(rows) * (len(names) * bar + gap) + 10
-    yield f'<svg xmlns="http://www.w3.org/2000/svg" width="{width}" height="{height}"'
-    yield f' viewBox="0 0 {width} {height}" role="img"'
-    yield f' font-family="sans-serif" font-size="{font}">'
-    yield f"<title>{form.head}</title>"
-    yield STYLE
-    yield f'<rect class="page" width="{width}" height="{height}"/>'
+    yield f"""<svg xmlns="http://www.w3.org/2000/svg" width="{width}" height="{height}"
+ viewBox="0 0 {width} {height}" role="img"
+ font-family="sans-serif" font-size="{font}">
+<title>{form.head}</title>
+{STYLE}
+<rect class="page" width="{width}" height="{height}"/>"""
     yield text(8, 18, form.head)
     for name in names:
         yield rect(x, 30, 10, 10, COLOURS[name])
@@ -106,10 +97,5 @@ def drawing(names, rows, form):
     yield "</svg>"
 
 
-def main():
-    form = SHORT if sys.argv[2:] == ["--short"] else WHOLE
-    with open(sys.argv[1], encoding="utf-8") as source:
-        print("\n".join(drawing(*table(source.read().splitlines(), form), form)))
-
-
-main()
+FORM = SHORT if sys.argv[2:] == ["--short"] else WHOLE
+print("\n".join(drawing(*table(Path(sys.argv[1]).read_text().splitlines(), FORM), FORM)))

@@ -11,7 +11,8 @@ import subprocess
 import sys
 from html import escape
 
-TOP = os.path.dirname(os.path.dirname(os.path.realpath(__file__)))
+from files import TOP, text_of
+
 LINE, LETTER, MARGIN, HEAD = 17, 7.25, 12, 44
 STYLE = """<style>
 .page { fill: #fff } text { fill: #222 }
@@ -25,32 +26,30 @@ GONE = ' class="gone" text-decoration="line-through"'
 
 
 def printed(*words):
-    command = [f"{TOP}/unifdef", *words]
-    return subprocess.run(command, stdout=subprocess.PIPE, text=True).stdout.splitlines()
+    run = subprocess.run([f"{TOP}/unifdef", *words], stdout=subprocess.PIPE, text=True)
+    return run.stdout.splitlines()
 
 
 def line(left, row, words, more="", shade="", width=0):
     """Yields a line of text, and what is behind it."""
-    y = HEAD + LINE * row
+    y, x = HEAD + LINE * row, left - MARGIN / 2
     if shade:
-        size = f'width="{width:.1f}" height="{LINE}" class="{shade}"'
-        yield f'<rect x="{left - MARGIN / 2:.1f}" y="{y}" {size}/>'
+        yield f'<rect x="{x:.1f}" y="{y}" width="{width:.1f}" height="{LINE}" class="{shade}"/>'
     yield f'<text x="{left:.1f}" y="{y + 13}" xml:space="preserve"{more}>{escape(words)}</text>'
 
 
 def drawing(name, options):
-    with open(name, encoding="utf-8") as file:
-        before = file.read().splitlines()
+    before = text_of(name).splitlines()
     # Under -b each line is still in its position.
     in_place, after = printed(*options, "-b", name), printed(*options, name)
     width = LETTER * max(map(len, before)) + 2 * MARGIN
     right, command = width + 2 * MARGIN, f"unifdef {' '.join(options)}"
-    yield '<svg xmlns="http://www.w3.org/2000/svg"'
-    yield f' width="{2 * width + MARGIN:.0f}" height="{HEAD + LINE * len(before) + MARGIN}"'
-    yield ' font-family="monospace" font-size="12" role="img">'
-    yield f"<title>A header before and after {escape(command)}</title>"
-    yield STYLE
-    yield '<rect width="100%" height="100%" class="page"/>'
+    yield f"""<svg xmlns="http://www.w3.org/2000/svg"
+ width="{2 * width + MARGIN:.0f}" height="{HEAD + LINE * len(before) + MARGIN}"
+ font-family="monospace" font-size="12" role="img">
+<title>A header before and after {escape(command)}</title>
+{STYLE}
+<rect width="100%" height="100%" class="page"/>"""
     for left, words in ((MARGIN, os.path.basename(name)), (right, command)):
         yield from line(left, -1.8, words, ' font-weight="bold"')
     pairs = list(zip(before, in_place))
@@ -64,7 +63,6 @@ def drawing(name, options):
     yield "</svg>"
 
 
-if __name__ == "__main__":
-    if len(sys.argv) < 3:
-        sys.exit(__doc__)
-    print("\n".join(drawing(sys.argv[1], sys.argv[2:])))
+if len(sys.argv) < 3:
+    sys.exit(__doc__)
+print("\n".join(drawing(sys.argv[1], sys.argv[2:])))
