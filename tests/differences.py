@@ -10,6 +10,7 @@ there is left out. Each example of docs/DIFFERENCES.md must be a case. 2.12 give
 example says of it, or else what 2.10 gives.
 """
 
+import contextlib
 import os
 import re
 import subprocess
@@ -60,16 +61,10 @@ OLD, NEW = "2.10", "2.12"
 
 
 def is_released(program: Path, version: str) -> bool:
-    how = {"stdin": subprocess.DEVNULL, "capture_output": True, "check": False}
-    try:
-        done = subprocess.run([str(program), "-V"], **how)
-    except OSError:
-        return False
-    return f"unifdef-{version}".encode() in done.stdout + done.stderr
-
-
-def released_in(programs: list[Path], version: str) -> Optional[Path]:
-    return next((it for it in programs if is_released(it, version)), None)
+    with contextlib.suppress(OSError):
+        done = subprocess.run([program, "-V"], stdin=subprocess.DEVNULL, capture_output=True)
+        return f"unifdef-{version}".encode() in done.stdout + done.stderr
+    return False
 
 
 def examples() -> Iterator[tuple[list[str], bytes, Answer, Answer, Answer]]:
@@ -101,9 +96,9 @@ def check_manual(cases: list[Case]) -> Iterator[bool]:
 def check_file(program: Path, name: bytes) -> bool:
     """Returns whether `-n` over a file inserts a #line that names the file as `name` does."""
     with tempfile.TemporaryDirectory() as directory:
-        (Path(directory) / "in.c").write_bytes(b"#ifdef A\nx\n#endif\n")
-        command = [str(program), "-n", "-DA", "in.c"]
-        done = subprocess.run(command, capture_output=True, cwd=directory, check=False)
+        Path(directory, "in.c").write_bytes(b"#ifdef A\nx\n#endif\n")
+        command = [program, "-n", "-DA", "in.c"]
+        done = subprocess.run(command, capture_output=True, cwd=directory)
     right = done.returncode == 1 and done.stdout == b"#line 2" + name + b"\nx\n"
     if not right:
         print(f"differences: {program}, a file and -n: {done.returncode} {as_literal(done.stdout)}")
@@ -120,7 +115,7 @@ def run_command(command: str, program: Path) -> tuple[bytes, Optional[int], dict
         for name, there in (("unifdef", program), ("unifdef-tree", TOP / "unifdef-tree")):
             Path(top, name).symlink_to(there)
         how = {"cwd": directory, "env": {**os.environ, "PATH": f"{top}:{os.environ['PATH']}"}}
-        how |= {"stdin": subprocess.DEVNULL, "capture_output": True, "check": False}
+        how |= {"stdin": subprocess.DEVNULL, "capture_output": True}
         done = subprocess.run(["bash", "-c", command], **how)
         files = {it.name: it.read_bytes() for it in directory.iterdir()}
     return done.stdout, None if "|" in command else done.returncode, files
@@ -170,19 +165,16 @@ def check_new(program: Path, cases: list[Case]) -> Iterator[bool]:
 def results(program: Path, released: Optional[Path], new: Optional[Path]) -> Iterator[bool]:
     cases = [case for case in cases_in() if case.released]
     yield from check_manual(cases)
-    for case in cases:
-        yield check(program, case, case.answer, "differences")
-        if released:
-            yield check(released, case, case.released, "differences, 2.10")
+    yield from (check(program, it, it.answer, "differences") for it in cases)
     yield check_file(program, b"")
+    yield from check_commands(program, released)
     if released:
+        yield from (check(released, it, it.released, "differences, 2.10") for it in cases)
         yield check_file(released, b' "in.c"')
+        yield from check_calls(program, released)
     if new:
         yield check_file(new, b' "in.c"')
         yield from check_new(new, cases)
-    yield from check_commands(program, released)
-    if released:
-        yield from check_calls(program, released)
 
 
 def main() -> int:
@@ -196,7 +188,7 @@ def main() -> int:
             print(f"differences: {name} is no unifdef {OLD} or {NEW}", file=sys.stderr)
             return 1
     programs = programs or [Path(directory) / "unifdef" for directory in os.get_exec_path()]
-    released, new = released_in(programs, OLD), released_in(programs, NEW)
+    released, new = (next((it for it in programs if is_released(it, v)), None) for v in (OLD, NEW))
     for version, there in ((OLD, released), (NEW, new)):
         if not there:
             print(f"differences: unifdef {version} is not there, so it is left out")

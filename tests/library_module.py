@@ -17,7 +17,7 @@ import subprocess
 import sys
 import tempfile
 import typing
-from concurrent.futures import Executor, ProcessPoolExecutor, ThreadPoolExecutor
+from concurrent.futures import ProcessPoolExecutor, ThreadPoolExecutor
 from pathlib import Path
 from typing import Callable, Iterator
 
@@ -60,21 +60,15 @@ def pools() -> None:
     """A fault in a worker comes back to the caller."""
     copied = pickle.loads(pickle.dumps(raised(lambda: unifdef.strip(FAULTY, "-DA"))))
     check("a copy of a fault", is_fault(copied))
+    # A process that is spawned doesn't share the module's state.
     spawned = multiprocessing.get_context("spawn")
     with spawned.Pool(1) as pool:
         held = pool.apply_async(unifdef.strip, (FAULTY, "-DA"))
         check("a fault in a pool of processes", is_fault(raised(lambda: held.get(HANG))))
-    for kind in ProcessPoolExecutor, ThreadPoolExecutor:
-        with executor(kind) as pool:
+    for pool in ProcessPoolExecutor(1, mp_context=spawned), ThreadPoolExecutor(1):
+        with pool:
             future = pool.submit(unifdef.strip, FAULTY, "-DA")
-            check(f"a fault under {kind.__name__}", is_fault(future.exception(HANG)))
-
-
-def executor(kind: "type[Executor]") -> Executor:
-    """Returns a pool of one worker, whose process doesn't share the module's state."""
-    if kind is ProcessPoolExecutor:
-        return ProcessPoolExecutor(1, mp_context=multiprocessing.get_context("spawn"))
-    return ThreadPoolExecutor(1)
+            check(f"a fault under {type(pool).__name__}", is_fault(future.exception(HANG)))
 
 
 def chunks() -> None:
@@ -140,11 +134,9 @@ def buffers() -> None:
     check("pruned", unifdef.strip(text, "-UA", prune_conditions=True) == b"#if X\n#endif\n")
     check("not pruned", unifdef.strip(text, "-UA") == b"#if A || X\n#endif\n")
     check("pruned of nothing", unifdef.strip(b"", "-UA", prune_conditions=True) == b"")
-    with tempfile.TemporaryFile() as file:
-        file.write(longer)
-        file.flush()
-        with mmap.mmap(file.fileno(), 0, access=mmap.ACCESS_READ) as mapped:
-            check("mmap", unifdef.strip(mapped, "-UA") == b"y\n" * 40000)
+    with mmap.mmap(-1, len(longer)) as mapped:
+        mapped.write(longer)
+        check("mmap", unifdef.strip(mapped, "-UA") == b"y\n" * 40000)
 
 
 def long_texts() -> None:
@@ -168,12 +160,14 @@ class Named:
 
 def arguments() -> None:
     """An argument is a word or a path, and each option is one of its own."""
-    message = "unifdef: sub/a.c: 1: Inappropriate #endif\n"
-    for name in ("sub/a.c", b"sub/a.c", Path("sub", "a.c"), Named("sub/a.c")):
-        check(f"{name!r} names a file", unifdef.run(b"#endif\n", "-DA", name).message == message)
-    message = "unifdef: ./-UA: 1: Inappropriate #endif\n"
-    for path in (Path("-UA"), Named("-UA")):
-        check(f"{path!r} is no option", unifdef.run(b"#endif\n", "-DA", path).message == message)
+    for shown, *names in (
+        ("sub/a.c", "sub/a.c", b"sub/a.c", Path("sub", "a.c"), Named("sub/a.c")),
+        ("./-UA", Path("-UA"), Named("-UA")),
+    ):
+        for name in names:
+            message = unifdef.run(b"#endif\n", "-DA", name).message
+            is_named = message == f"unifdef: {shown}: 1: Inappropriate #endif\n"
+            check(f"{name!r} names the file {shown}", is_named)
     text = b"#ifdef A\nx\n#endif\n"
     check("a str is an option", unifdef.strip(text, "-DB", "-UA") == b"")
     check("a path decides nothing", unifdef.strip(text, "-DB", Path("-UA")) == text)
@@ -226,8 +220,7 @@ def hints() -> None:
 def as_program() -> None:
     text = b"#ifdef A\nx\n#endif\ny\n"
     with tempfile.TemporaryDirectory() as work:
-        with open(f"{work}/a.c", "wb") as it:
-            it.write(text)
+        Path(work, "a.c").write_bytes(text)
         for arguments, output, message, status in (
             (["-UA"], b"y\n", b"", 1),
             (["-x2", "-UA", "-"], b"y\n", b"", 0),
@@ -237,23 +230,16 @@ def as_program() -> None:
             (["-UA", f"{work}/b.c"], b"", b"No such file or directory\n", 2),
         ):
             command = [sys.executable, "-Bm", "unifdef", *arguments]
-            how = {"input": text, "capture_output": True, "check": False}
-            done = subprocess.run(command, cwd=sys.path[0], **how)
+            done = subprocess.run(command, cwd=sys.path[0], input=text, capture_output=True)
             said = (done.stdout, done.returncode) == (output, status)
             check(f"python3 -m unifdef {arguments}", said and done.stderr.endswith(message))
 
 
 def imported(library: str) -> str:
     """Returns what a process prints that imports the module with this library."""
-    program = (
-        "import sys; sys.path[:0] = [sys.argv[1]]\n"
-        "try: import unifdef\n"
-        "except ImportError as error: print(error)"
-    )
-    command = [sys.executable, "-Bc", program, sys.path[0]]
-    env = {**os.environ, "UNIFDEF_LIBRARY": library}
-    done = subprocess.run(command, env=env, check=True, stdout=subprocess.PIPE, text=True)
-    return done.stdout
+    program = "try: import unifdef\nexcept ImportError as error: print(error)"
+    env = {**os.environ, "UNIFDEF_LIBRARY": library, "PYTHONPATH": sys.path[0]}
+    return subprocess.check_output([sys.executable, "-Bc", program], env=env, text=True)
 
 
 def libraries() -> None:
