@@ -1,7 +1,7 @@
 """Draws the speeds of the bench as an SVG.
 
-chart.py FILE [--short]: draws the first table of the file whose columns are called NAME MB/s, as
-compare.py prints it and README.md has it. With --short it draws four rows and four programs.
+chart.py FILE [--short]: draws the first table of FILE whose columns are called NAME MB/s. With
+--short it draws four rows and four programs.
 """
 
 import sys

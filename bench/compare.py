@@ -1,6 +1,4 @@
-"""Measures unifdef programs and `cat` in turns, and prints tables.
-
-README.md in this directory describes it.
+"""Measures unifdef programs and `cat` in turns, and prints tables (README.md).
 
 compare.py WORK NAME=PROGRAM..: keeps texts and outputs in the directory WORK, and compares the
 others with the first program. The status is 1 if its memory isn't below MOST_KIB, on DEEP below

@@ -1,11 +1,8 @@
 """Compares a program with a reference on parts of the files of a tree, under random arguments.
 
-fronts.py PROGRAM REFERENCE TREE CASES SEED: tries CASES cases from SEED on. Each takes a file of
-the tree and cuts a part out of it at random positions. It makes arguments from the names in the
-part's conditions, and runs PROGRAM and REFERENCE. Their output, message and status must be the
-same. PROGRAM must end in time, by itself, with status 0, 1 or 2. It runs with a stack of 1 MiB.
-
-The first mismatch is printed, and its input is kept in the file `mismatch.c`.
+fronts.py PROGRAM REFERENCE TREE CASES SEED: tries CASES cases from SEED on. Their output, message
+and status must be the same. PROGRAM must end in time, by itself, with status 0, 1 or 2. It runs
+with a stack of 1 MiB. The input of the first mismatch is kept in the file `mismatch.c`.
 """
 
 import os

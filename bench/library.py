@@ -1,12 +1,7 @@
 """Measures the library's calls on a text in memory beside the program on the same text in a file.
 
-README.md in this directory describes it.
-
-library.py PROGRAM LIBRARY: prints a table of processor time, user and system together. The text is
-whole headers of the machine, again and again.
-
-BENCH_BYTES: the size of the text. BENCH_RUNS: the number of rounds. BENCH_HEADERS: the directory of
-the headers.
+library.py PROGRAM LIBRARY: prints a table of processor time, user and system together. BENCH_BYTES
+is the size of the text, of headers of BENCH_HEADERS, and BENCH_RUNS the number of rounds.
 """
 
 import ctypes

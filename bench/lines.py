@@ -1,14 +1,9 @@
 #!/usr/bin/env python3
 """Compares the numbers that a compiler gives to lines of C before and after ./unifdef -n and -b.
 
-    bench/lines.py [--cc CC] [--unifdef PROGRAM] [--seed N] [--count N] [PATH...]
-    bench/lines.py [--cc CC] [--unifdef PROGRAM] --fixed
-
-Of each file (by default the headers of /usr/include) the conditional directives stay as they are,
-with their comments and continuations. Every other line becomes a word of its own with `__LINE__`
-after it, and a third of the files gets carriage returns. `unifdef` and `cc -E -P` get the same
-definitions for some symbols of the conditions, as in selects.py. Then each line that the compiler
-selects of the output must have the number that it has in the input:
+As in selects.py, but a word has `__LINE__` after it, and a third of the files gets carriage
+returns. Each line that the compiler selects of the output must have the number that it has in the
+input:
 
 - under -b;
 - under -n, unless the last `#line` before it is in a group that the compiler skips: the compiler
@@ -16,8 +11,7 @@ selects of the output must have the number that it has in the input:
 - under each of them, and with -c, if the conditional directives are taken out, so that the
   compiler selects all groups.
 
-With --fixed the texts are those in this script. The status is 1 if any line is selected or numbered
-in another way.
+With --fixed the texts are those in this script. The status is 1 if a line differs.
 """
 
 import multiprocessing

@@ -1,14 +1,11 @@
 #!/usr/bin/env python3
-"""Compares what a compiler selects of small programs before and after ./unifdef-tree.
-
-    bench/programs.py [--cc CC] [--unifdef PROGRAM] [--seed N] [--count N]
+"""Compares what a compiler selects of small programs before and after ./unifdef-tree (README.md).
 
 Each program is made from the seed: a file and some headers, which define and undefine names and
 include each other in sections. Two names are those of the options, and the source leaves them
-alone. The output of `cc -E -P` for the program is compared with that for the outputs of
-`unifdef-tree`, without -p and with it. A second run must change nothing. If no condition names a
-symbol of the options any more, the compiler must select the same without it, and with any other
-value. The status is 1 if a program is selected in another way.
+alone. A second run must change nothing. If no condition names a symbol of the options any more, the
+compiler must select the same without it, and with any other value. The status is 1 if a program is
+selected in another way.
 """
 
 import multiprocessing

@@ -1,15 +1,11 @@
 #!/usr/bin/env python3
-"""Compares what a compiler selects of C files before and after ./unifdef.
+"""Compares what a compiler selects of C files before and after ./unifdef (README.md).
 
-    bench/selects.py [--cc CC] [--unifdef PROGRAM] [--prune PROGRAM] [--seed N] [--count N] [PATH..]
-
-The conditional directives of each file stay as they are, with their comments and continuations. The
-default files are the headers of /usr/include. The text of every other line becomes one word of its
-own. Then some symbols of the conditions are chosen at random for options. Each other one is left
-undefined or given a number. The output of `cc -E -P` for the text is compared with that for the
-output of `unifdef`. A text that the compiler rejects is left out, since some `#if` there has no
-value. With --prune, so is what that `unifdef-tree` makes of the text by `-p`, and a second run must
-change nothing. The status is 1 if any text is selected in another way, or changed by a second run.
+Of each file, the conditional directives stay as they are, with their comments and continuations,
+and every other line becomes one word. Some symbols are chosen at random for options; each other one
+is left undefined or given a number. A text that the compiler rejects is left out, since some `#if`
+there has no value. With --prune, a second run of that `unifdef-tree -p` must change nothing. The
+status is 1 if a text is selected in another way, or changed by a second run.
 """
 
 import argparse
