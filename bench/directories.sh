@@ -4,14 +4,10 @@
 #
 # directories.sh [DIRECTORY]: copies of the machine's headers by default. BENCH_COPIES: the number
 # of copies. BENCH_HEADERS: the directory of the headers. BENCH_RUNS: the number of runs.
-set -eu -o pipefail
-export LC_ALL=C
-program=$(realpath "$(dirname "$0")/../unifdef-tree")
-for needed in "$program" hyperfine; do
-  command -v "$needed" > /dev/null || { echo "bench: $needed is not there" >&2; exit 1; }
-done
-work=$(mktemp -d)
-trap 'rm -rf "$work"' EXIT
+# shellcheck source=bench/common.sh
+source "$(dirname "$0")/common.sh"
+program=$top/unifdef-tree
+needs "$program" hyperfine
 mkdir "$work/headers"
 for n in $([ $# -gt 0 ] || seq "${BENCH_COPIES:-7}"); do
   cp -r "${BENCH_HEADERS:-/usr/include}" "$work/headers/$n"
@@ -21,11 +17,11 @@ cd "${1:-$work/headers}"
 nowhere=-UNOFILEHASIT common=-U__cplusplus cat='find . -type f -exec cat {} +'
 commands=()
 for words in $nowhere "-q $nowhere" "-r $nowhere" "-p $nowhere" "-p -q $nowhere" -s "-n $nowhere" \
-  "-n $common" "-n -r $common" "-n -p $common"; do
+  "-n $common" "-n -p $common"; do
   commands+=(-n "unifdef-tree $words" "$program $words -- .")
 done
 released="find . -name *.[ch] -exec unifdef -m $nowhere {} +"
-for other in 'rg -uuu -j1 -l NOFILEHASIT .' 'rg -uuu -j1 -c __cplusplus .' "$released" "$cat"; do
+for other in 'rg -uuu -j1 -l NOFILEHASIT .' "$released" "$cat"; do
   [ "$other" != "$released" ] || command -v unifdef > /dev/null || continue
   ! command -v "${other%% *}" > /dev/null || commands+=(-n "$other" "$other")
 done

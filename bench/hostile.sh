@@ -3,11 +3,11 @@
 #
 # N: the number of cases. SEED: the first seed. JOBS: the number of processes. CHECKS: `options` to
 # check what users of options may rely on, in place of the reference.
-set -eu -o pipefail
-export LC_ALL=C
-program=$(dirname "$0")/../crates/test_runner/out/test_runner
+# shellcheck source=bench/common.sh
+source "$(dirname "$0")/common.sh"
+program=$top/crates/test_runner/out/test_runner
 cases=${N:-100000} seed=${SEED:-0} jobs=${JOBS:-$(nproc)} checks=${CHECKS:-}
-[ -x "$program" ] || { echo "hostile: $program is not there: run make hostile" >&2; exit 1; }
+needs "$program"
 
 # Each process takes ranges of cases in turn, so that none waits long for the others, and says how
 # many it tried. No line ends in a space, after which xargs takes the next line to be a part of it.

@@ -1,15 +1,10 @@
 #!/usr/bin/env bash
 # Counts the conditions of real sources that still name a removed symbol, after a run of
 # ./unifdef-tree without -p and with it. README.md in this directory describes it.
-set -eu -o pipefail
-export LC_ALL=C
-here=$(cd "$(dirname "$0")" && pwd)
-program=$(dirname "$here")/unifdef-tree
-[ -x "$program" ] || { echo "pruned: $program is not there: run make unifdef-tree" >&2; exit 1; }
-work=$(mktemp -d)
-trap 'rm -rf "$work"' EXIT
-# shellcheck source=bench/debian.sh
-source "$here/debian.sh"
+# shellcheck source=bench/common.sh
+source "$(dirname "$0")/common.sh"
+program=$top/unifdef-tree
+needs "$program"
 
 # run WORD..: runs the program in the directory of a source.
 run() { (cd "$directory" && "$program" -x2 "$@" -- .) > /dev/null 2> "$work/said"; }

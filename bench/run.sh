@@ -5,15 +5,10 @@
 # BENCH_BYTES: the size of each text. BENCH_RUNS: the number of rounds. BENCH_FILES: the number of
 # small files. BENCH_HEADERS, BENCH_SOURCES: the directories of headers and C sources. BENCH_NEWER:
 # a newer unifdef.
-set -eu -o pipefail
-export LC_ALL=C
-here=$(cd "$(dirname "$0")" && pwd)
-program=$(dirname "$here")/unifdef
-[ -x "$program" ] || { echo "bench: $program is not there: run make" >&2; exit 1; }
-work=$(mktemp -d)
-trap 'rm -rf "$work"' EXIT
-# shellcheck source=bench/debian.sh
-source "$here/debian.sh"
+# shellcheck source=bench/common.sh
+source "$(dirname "$0")/common.sh"
+program=$top/unifdef
+needs "$program"
 
 # Unpacks the program of Debian 13, and tries it: it may need another C library.
 newer() {

@@ -4,16 +4,11 @@
 #
 # TREES_WORDS: the options. TREES_INCLUDE: the directory of the headers. TREES_SOURCE: a source
 # tree, instead of Debian's kernel.
-set -eu -o pipefail
-export LC_ALL=C
-here=$(dirname "$0") program=$(realpath "$(dirname "$0")/../unifdef")
+# shellcheck source=bench/common.sh
+source "$(dirname "$0")/common.sh"
 read -r -a words <<< "${TREES_WORDS:--U__KERNEL__ -DCONFIG_SMP}"
-source=${TREES_SOURCE:-}
-[ -x "$program" ] || { echo "trees: $program is not there: run make" >&2; exit 1; }
-work=$(mktemp -d)
-trap 'rm -rf "$work"' EXIT
-# shellcheck source=bench/debian.sh
-source "$here/debian.sh"
+program=$top/unifdef source=${TREES_SOURCE:-}
+needs "$program"
 released >&2
 
 # Fetches the C files of the kernel's source as Debian packs it. The package isn't installed.

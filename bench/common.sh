@@ -1,6 +1,20 @@
 #!/usr/bin/env bash
-# Package lists and sources of Debian, for the scripts that read this file.
-# shellcheck disable=SC2154 # They set `work`, a temporary directory.
+# What the scripts of this directory share: they read this file.
+# shellcheck disable=SC2034 # Some of these are for the scripts that read it.
+set -eu -o pipefail
+export LC_ALL=C
+here=$(cd "$(dirname "$0")" && pwd)
+top=$(dirname "$here") name=$(basename "$0" .sh)
+work=$(mktemp -d)
+trap 'rm -rf "$work"' EXIT
+
+# needs PROGRAM..: fails if one isn't there.
+needs() {
+  local it
+  for it; do
+    command -v "$it" > /dev/null || { echo "$name: $it is not there" >&2; exit 1; }
+  done
+}
 
 # Installs Debian's program, if it is missing.
 released() {
