@@ -1,5 +1,5 @@
 #!/usr/bin/env bash
-# The parts of Debian packages that deb.sh and deb-lib.sh share: they read this file.
+# What deb.sh, deb-lib.sh and release.sh share: they read this file.
 #
 # The same files give the same packages, byte by byte: times are SOURCE_DATE_EPOCH or, without it,
 # the time of the last commit. The maintainer is DEBFULLNAME and DEBEMAIL, or who made that commit.

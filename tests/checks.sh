@@ -1,7 +1,7 @@
 #!/usr/bin/env bash
 # What the tests of packages, completions and hooks share. They read this file, and are then at the
 # top of the repository, with a directory of their own in $work.
-# shellcheck disable=SC2034 # Some of these are for the scripts that read this file.
+# shellcheck disable=SC2034,SC2154 # Some of these are for the scripts that read this file, or theirs.
 set -u -o pipefail
 export LC_ALL=C
 unset MAKEFLAGS MAKELEVEL
@@ -71,5 +71,17 @@ each_same() {
   local it
   for it in "${@:2}"; do
     cmp "$1/$it" "$it" || return 1
+  done
+}
+
+# made_again TARGET COMMAND..: ${packages[@]}, which are there, are the same if they are made again.
+made_again() {
+  local it
+  mkdir "$work/made"
+  cp "${packages[@]}" "$work/made"
+  check "$1: again" "${@:2}"
+  check "$1: the same bytes" each_same "$work/made" "${packages[@]}"
+  for it in "${packages[@]}"; do
+    check "$it: lintian" quiet_lintian "$it"
   done
 }

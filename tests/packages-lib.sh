@@ -109,13 +109,7 @@ directory=usr/lib/$("${cc[@]}" -print-multiarch) architecture=$(dpkg --print-arc
 packages=({libunifdef1,libunifdef-dev}"_${version}_$architecture.deb"
   "python3-unifdef_${version}_all.deb")
 check deb-lib same "$(make_lib deb-lib)" "$(lines "${packages[@]}")"
-mkdir "$work/first"
-cp "${packages[@]}" "$work/first"
-check 'deb-lib: again' env CC="env ${cc[*]}" "$make" -s -o lib/libunifdef.a deb-lib
-check 'deb-lib: the same bytes' each_same "$work/first" "${packages[@]}"
-for package in "${packages[@]}"; do
-  check "$package: lintian" quiet_lintian "$package"
-done
+made_again deb-lib env CC="env ${cc[*]}" "$make" -s -o lib/libunifdef.a deb-lib
 
 # An unpacked tarball within the repository of somebody else, which has no commit of its own.
 copy=$work/theirs/copy

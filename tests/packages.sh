@@ -102,18 +102,12 @@ fi
 if has dpkg-deb && has objdump; then
   packages=({unifdef-tree,unifdef-proved}"_${version}_$(dpkg --print-architecture).deb")
   check deb same "$(make_with deb)" "$(lines "${packages[@]}")"
-  mkdir "$work/made"
-  cp "${packages[@]}" "$work/made"
-  check 'deb: again' make_with deb
-  check 'deb: the same bytes' each_same "$work/made" "${packages[@]}"
+  made_again deb make_with deb
   # Each file system counts its own blocks for a file.
   if [ -w /dev/shm ] && [ "$(stat -fc %T /dev/shm)" != "$(stat -fc %T "$work")" ]; then
     check 'deb: in memory' env TMPDIR=/dev/shm "$make" -s -o unifdef -o unifdef-tree deb
     check 'deb: the same bytes in memory' each_same "$work/made" "${packages[@]}"
   fi
-  for package in "${packages[@]}"; do
-    check "$package: lintian" quiet_lintian "$package"
-  done
   new_root
   is_installed() { in_root -s "$1" | grep -qx 'Status: install ok installed'; }
   check 'deb: installs' in_root -i "${packages[@]/#/$here/}"
