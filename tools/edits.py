@@ -40,6 +40,7 @@ import subprocess
 import sys
 import tempfile
 import time
+from pathlib import Path
 
 from files import text_of
 from gate import is_of_gate, jobs
@@ -78,36 +79,29 @@ UNPROVED = re.compile(r"fn \S+: (?:not proved|no proof)")
 NAME = re.compile(r"has no field|is not in scope|has no `|was not admitted")
 
 
-# A function of a source file, with the first line of the item and of the body, counted from 1.
-Function = collections.namedtuple("Function", "path name first body last")
+# A function of a source file, with the numbers of its first and its last line. The lines after
+# `head` are of the function alone: those of its body, or of a law's contract too.
+Function = collections.namedtuple("Function", "path name first head last")
 
 
 def functions_of(path, text):
     """Returns the functions of a file, by the layout of `rt fmt`: a function begins with its
     attributes, and ends at the first brace as deep as its `fn`."""
     lines, found = text.split("\n"), []
-    for begin, line in enumerate(lines):
-        head = FUNCTION.match(line)
-        if not head:
+    for begin, line in enumerate(lines, 1):
+        named = FUNCTION.match(line)
+        if not named:
             continue
-        deep, first, body = head[1], begin, begin
-        while first > 0 and re.match(rf"{deep}[^\s}}].*[^;{{}}]$|{deep}\s", lines[first - 1]):
+        (deep, name), first = named.groups(), begin
+        while first > 1 and re.match(rf"{deep}[^\s}}].*[^;{{}}]$|{deep}\s", lines[first - 2]):
             first -= 1
-        while body < len(lines) and not re.match(rf"{deep}(\S.*)?\{{\}}?$", lines[body]):
-            body += 1
-        last = body
-        while last < len(lines) and not re.match(rf"{deep}(\S.*\{{)?\{{?\}}$", lines[last]):
-            last += 1
-        if last < len(lines):
-            found.append(Function(path, head[2], first + 1, body + 1, last + 1))
+        below = list(enumerate(lines[begin - 1 :], begin))
+        body = next((n for n, it in below if re.match(rf"{deep}(\S.*)?\{{\}}?$", it)), begin)
+        ends = (n for n, it in below if re.match(rf"{deep}(\S.*\{{)?\{{?\}}$", it) and n >= body)
+        last, head = next(ends, None), first if name.startswith("law_") else body
+        if last:
+            found.append(Function(path, name, first, head, last))
     return found
-
-
-def owns(function, line):
-    """Returns whether an edit of a line is of this function alone: in its body, or in a law's
-    contract."""
-    above = function.first if function.name.startswith("law_") else function.body
-    return above < line < function.last
 
 
 class Edit:
@@ -137,7 +131,7 @@ class Edit:
                 return None
             line = text[: text.index(old)].count("\n") + 1
             functions = functions_of(path, text) if path.startswith("src/") else []
-            inside = [it for it in functions if owns(it, line)]
+            inside = [it for it in functions if it.head < line < it.last]
             changed |= {(it.path, it.name) for it in inside[-1:]}
             is_inside &= bool(inside)
             texts[path] = text.replace(old, new)
@@ -188,8 +182,7 @@ class Room:
 
     def write(self, texts):
         for path, text in texts.items():
-            with open(f"{self.directory}/{path}", "w", encoding="utf-8") as it:
-                it.write(text)
+            Path(self.directory, path).write_text(text, encoding="utf-8")
 
     def check(self, texts):
         own = {path: self.read(path) for path in texts}
@@ -359,17 +352,15 @@ def edits_of(top, crate, directories):
     """Returns the edits in some directories of a crate, and a message for each that can't be
     tried."""
     at, good, bad, names = f"{top}/crates/{crate}", [], [], set()
-    for directory in directories:
-        found = os.listdir(f"{at}/{directory}") if os.path.isdir(f"{at}/{directory}") else []
-        files = [it for it in sorted(found) if it.endswith(".edit")]
-        for edit in [Edit(f"{at}/{directory}/{it}") for it in files]:
-            if edit.name in names:
-                bad.append(f"{BAD} {crate}/{edit.name}: another edit has this name")
-            elif not edit.apply({}, lambda path: text_of(f"{at}/{path}", "")):
-                bad.append(f"{BAD} {crate}/{edit.name}: an old text isn't there exactly once")
-            else:
-                good.append(edit)
-            names.add(edit.name)
+    files = [it for place in directories for it in sorted(glob.glob(f"{at}/{place}/*.edit"))]
+    for edit in map(Edit, files):
+        if edit.name in names:
+            bad.append(f"{BAD} {crate}/{edit.name}: another edit has this name")
+        elif not edit.apply({}, lambda path: text_of(f"{at}/{path}", "")):
+            bad.append(f"{BAD} {crate}/{edit.name}: an old text isn't there exactly once")
+        else:
+            good.append(edit)
+        names.add(edit.name)
     return good, bad
 
 
@@ -414,15 +405,6 @@ def run_all(crates, used, directories, alone):
     return count
 
 
-def read_all(used):
-    """Reads the edits of all crates. Returns 1 if some can't be tried."""
-    edits = [edits_of(HERE, crate, DIRECTORIES) for crate in used]
-    bad = [it for _, messages in edits for it in messages]
-    say(*bad)
-    print(f"edits: {sum(len(good) for good, _ in edits)} can be tried, {len(bad)} can't")
-    return 1 if bad else 0
-
-
 def main():
     how = {"usage": argparse.SUPPRESS, "formatter_class": argparse.RawDescriptionHelpFormatter}
     parser = argparse.ArgumentParser(description=__doc__, **how)
@@ -431,7 +413,9 @@ def main():
         parser.add_argument(flag, action="store_true")
     options, used = parser.parse_args(), libraries()
     if options.read:
-        return read_all(used)
+        good, bad = (sum(it, []) for it in zip(*[edits_of(HERE, it, DIRECTORIES) for it in used]))
+        say(*bad, f"edits: {len(good)} can be tried, {len(bad)} can't")
+        return 1 if bad else 0
     unknown = [it for it in options.crates if it not in used]
     if unknown:
         return f"edits: crates.txt has no crate {unknown[0]}"
