@@ -2,12 +2,9 @@
 """Runs the cases that say what unifdef 2.10 does instead, with both programs, and unifdef2 with
 calls that 2.10 takes.
 
-    tests/differences.py [PROGRAM [RELEASED ..]]
-
-PROGRAM is ./unifdef by default. The released programs are those of the arguments or, without them,
-the first unifdef on PATH whose -V reports 2.10, and the first one that reports 2.12. One that isn't
-there is left out. Each example of docs/DIFFERENCES.md must be a case. 2.12 gives what the
-example says of it, or else what 2.10 gives.
+The released programs are the first unifdef on PATH whose -V reports 2.10, and the first one that
+reports 2.12. One that isn't there is left out. Each example of docs/DIFFERENCES.md must be a case.
+2.12 gives what the example says of it, or else what 2.10 gives.
 """
 
 import contextlib
@@ -178,16 +175,11 @@ def results(program: Path, released: Optional[Path], new: Optional[Path]) -> Ite
 
 
 def main() -> int:
-    program = Path(sys.argv[1] if len(sys.argv) > 1 else TOP / "unifdef").resolve()
+    program = TOP / "unifdef"
     if not os.access(program, os.X_OK):
         print(f"differences: {program} is not there: run make", file=sys.stderr)
         return 1
-    programs = [Path(name).resolve() for name in sys.argv[2:]]
-    for name in programs:
-        if not is_released(name, OLD) and not is_released(name, NEW):
-            print(f"differences: {name} is no unifdef {OLD} or {NEW}", file=sys.stderr)
-            return 1
-    programs = programs or [Path(directory) / "unifdef" for directory in os.get_exec_path()]
+    programs = [Path(directory) / "unifdef" for directory in os.get_exec_path()]
     released, new = (next((it for it in programs if is_released(it, v)), None) for v in (OLD, NEW))
     for version, there in ((OLD, released), (NEW, new)):
         if not there:
