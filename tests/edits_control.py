@@ -45,13 +45,6 @@ pub fn origin() -> u32
     zero
 }
 
-/// Returns a number that isn't larger.
-pub fn part(a: u32) -> u32
-    ensures { result ≤ a }
-{
-    a / 2
-}
-
 pub fn same(a: u32) -> u32
     ensures { result ≡ a }
 {
@@ -144,7 +137,6 @@ use Rattle.control.proofs.{name}.Goals as goal
 pub returns : goal.returns
 returns c = pow_mono (div-le_self c.args.a {divisor})
 """
-DIVISORS = {"half": 2, "third": 3}
 
 # The name of each edit, with its old and its new text.
 WRONG = {
@@ -194,16 +186,16 @@ def main():
         write(f"{top}/crates/lower/specs/Steps.antt", STEPS)
         write(f"{top}/HANDLES", "Handles allowed: none.\n")
         write(f"{crate}/src/lib.rt", SOURCE)
-        for name, divisor in DIVISORS.items():
+        for name, divisor in {"half": 2, "third": 3}.items():
             answers = ANSWERS.format(name=name, divisor=divisor)
             write(f"{crate}/proofs/{name}/Answers.antt", answers)
-        write_edits(f"{crate}/must-fail", {**WRONG, **RIGHT, **UNDECIDED, **BROKEN})
-        write_edits(f"{crate}/must-fail", {**WRONG_BELOW, **RIGHT_BELOW}, BELOW)
+        write_edits(f"{crate}/must-fail", WRONG | RIGHT | UNDECIDED | BROKEN)
+        write_edits(f"{crate}/must-fail", WRONG_BELOW | RIGHT_BELOW, BELOW)
         write_edits(f"{crate}/must-fail-second", UNREADABLE)
         found = run(top, "control", ["lower"], ["must-fail"], False)
         unread = edits_of(top, "control", ["must-fail", "must-fail-second"])[1]
-    wanted = {REFUSED: {**WRONG, **WRONG_BELOW}, OPEN: UNDECIDED}
-    wanted |= {PROVED: {**RIGHT, **RIGHT_BELOW}, BAD: BROKEN}
+    wanted = {REFUSED: WRONG | WRONG_BELOW, OPEN: UNDECIDED, PROVED: RIGHT | RIGHT_BELOW}
+    wanted[BAD] = BROKEN
     is_right = all(sorted(found[it]) == sorted(names) for it, names in wanted.items())
     if not is_right or len(unread) != 2:
         return "edits-test: FAILED: not exactly the wrong edits are refused"
