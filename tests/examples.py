@@ -5,21 +5,19 @@
                                     by default
 
 An example of a page is a block that begins with ```console. A line that begins with "$ " is a
-command, and the lines up to the next command are its output, on either stream. Further lines of a
-command begin with "> ". The commands of a block run in order, each where the one before it left
-off, in a directory of their own with ./unifdef and ./unifdef-tree, which is on PATH. The rest of a
-block is left out if a command needs a tool that isn't there, or if the block begins with a header
-of the machine that is another one here.
+command, further lines of which begin with "> ". The lines up to the next command are its output, on
+either stream. The commands of a block run in order, in a directory of their own with the
+programs. The rest of a block is left out if a command needs a tool that isn't there, or if the
+block begins with a header of the machine that is another one here.
 
 Under OPTIONS of the manual, a line has the arguments, a colon, two spaces and the input; the line
 after it has "gives:", the status and, after two spaces, the output. Under EXAMPLES there are
-commands, each of which changes its text. The examples of docs/DIFFERENCES.md are cases, which
-differences.py runs.
+commands, each of which changes its text.
 
-The code of the library's examples is that of crates/example_library, which is proved and run: in
-docs/LIBRARY.md and the `///` and `//!` comments of all crates, the lines of a ```rust block must be
-consecutive lines of a source there. Those of a ```text block, or of one without a language, must be
-consecutive lines of its stdout. Indentation is ignored.
+In docs/LIBRARY.md and the `///` and `//!` comments of all crates, the lines of a ```rust block must
+be consecutive lines of a source of crates/example_library, which is proved and run. Those of a
+```text block, or of one without a language, must be consecutive lines of its stdout. Indentation is
+ignored.
 """
 import difflib
 import os

@@ -4,12 +4,11 @@
     tools/gate.py     RT is Rattle's command, RT_JOBS how many checks run side by side
 
 Without RT_JOBS, one check runs for each processor, as far as there is memory for it. All lines of
-`rt ci` go to gate.log. Of these, what a crate's check says is printed only if the crate isn't
-proved. The last line is that of `rt ci`, and so is the status.
+`rt ci` go to gate.log. What a crate's check says is printed only if the crate isn't proved. The
+last line is that of `rt ci`, and so is the status.
 
 `rt ci` runs in a copy of the crates, without the edits that tools/edits.py tries. The programs that
-it proves and builds are copied back, with their times. If it succeeds, ./unifdef and ./unifdef-tree
-are copies of them, too: make finds these up to date, if no source was changed meanwhile.
+it builds are copied back, with their times; if it succeeds, also to ./unifdef and ./unifdef-tree.
 """
 import glob
 import os

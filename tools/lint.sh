@@ -1,9 +1,6 @@
 #!/usr/bin/env bash
-# Checks the version, the manuals by mandoc, the scripts by shellcheck and flake8, the spelling by
-# codespell, the language of comments and pages by tools/style.py, the names in pages by
-# tools/names.py, how much there is to read by tools/reading.py, by tools/edits.py that each edit
-# that the prover must refuse can be applied, and by `rt fmt` that the gate finds each crate in its
-# layout. A linter that isn't there is left out.
+# Checks all that a program can check of manuals, scripts, comments and pages (`make manuals`). A
+# linter that isn't there is left out.
 set -u
 cd "$(dirname "$0")/.." || exit 1
 result=0

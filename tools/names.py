@@ -14,12 +14,8 @@ looked for in backquotes, outside of code blocks:
     law_lines, LineBuffer, Engine      a word of some source, a file's stem, or an edit
     answer, ended                      a clause's label, in a table's column "Clause"
 
-So are the files and headings to which links lead.
-
-Other words have no `_`, no capital inside, and aren't one capitalized word: they are skipped. A
-comment is no source.
-
-Without PAGE, it also checks that the manual has each message of the program under DIAGNOSTICS.
+Other words are skipped. A comment is no source. The files and headings to which links lead must be
+there too and, without PAGE, each message of the program in the manual under DIAGNOSTICS.
 """
 import os
 import re

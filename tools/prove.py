@@ -10,8 +10,6 @@ come first. What a crate prints is shown only if it fails, and then the others a
 Rattle's command locks the directory of a crate, and those of the crates below it, while it proves
 it. So each crate is proved in a directory of its own, with links to its files and to what the
 crates below have become, and what it becomes is moved back.
-
-Says on the error stream what begins, and what has ended after how long.
 """
 import contextlib
 import os

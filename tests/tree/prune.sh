@@ -138,7 +138,6 @@ test_pruned_over_lines() {
     folds "$stays" "$stays"
   done
   tree -p -r -UVMS src
-  # shellcheck disable=SC1003 # The backslash belongs to the line.
   prints 'src/a.c:1: over several lines: #if !VMS || \'
   folds '#if X || \\\n  VMS\n#endif\n' '#if X || \\\n  VMS\n#endif\n' '-b -UVMS'
   put src/a.c '#if F(VMS, \\\n  X)\n#endif\n#if VMS || A || \\\n X + VMS\n#else /* no\n VMS */
