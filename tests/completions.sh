@@ -89,10 +89,10 @@ for shell in bash zsh fish; do
   offers "$shell" 'unifdef-tree -D A -b -- -' "$files" '-[knrq]'
   [ "$shell" = zsh ] || offers "$shell" 'unifdef -bU A a.h -' "$files" '-[kn]'
   offers "$shell" 'unifdef-tree -DA=1 -bi DA -' -q OTHER
+  # A value may follow the name after -D, so no space does.
   case $shell in
     bash)
       offers bash 'unifdef -iDDE' -iDDEEP -iDOTHER
-      # A value may follow the name, so no space does.
       offers bash 'unifdef -DDE' nospace -DOTHER
       offers bash 'unifdef-tree -D DE' nospace OTHER
       offers bash 'unifdef -UDE' -UDEBUG nospace
@@ -100,7 +100,6 @@ for shell in bash zsh fish; do
     zsh) offers zsh 'unifdef -iDDE' DEEP OTHER ;;
     fish)
       offers fish 'unifdef -iDDE' -iDDEEP -iDOTHER
-      # A value may follow the name, so no space does.
       offers fish 'unifdef-tree -DDE' -DDEBUG= -DOTHER=
       offers fish 'unifdef -UDE' -UDEBUG -UDEBUG=
       ;;

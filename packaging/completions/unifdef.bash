@@ -52,26 +52,17 @@ _unifdef() {
   local typed=${COMP_WORDS[COMP_CWORD]} before=${COMP_WORDS[COMP_CWORD - 1]} command=${COMP_WORDS[0]##*/}
   COMPREPLY=()
   ! _unifdef_ended || return 0
-  case $before in
-    -D | -U)
-      _unifdef_symbol "$command" '' "$before"
-      return
-      ;;
-    -i)
+  case "$before $typed" in
+    '-D '* | '-U '*) _unifdef_symbol "$command" '' "$before" ;;
+    '-i '*)
       _unifdef_after '' 'D U'
       compopt -o nospace 2> /dev/null || true
-      return
       ;;
-    -x)
-      _unifdef_after '' '0 1 2'
-      return
-      ;;
-    -g) return ;;
-  esac
-  case $typed in
-    -iD* | -iU*) _unifdef_symbol "$command" "${typed:0:3}" "${typed:0:3}" ;;
-    -D* | -U*) _unifdef_symbol "$command" "${typed:0:2}" "${typed:0:2}" ;;
-    -*)
+    '-x '*) _unifdef_after '' '0 1 2' ;;
+    '-g '*) ;;
+    *' -i'[DU]*) _unifdef_symbol "$command" "${typed:0:3}" "${typed:0:3}" ;;
+    *' -'[DU]*) _unifdef_symbol "$command" "${typed:0:2}" "${typed:0:2}" ;;
+    *' -'*)
       if [ "$command" = unifdef-tree ]; then
         _unifdef_after '' '-0 -B -b -c -D -d -g -h -iD -iU -K -k -l -n -p -q -r -s -t -U -V -w -x0 -x1 -x2 -- --help --version'
       else
