@@ -155,13 +155,13 @@ def has_ended(process, seconds):
         return False
 
 
-class Room:
-    """A directory with a crate and those below it, where nothing else is proved."""
+class Run:
+    """The check of one crate, in a directory with it and those below it, where nothing else is
+    proved."""
 
-    def __init__(self, crate, below):
-        self.crate = crate
-        self.top = tempfile.mkdtemp(prefix=".prove-", dir=HERE)
-        self.directory = f"{self.top}/crates/{crate}"
+    def __init__(self, crate, below, jobs, commands):
+        self.crate, self.jobs, self.begin = crate, jobs, time.monotonic()
+        self.log, self.top = tempfile.TemporaryFile(), tempfile.mkdtemp(prefix=".prove-", dir=HERE)
         found_repository(HERE, self.top, (*below, crate))
         for it in (*below, crate):
             source, target = f"{HERE}/crates/{it}", f"{self.top}/crates/{it}"
@@ -170,8 +170,16 @@ class Room:
             if it != crate:
                 shutil.copytree(f"{source}/out/rlib", f"{target}/out/rlib", copy_function=link)
         self.move_out(HERE, self.top)
+        directory, words = f"{self.top}/crates/{crate}", ["lib", "--jobs", str(jobs)]
+        if os.path.exists(f"{directory}/src/main.rt"):
+            # `rt run` proves and builds before it runs. The words of the stored run give status 0.
+            words = ["run", *words[1:], *(["--cpu", CPU] if CPU else []), "--"]
+            words += text_of(f"{directory}/args", "").splitlines()
+        how = {"stdin": subprocess.DEVNULL, "stdout": self.log, "stderr": self.log}
+        self.process = commands.start([RT, *words], cwd=directory, **how)
 
     def move_out(self, source, target):
+        """Moves what was made of the crate."""
         made, place = (f"{top}/crates/{self.crate}/out" for top in (source, target))
         if os.path.isdir(made):
             shutil.rmtree(place, ignore_errors=True)
@@ -181,22 +189,6 @@ class Room:
         """Moves what was made of the crate back, and removes the directory."""
         self.move_out(self.top, HERE)
         shutil.rmtree(self.top, ignore_errors=True)
-
-
-class Run:
-    """The check of one crate, from its start to its end."""
-
-    def __init__(self, crate, below, jobs, commands):
-        self.crate, self.jobs, self.begin = crate, jobs, time.monotonic()
-        self.log = tempfile.TemporaryFile()
-        self.room = Room(crate, below)
-        directory, words = self.room.directory, ["lib", "--jobs", str(jobs)]
-        if os.path.exists(f"{directory}/src/main.rt"):
-            # `rt run` proves and builds before it runs. The words of the stored run give status 0.
-            words = ["run", *words[1:], *(["--cpu", CPU] if CPU else []), "--"]
-            words += text_of(f"{directory}/args", "").splitlines()
-        how = {"stdin": subprocess.DEVNULL, "stdout": self.log, "stderr": self.log}
-        self.process = commands.start([RT, *words], cwd=directory, **how)
 
 
 class Build:
@@ -240,7 +232,7 @@ class Build:
     def end(self, run):
         """Notes that a check has ended, and returns whether the crate is proved."""
         self.running.remove(run)
-        run.room.leave()
+        run.leave()
         status = run.process.returncode
         if status:
             run.log.seek(0)
@@ -263,7 +255,7 @@ class Build:
         finally:
             self.commands.stop()
             for it in self.running:
-                it.room.leave()
+                it.leave()
 
 
 if __name__ == "__main__":
