@@ -20,11 +20,10 @@ import re
 import shutil
 import subprocess
 import sys
-from collections import Counter
 from pathlib import Path
 
 from selects import CONDITIONAL, bare, chosen, code_of, jobs_of, logical_lines, neutral
-from selects import parser_of, selected, shown
+from selects import parser_of, report, selected, shown
 
 WORD = b"line_%d __LINE__ "
 RENUMBERED = re.compile(rb"#line (\d+)\s*$")
@@ -119,7 +118,7 @@ def compare(job):
         source = source.replace(b"\n", b"\r\n")
     options, arguments = chosen(conditions, rng)
     how, difference, *counts = check(cc, unifdef, options, arguments, source)
-    return how, f"{path}, seed {seed}: {shown(options)}", difference, counts
+    return how, f"{path}, seed {seed}: {shown(options)}: {difference}", *counts
 
 
 def compare_fixed(cc, unifdef):
@@ -130,21 +129,14 @@ def compare_fixed(cc, unifdef):
         for world in ([], ["-DX"], ["-DX", "-DY"]):
             arguments = [o for o in symbols if o.startswith("-D")] + world
             how, difference, *counts = check(cc, unifdef, symbols, arguments, source)
-            yield how, f"{options} {' '.join(world)}: {text!r}", difference, counts
+            yield how, f"{options} {' '.join(world)}: {text!r}: {difference}", *counts
 
 
-def report(results, what):
-    hows, sums = Counter(), [0, 0]
-    for how, where, difference, counts in results:
-        hows[how] += 1
-        sums = [it + more for it, more in zip(sums, counts)]
-        if difference is not None:
-            print(f"{where}: {difference}", flush=True)
-    each = ", ".join(f"{n} {how}" for how, n in sorted(hows.items()))
-    print(f"{sum(hows.values())} {what}: {each}")
+def tell(results, what):
+    sums, status = report(results, what)
     other = "have another number after a #line that the compiler skips"
     print(f"{sums[0]} lines compared; {sums[1]} {other}")
-    return 1 if "numbered in another way" in hows else 0
+    sys.exit(status)
 
 
 def main():
@@ -154,9 +146,9 @@ def main():
     if args.fixed and not shutil.which(args.cc):
         sys.exit(print(f"lines: left out, since {args.cc} is not there"))
     if args.fixed:
-        sys.exit(report(compare_fixed(args.cc, args.unifdef), "texts"))
+        tell(compare_fixed(args.cc, args.unifdef), "texts")
     with multiprocessing.Pool() as pool:
-        sys.exit(report(pool.imap_unordered(compare, jobs_of(args), chunksize=16), "files"))
+        tell(pool.imap_unordered(compare, jobs_of(args), chunksize=16), "files")
 
 
 if __name__ == "__main__":

@@ -17,7 +17,7 @@ import sys
 import tempfile
 from pathlib import Path
 
-from selects import parser_of, selected
+from selects import parser_of, report, selected
 
 DECIDED, OTHERS = ("A", "B"), ("C", "D", "E", "F")
 FORMS = ("defined({})", "!defined({})", "defined {}", "{}", "!{}", "{} > 1", "({} == 2)")
@@ -67,7 +67,7 @@ def run(tree, arguments, directory):
 
 
 def compare(job):
-    """Returns what is wrong with a program, or None; and how many symbols were gone from it."""
+    """Returns whether a program is right, what it is, and how many symbols were gone from it."""
     seed, cc, tree = job
     rng = random.Random(seed)
     names = ["main.c", "h1.h", "h2.h", "h3.h"]
@@ -77,17 +77,18 @@ def compare(job):
     others = [f"-D{n}={rng.randrange(4)}" for n in OTHERS if rng.randrange(2)]
     gone = 0
     for prune in ([], ["-p"]):
+        of = f"seed {seed}: {prune} {options}:"
         with tempfile.TemporaryDirectory() as directory:
             for name, text in files.items():
                 Path(directory, name).write_text(text, encoding="ascii")
             main_file = f"{directory}/main.c"
             before = selected(cc, options + others, path=main_file)
             if run(tree, prune + options, directory) == 2:
-                return f"seed {seed}: {prune} {options}: a fault", gone
+                return "wrong", f"{of} a fault", gone
             if selected(cc, options + others, path=main_file) != before:
-                return f"seed {seed}: {prune} {options}: selected in another way", gone
+                return "selected in another way", of, gone
             if run(tree, prune + options, directory) != 0:
-                return f"seed {seed}: {prune} {options}: changed by a second run", gone
+                return "changed by a second run", of, gone
             texts = "".join(it.read_text(encoding="ascii") for it in Path(directory).iterdir())
             named = " ".join(CONDITION.findall(texts))
             for i, name in enumerate(DECIDED):
@@ -97,8 +98,8 @@ def compare(job):
                 rest = options[:i] + options[i + 1 :] + others
                 for other in ([], [f"-D{name}=0"], [f"-D{name}=3"]):
                     if selected(cc, rest + other, path=main_file) != before:
-                        return f"seed {seed}: {prune} {options}: {name} isn't gone", gone
-    return None, gone
+                        return "wrong", f"{of} {name} isn't gone", gone
+    return "right", "", gone
 
 
 def main():
@@ -107,15 +108,10 @@ def main():
     args = parser.parse_args()
     tree = os.path.realpath(args.unifdef)
     jobs = [(args.seed * 10**6 + i, args.cc, tree) for i in range(args.count)]
-    wrong = gone = 0
     with multiprocessing.Pool() as pool:
-        for told, found in pool.imap_unordered(compare, jobs, chunksize=8):
-            gone += found
-            if told:
-                wrong += 1
-                print(told, flush=True)
-    print(f"{len(jobs)} programs: {wrong} wrong; {gone} times a symbol was gone")
-    sys.exit(1 if wrong else 0)
+        sums, status = report(pool.imap_unordered(compare, jobs, chunksize=8), "programs")
+    print(f"{sums[0]} times a symbol was gone")
+    sys.exit(status)
 
 
 if __name__ == "__main__":

@@ -32,7 +32,8 @@ NOT_CHOSEN = re.compile(
     rb"defined$|__(has_|is_|STDC|LINE__|FILE__|COUNTER__|INCLUDE_LEVEL__|DATE__|TIME__)"
 )
 
-WRONG = ("selected in another way", "changed by a second run")
+# The kinds of results that a comparison must not have.
+WRONG = ("selected in another way", "changed by a second run", "numbered in another way", "wrong")
 
 
 def logical_lines(text):
@@ -124,22 +125,23 @@ def compare(job):
     source, conditions = neutral(Path(path).read_bytes())
     options, arguments = chosen(conditions, rng)
     run = subprocess.run([unifdef, *options], input=source, capture_output=True)
+    of = f"{path}, seed {seed}: {shown(options)}"
     if run.returncode == 2:
-        return "faulty", path, ""
+        return "faulty", of
     before = selected(cc, arguments, source)
     if before is None:
-        return "rejected by the compiler", path, ""
+        return "rejected by the compiler", of
     if selected(cc, arguments, run.stdout) != before:
-        return "selected in another way", path, shown(options)
+        return "selected in another way", of
     how = "changed" if run.returncode else "left as they are"
     # Without a symbol and -k, unifdef-tree refuses to run.
     is_pruned = tree and set(options) - {"-K"}
     out, edited, settled = pruned(tree, options, source) if is_pruned else (source, 0, True)
     if not settled:
-        return "changed by a second run", path, shown(options)
+        return "changed by a second run", of
     if edited and selected(cc, arguments, out) != before:
-        return "selected in another way", path, "-p " + shown(options)
-    return f"{how} and edited" if edited else how, path, ""
+        return "selected in another way", f"{of} -p"
+    return f"{how} and edited" if edited else how, of
 
 
 def parser_of(description):
@@ -163,19 +165,27 @@ def jobs_of(args):
     return [(p, args.seed, args.cc, args.unifdef) for p in found]
 
 
+def report(results, what):
+    """Prints each wrong result, and how many there are of each kind. Each has the kind, what it is
+    of, and numbers, whose sums are returned, with the exit status."""
+    kinds, sums = Counter(), Counter()
+    for kind, of, *numbers in results:
+        kinds[kind] += 1
+        sums.update(dict(enumerate(numbers)))
+        if kind in WRONG:
+            print(f"{of}: {kind}", flush=True)
+    each = ", ".join(f"{n} {kind}" for kind, n in sorted(kinds.items()))
+    print(f"{sum(kinds.values())} {what}: {each}")
+    return sums, int(any(it in kinds for it in WRONG))
+
+
 def main():
     parser = parser_of("Compares what a compiler selects before and after unifdef.")
     parser.add_argument("--prune", help="a unifdef-tree, whose -p is tried too")
     args = parser.parse_args()
     jobs = [(*it, args.prune) for it in jobs_of(args)]
-    counts = Counter()
     with multiprocessing.Pool() as pool:
-        for how, path, options in pool.imap_unordered(compare, jobs, chunksize=16):
-            counts[how] += 1
-            if how in WRONG:
-                print(f"{path}: {how}, seed {args.seed}: {options}", flush=True)
-    print(f"{len(jobs)} files: " + ", ".join(f"{n} {how}" for how, n in sorted(counts.items())))
-    sys.exit(1 if any(it in counts for it in WRONG) else 0)
+        sys.exit(report(pool.imap_unordered(compare, jobs, chunksize=16), "files")[1])
 
 
 if __name__ == "__main__":
