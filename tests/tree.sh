@@ -87,13 +87,20 @@ prints() {
 }
 
 # lists WORDS FILTER TEXT: what a run with a status and words writes, as a filter leaves it.
+# reports WORDS LINE..: all messages of such a run.
 lists() {
   # shellcheck disable=SC2086 # Words are split.
   run $1
   prints "$3" "$2"
 }
+reports() {
+  # shellcheck disable=SC2086 # These too.
+  run $1
+  says_only "${@:2}"
+}
 
-# put FILE.. TEXT: writes a text, with its escapes, into files. is FILE.. TEXT: they have it.
+# put FILE.. TEXT: writes a text, with its escapes, into files. is FILE.. TEXT [and FILE.. TEXT ..]:
+# they have it.
 put() {
   local file
   for file in "${@:1:$#-1}"; do
@@ -101,9 +108,16 @@ put() {
   done
 }
 is() {
-  local file
-  for file in "${@:1:$#-1}"; do
-    check holds "$file" "${*: -1}"
+  local it file words=()
+  for it in "$@" and; do
+    if [ "$it" != and ]; then
+      words+=("$it")
+      continue
+    fi
+    for file in "${words[@]::${#words[@]}-1}"; do
+      check holds "$file" "${words[-1]}"
+    done
+    words=()
   done
 }
 none_left() { check same "$(find -L "$work/run" -name '.unifdef-tree*')" ''; }

@@ -15,8 +15,7 @@ test_faults() {
   tree -DA src
   says '1 changed, 0 unchanged, 2 faulty'
   check grep -qxF 'unifdef: src/bad.c: 1: Inappropriate #endif' "$work/err"
-  is src/bad.c '#endif\n'
-  is src/good.c 'yes\n'
+  is src/bad.c '#endif\n' and src/good.c 'yes\n'
 }
 
 test_statuses() {

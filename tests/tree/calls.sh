@@ -31,8 +31,7 @@ test_signals() {
   for it in HUP INT TERM; do
     anew injected any "rename:signal=$it:when=1" -DA src
     check test "$status" -gt 128
-    is src/a.c 'yes\n'
-    is src/directory/b.c "$text"
+    is src/a.c 'yes\n' and src/directory/b.c "$text"
   done
 }
 
@@ -71,8 +70,7 @@ test_syncs() {
   check same "$(named 'fsync\|rename')" 'fsync rename fsync rename '
   anew injected 2 fsync:error=EIO:when=1 -DA src
   says 'src/a.c: Cannot be written: Input/output error'
-  is src/a.c "$text"
-  is src/directory/b.c 'yes\n'
+  is src/a.c "$text" and src/directory/b.c 'yes\n'
   none_left
   anew injected 2 fsync:error=EDQUOT -DA src
   says 'src/a.c: Cannot be written: Disk quota exceeded' \
@@ -97,8 +95,7 @@ test_synced_diffs() {
   check same "$(grep -c fdatasync "$work/calls")" 0
   anew injected 2 fdatasync:error=EIO:when=1 -q -d -DA src
   says 'stdout: Cannot be written'
-  is src/a.c 'yes\n'
-  is src/directory/b.c "$text"
+  is src/a.c 'yes\n' and src/directory/b.c "$text"
 }
 
 # No file is read for -n once its diffs can't be written.

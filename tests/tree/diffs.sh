@@ -98,8 +98,7 @@ test_lost_diffs() {
   "$TREE" -d -DA -- src > /dev/full 2> "$work/err"
   check same "$?" 2
   says_only 'stdout: Cannot be written' '1 changed, 0 unchanged, 1 faulty' '4 lines removed'
-  is src/a.c 'yes\n'
-  is src/b.c "$text"
+  is src/a.c 'yes\n' and src/b.c "$text"
   "$TREE" -DA -- src > /dev/full 2> "$work/err"
   is src/b.c 'yes\n'
 }

@@ -112,16 +112,13 @@ test_locks() {
   if has flock; then
     under 2 flock src/.unifdef-tree.a.c -- -DA src
     says "$taken"
-    is src/a.c "$text"
-    is src/.unifdef-tree.a.c 'left\n'
+    is src/a.c "$text" and src/.unifdef-tree.a.c 'left\n'
   fi
   tree -n -DA src
   is src/.unifdef-tree.a.c 'left\n'
   ln src/.unifdef-tree.a.c linked
-  run 1 -DA src
-  says_only '1 changed, 0 unchanged, 0 faulty' '4 lines removed'
-  is src/a.c 'yes\n'
-  is linked 'left\n'
+  reports '1 -DA src' '1 changed, 0 unchanged, 0 faulty' '4 lines removed'
+  is src/a.c 'yes\n' and linked 'left\n'
   none_left
   for kind in 'ln -s ../mine' mkfifo mkdir; do
     fresh src/a.c
@@ -140,8 +137,7 @@ test_locks() {
   none_left
   fresh src/a.c src/.unifdef-tree.other.c
   tree -g '*' -DA src
-  is src/.unifdef-tree.other.c "$text"
-  is src/a.c 'yes\n'
+  is src/.unifdef-tree.other.c "$text" and src/a.c 'yes\n'
 }
 
 # Files over which no other one can be renamed: where a file is mounted, and those of others in a

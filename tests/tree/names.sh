@@ -18,8 +18,7 @@ test_names() {
   is "$bad" "$text"
   rm "$bad"
   run 0 -DA -- src
-  is "${chosen[@]}" 'yes\n'
-  is "${others[@]}" "$text"
+  is "${chosen[@]}" 'yes\n' and "${others[@]}" "$text"
   none_left
   tree -DA -g '*.txt' -g '*.new' src/a.txt src
   says '2 changed, 0 unchanged, 0 faulty'
@@ -37,8 +36,7 @@ test_named_files() {
   is src/a.txt 'yes\n'
   put src/a.txt src/b.txt "$text"
   tree -DA -g a.txt src/b.txt
-  is src/b.txt 'yes\n'
-  is src/a.txt "$text"
+  is src/b.txt 'yes\n' and src/a.txt "$text"
   refused 'src/pipe.c: Is no regular file' -DA src/x.cc src/pipe.c
   is src/x.cc "$text"
 }
@@ -71,14 +69,12 @@ test_paths_from_input() {
   mkfifo src/pipe
   printf 'src/a.txt\0src/link\0src/directory\0src/pipe\0src/none\0src/\x81\0' > "$work/paths"
   run 2 -0 -DA
-  is src/a.txt 'yes\n'
-  is src/b.c src/directory/c.c "$text"
+  is src/a.txt 'yes\n' and src/b.c src/directory/c.c "$text"
   says 'src/pipe: Is no regular file' 'src/none: No such file or directory' \
     "src/\\x81: Its name isn't UTF-8" '1 changed, 0 unchanged, 3 faulty'
   rm src/pipe
   find src -print0 > "$work/paths"
-  run 1 -0 -DA
-  says_only '2 changed, 1 unchanged, 0 faulty' '8 lines removed'
+  reports '1 -0 -DA' '2 changed, 1 unchanged, 0 faulty' '8 lines removed'
   find src > "$work/paths"
   refused "Nothing is at a path of several lines; \
 -0 wants a NUL after each path (git ls-files -z)" -0 -q -DA

@@ -24,8 +24,7 @@ test_pruned_files() {
   is src/only.c '#if X || VMS /* c */\r\n#endif\r\n'
   put src/a.c "$unpruned"
   run 1 -p -UVMS src
-  is src/a.c "$pruned"
-  is src/only.c '#if X /* c */\r\n#endif\r\n'
+  is src/a.c "$pruned" and src/only.c '#if X /* c */\r\n#endif\r\n'
   check same "$(stat -c '%i %y' src/same.c)" "$before"
   says_only '2 changed, 1 unchanged, 0 faulty' '3 lines removed' '3 conditions edited'
   none_left
@@ -77,8 +76,7 @@ test_pruned_by_options() {
   prunes '#ifndef X\n#if X || B\n#endif\n#endif\n' '-iDA -UB' '#ifndef X\n#if X\n#endif\n#endif\n'
   put src/a.c src/b.txt "$unpruned"
   tree -p -g '*.txt' -UVMS src
-  is src/b.txt "$pruned"
-  is src/a.c "$unpruned"
+  is src/b.txt "$pruned" and src/a.c "$unpruned"
   printf 'src/a.c\0' > "$work/paths"
   input=$work/paths tree -0 -p -UVMS
   is src/a.c "$pruned"
@@ -94,8 +92,7 @@ test_pruned_by_options() {
 test_unpruned() {
   alone src/a.c '#if X || V\\\nMS\n#endif\n#if!VMS&&X\n#endif\n#if X ? VMS : 1\n#endif
 #if X || VMS + Y\n#endif\n#if F(VMS)\n#endif\n'
-  tree -p -r -UVMS src
-  says_only '0 changed, 1 unchanged, 0 faulty' '0 conditions edited' \
+  reports 'any -p -r -UVMS src' '0 changed, 1 unchanged, 0 faulty' '0 conditions edited' \
     '5 conditions still name a symbol'
   prints 'src/a.c:1: over several lines: #if X || V\
 src/a.c:4: its rest would be misread: #if!VMS&&X

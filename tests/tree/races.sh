@@ -49,8 +49,7 @@ edited='#ifdef B\nyes\n#else\nno\n#endif\n'
 test_meanwhile() {
   anew paused 2 -DA fchmod 1 put src/a.c 'mine\n'
   says 'src/a.c: Changed meanwhile'
-  is src/a.c 'mine\n'
-  is src/directory/b.c 'yes\n'
+  is src/a.c 'mine\n' and src/directory/b.c 'yes\n'
   none_left
   anew paused 2 -DA fchmod 1 rm src/a.c
   check same "$(ls src)" $'bad.c\ndirectory\nsame.c'
@@ -151,8 +150,7 @@ test_writes_into_open_file() {
   ln src/a.c linked.txt
   put "$work/victim" "$text"
   paused any '-w -DA' statx "$(last_of statx '/a.c"')" put_link src/a.c
-  is linked.txt 'yes\n'
-  is "$work/victim" "$text"
+  is linked.txt 'yes\n' and "$work/victim" "$text"
 }
 
 # save_both FIRST SECOND: saves both as editors do, by a new file that is renamed.

@@ -47,8 +47,7 @@ test_squeezed_counts() {
   run 1 -n -B -UVMS src
   is src/a.c "$before"
   cp "$work/out" "$work/diff"
-  run 1 -B -UVMS src
-  says_only '1 changed, 0 unchanged, 0 faulty' '12 lines removed'
+  reports '1 -B -UVMS src' '1 changed, 0 unchanged, 0 faulty' '12 lines removed'
   is src/a.c "$after"
   put src/a.c "$before"
   run 1 -B -d -UVMS src
