@@ -37,8 +37,13 @@ gives() {
   in_shell "${*:3}" same "$status, $(cat "$work/message"), $(cat "$work/out")" "$1, , $2"
 }
 
-# holds FILE TEXT: checks a file that the last run wrote.
-holds() { in_shell "$1" same "$(cat -- "$1" 2>&1)" "$2"; }
+# holds FILE TEXT ..: checks files that the last run wrote.
+holds() {
+  while [ $# -gt 0 ]; do
+    in_shell "$1" same "$(cat -- "$1" 2>&1)" "$2"
+    shift 2
+  done
+}
 
 # listed: prints what a run may change of the files.
 listed() { find . -mindepth 1 -printf '%p %i %m %s %t\n' | sort; }
@@ -96,9 +101,7 @@ options() {
   # In place, with all options after the files, too.
   fresh
   gives 1 '' -m -DA a.c same.c c.c
-  holds a.c a
-  holds same.c x
-  holds c.c a
+  holds a.c a same.c x c.c a
   fresh
   gives 0 '' a.c -x1 -m same.c -DA
   holds a.c a
@@ -112,10 +115,7 @@ options() {
   chmod 640 a.c
   ln -s c.c a.c.bak
   gives 1 '' -bM .bak -DA a.c same.c
-  holds a.c $'\na'
-  holds a.c.bak "$(cat in.c)"
-  holds same.c.bak x
-  holds c.c "$(cat in.c)"
+  holds a.c $'\na' a.c.bak "$(cat in.c)" same.c.bak x c.c "$(cat in.c)"
   in_shell 'the modes of -M' same "$(stat -c %a a.c a.c.bak)" $'640\n640'
   gives 1 '' -M '' -DA c.c
   holds c.c a
@@ -141,9 +141,7 @@ options() {
   gives 1 '' -DA -o c.c in.c
   gives 1 '' -UA -o soft in.c
   gives 1 '' -DA -o new in.c
-  holds c.c a
-  holds hard "$(cat in.c)"
-  holds soft b
+  holds c.c a hard "$(cat in.c)" soft b
   in_shell 'the modes of -o' same "$(stat -c %a c.c new soft)" $'751\n644\n751'
   (umask 077; run -DA -o private in.c)
   in_shell 'the mode of a new file' same "$(stat -c %a private; cat private)" $'600\na'
@@ -154,8 +152,7 @@ options() {
   gives 0 '' -Bx 2 -o out.c -UA a.c
   holds out.c b
   gives 1 '' -m -DA a.c c.c
-  holds a.c a
-  holds c.c a
+  holds a.c a c.c a
   # Bytes of a name and of a value, and words that begin with a hyphen.
   fresh
   local odd=$'-n a\n\'"$(x)`y`\\*'
