@@ -50,7 +50,7 @@ HELP = /^\#= / { print end substr($$0, 4) ":"; end = "\n" } \
 	/^\#\# / { text[n++] = substr($$0, 4); next } \
 	n && /^[a-z-]+:/ { \
 	  sub(/:.*/, ""); sub(/^all$$/, ""); \
-	  for (i = 0; i < n; i++) printf "  %-22s%s\n", i ? "" : "make " $$0, text[i]; \
+	  for (i = 0; i < n; i++) printf "  %-23s%s\n", i ? "" : "make " $$0, text[i]; \
 	  n = 0 \
 	}
 

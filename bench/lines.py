@@ -28,6 +28,8 @@ from selects import parser_of, report, selected, shown
 WORD = b"line_%d __LINE__ "
 RENUMBERED = re.compile(rb"#line (\d+)\s*$")
 
+MIXED = b"/* a\n * b\n */ c\n#ifdef A\n/* d\n*/\n#endif\ne /* f\n*/ g\n"
+MIXED += b"#if defined X && \\\n    1\nh \\\n\ni\n#endif\nj"
 # Options and a text. `X` is left undecided, and is defined for the compiler in one of two runs.
 FIXED = [
     ("-UA", b"a\n#ifdef A\nb\n#endif\nc\n"),
@@ -37,8 +39,7 @@ FIXED = [
     ("-UA", b"#ifdef A\na\n#elif defined X\nb\n#else\nc\n#endif\nd\n"),
     ("-DA", b"#if X\r\na\r\n#elif A\r\nb\r\n#elif Y\r\nc\r\n#else\r\nd\r\n#endif\r\ne\r\n"),
     ("-UA -DB=2", b"#ifdef X\na\n#elif A\nb\n#elif B > 1\nc\n#elif Y\nd\n#endif\ne\n"),
-    ("-UA", b"/* a\n * b\n */ c\n#ifdef A\n/* d\n*/\n#endif\ne /* f\n*/ g\n"
-            b"#if defined X && \\\n    1\nh \\\n\ni\n#endif\nj"),
+    ("-UA", MIXED),
     ("-UA", b"#ifdef A\na\n#endif\n\n\n#ifdef A\nb\n#endif\n// c \\\nd\ne\n"),
     ("-UA", b"#ifdef A\r\na\r\n#elif X\r\nb\r\n#endif\r\nc\n#ifndef A\nd\n#endif"),
 ]
