@@ -1,7 +1,7 @@
 #!/usr/bin/env bash
 # What the tests of packages, completions and hooks share. They read this file, and are then at the
 # top of the repository, with a directory of their own in $work.
-# shellcheck disable=SC2034,SC2154 # Some of these are for the scripts that read this file, or theirs.
+# shellcheck disable=SC2034,SC2154 # Some names are for the scripts that read this file, or theirs.
 set -u -o pipefail
 export LC_ALL=C
 unset MAKEFLAGS MAKELEVEL
@@ -84,4 +84,34 @@ made_again() {
   for it in "${packages[@]}"; do
     check "$it: lintian" quiet_lintian "$it"
   done
+}
+
+# times TEXT COUNT ..: prints each text so many times.
+times() {
+  local text
+  while [ $# -gt 0 ]; do
+    printf -v text '%*s' "$2" ''
+    printf '%s' "${text// /$1}"
+    shift 2
+  done
+}
+
+# deep [KIND]: prints the deepest input of a kind that the limits allow, or the kinds.
+deep() {
+  local end=$'\nx\n#endif\n'
+  case ${1:-} in
+    '')
+      lines sections removed parentheses negations operators mixed arguments comment splices longest
+      ;;
+    sections) times $'#ifdef X\n' 256 $'#endif\n' 256 ;;
+    removed) times $'#ifdef A\n' 1 $'#if X\n#else\n' 255 $'#endif\n' 255 $'#endif\nx\n' 1 ;;
+    parentheses) times '#if ' 1 '(' 32000 A 1 ')' 32000 "$end" 1 ;;
+    negations) times '#if ' 1 '!' 65520 "A$end" 1 ;;
+    operators) times '#if A' 1 '||A' 21840 "$end" 1 ;;
+    mixed) times '#if ' 1 '-(~(!(' 10000 1 1 ')))' 1840 "$end" 1 ;;
+    arguments) times '#if A' 1 '(A' 16000 ')' 16000 "$end" 1 ;;
+    comment) times '/*' 1 '*' 65530 $'\n' 1 $'*\n' 2000 $'*/\n' 1 ;;
+    splices) times $'\\\n' 50000 $'x\n' 1 ;;
+    longest) times a 65535 $'\n' 1 ;;
+  esac
 }

@@ -103,8 +103,8 @@ fi
 # none is there.
 "${cc[@]}" "${flags[@]}" -O2 -pthread -o "$work/stack" tests/library_stack.c lib/libunifdef.a
 run_shared() { LD_LIBRARY_PATH=lib "$work/shared" "$1" < "$work/in" 2>&1 || echo "status $?"; }
-for kind in $(tests/deep.sh); do
-  tests/deep.sh "$kind" > "$work/in"
+for kind in $(deep); do
+  deep "$kind" > "$work/in"
   calls=(text feed prune)
   ! head -n 1 "$work/in" | grep -q '^#if ' || calls+=(condition names)
   for words in -DA -kUA -SDA; do

@@ -72,7 +72,6 @@ as_wanted() {
   [ $status = $wanted ] && [ $status -le 2 ] && cmp "$out" "$work/wanted_out" &&
     cmp "$err" "$work/wanted_err"
 }
-deep() { "$here/tests/deep.sh" "$@"; }
 for kind in $(deep); do
   deep "$kind" > "$work/in"
   for words in -DA '-UA -k' '-S -DA'; do
