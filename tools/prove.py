@@ -144,15 +144,10 @@ class Commands:
                 for it in left:
                     with contextlib.suppress(ProcessLookupError):
                         os.killpg(it.pid, number)
-                left = [it for it in left if not has_ended(it, seconds)]
-
-
-def has_ended(process, seconds):
-    """Waits for the end of a process, for some seconds at most."""
-    try:
-        return process.wait(seconds) is not None
-    except subprocess.TimeoutExpired:
-        return False
+                for it in left:
+                    with contextlib.suppress(subprocess.TimeoutExpired):
+                        it.wait(seconds)
+                left = [it for it in left if it.poll() is None]
 
 
 class Run:
