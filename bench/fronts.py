@@ -8,14 +8,13 @@ with a stack of 1 MiB. The input of the first mismatch is kept in the file `mism
 import os
 import random
 import re
-import resource
 import subprocess
 import sys
 from concurrent.futures import ThreadPoolExecutor
 from pathlib import Path
 
 HANG = 3600
-STACK = 1024 * 1024
+SMALL_STACK = ["prlimit", f"--stack={1024 * 1024}"]
 FLAGS = ["-k", "-K", "-b", "-l", "-c", "-n", "-s", "-S", "-t", "-x1", "-x2", "-kK", "-bc", "-cn"]
 VALUES = ["", "=0", "=1", "=2", "=201112L", "=0x10", "=", "=A", "=-1", "=1u"]
 CONDITION = re.compile(rb"^[ \t]*#[ \t]*(?:if|ifdef|ifndef|elif|elifdef|elifndef)\b(.*)$", re.M)
@@ -44,15 +43,11 @@ def arguments_for(dice, text):
     return arguments
 
 
-def small_stack():
-    resource.setrlimit(resource.RLIMIT_STACK, (STACK, resource.getrlimit(resource.RLIMIT_STACK)[1]))
-
-
-def outcome(program, arguments, text, prepare):
+def outcome(program, arguments, text, before=()):
     """Returns a program's output, message and status, which is None if it doesn't end in time."""
-    how = {"input": text, "capture_output": True, "timeout": HANG, "preexec_fn": prepare}
+    how = {"input": text, "capture_output": True, "timeout": HANG}
     try:
-        run = subprocess.run([program, *arguments], **how)
+        run = subprocess.run([*before, program, *arguments], **how)
     except subprocess.TimeoutExpired:
         return b"", b"", None
     return run.stdout, run.stderr, run.returncode
@@ -63,8 +58,8 @@ def check(program, reference, path, seed):
     dice = random.Random(seed)
     text = part_of(dice, path.read_bytes())
     arguments = arguments_for(dice, text)
-    ours = outcome(program, arguments, text, small_stack)
-    theirs = outcome(reference, ["reference", *arguments], text, None)
+    ours = outcome(program, arguments, text, SMALL_STACK)
+    theirs = outcome(reference, ["reference", *arguments], text)
     if ours == theirs and ours[2] in (0, 1, 2):
         return None
     return arguments, text, ours, theirs
