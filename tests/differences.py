@@ -151,14 +151,6 @@ def check_calls(program: Path, released: Path) -> Iterator[bool]:
         yield found == wanted
 
 
-def check_new(program: Path, cases: list[Case]) -> Iterator[bool]:
-    """Yields whether 2.12 gives what the page says, for each of its examples."""
-    for arguments, text, _, _, answer in examples():
-        for case in cases:
-            if (case.arguments, case.input) == (arguments, text):
-                yield check(program, case, answer, "differences, 2.12")
-
-
 def results(program: Path, released: Optional[Path], new: Optional[Path]) -> Iterator[bool]:
     cases = [case for case in cases_in() if case.released]
     yield from check_manual(cases)
@@ -171,7 +163,9 @@ def results(program: Path, released: Optional[Path], new: Optional[Path]) -> Ite
         yield from check_calls(program, released)
     if new:
         yield check_file(new, b' "in.c"')
-        yield from check_new(new, cases)
+        for arguments, text, _, _, answer in examples():
+            of_page = (it for it in cases if (it.arguments, it.input) == (arguments, text))
+            yield from (check(new, it, answer, "differences, 2.12") for it in of_page)
 
 
 def main() -> int:
