@@ -20,22 +20,23 @@ newer() {
 # Builds the released program from its source.
 rebuilt() { source_of unifdef && cd unifdef-*/ && "${CC:-cc}" -O2 -o "$work/rebuilt" unifdef.c; }
 
-# add NAME PROGRAM: adds a program, or leaves it out and prints the last line of its messages.
-programs=("this=$program")
-add() {
-  if ("$1") > "$work/log" 2>&1; then programs+=("$1=$2"); else
-    echo "bench: left out: the $1 unifdef: $(tail -n 1 "$work/log")" >&2
-  fi
+# got WHAT COMMAND..: returns whether a command succeeds, and prints its last message if it doesn't.
+got() {
+  ("${@:2}") > "$work/log" 2>&1 && return
+  echo "bench: left out: $1: $(tail -n 1 "$work/log")" >&2
+  return 1
 }
+
+# add NAME PROGRAM: adds a program, or leaves it out.
+programs=("this=$program")
+add() { ! got "the $1 unifdef" "$1" || programs+=("$1=$2"); }
 add released /usr/bin/unifdef
 add rebuilt "$work/rebuilt"
 if [ -n "${BENCH_NEWER:-}" ]; then programs+=("newer=$BENCH_NEWER"); else add newer "$work/newer/usr/bin/unifdef"; fi
-if [ -z "${BENCH_SOURCES:-}" ]; then
-  if (source_of postgresql-15) > "$work/log" 2>&1; then BENCH_SOURCES=$work/source/postgresql-15; else
-    echo "bench: left out: C source: $(tail -n 1 "$work/log")" >&2
-  fi
+if [ -z "${BENCH_SOURCES:-}" ] && got 'C source' source_of postgresql-15; then
+  BENCH_SOURCES=$work/source/postgresql-15
 fi
 export BENCH_SOURCES
 python3 "$here/compare.py" "$work" "${programs[@]}" | tee "$work/tables"
 python3 "$here/chart.py" "$work/tables" > "$work/speed.svg"
-cp "$work/speed.svg" "$here/speed.svg"
+cp "$work/speed.svg" "$here"
