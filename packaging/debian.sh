@@ -7,7 +7,8 @@ set -eu -o pipefail
 umask 022
 export LC_ALL=C
 cd "$(dirname "${BASH_SOURCE[0]}")/.."
-command -v dpkg-deb > /dev/null || { echo "${0##*/}: dpkg-deb is not there" >&2; exit 1; }
+fail() { echo "$(basename "$0" .sh): $1" >&2; exit 1; }
+command -v dpkg-deb > /dev/null || fail 'dpkg-deb is not there'
 version=$(packaging/version.sh)
 # shellcheck disable=SC2034 # It is for the scripts that read this file.
 architecture=$(dpkg --print-architecture)
@@ -68,5 +69,5 @@ build() {
 complete() {
   local left
   left=$(find "$all" ! -type d)
-  [ -z "$left" ] || { printf '%s: no package has\n%s\n' "${0##*/}" "$left" >&2; exit 1; }
+  [ -z "$left" ] || fail "no package has"$'\n'"$left"
 }

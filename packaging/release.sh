@@ -5,10 +5,8 @@
 # shellcheck source=packaging/debian.sh
 source "$(dirname "$0")/debian.sh"
 packaging/version.sh --released > /dev/null
-if [ -n "$(git status --porcelain)" ]; then
-  echo 'release: commit first: what is not committed would be in some of the files alone' >&2
-  exit 1
-fi
+[ -z "$(git status --porcelain)" ] ||
+  fail 'commit first: what is not committed would be in some of the files alone'
 name=unifdef-$version-linux-x86_64
 rm -rf release
 mkdir release
