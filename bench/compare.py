@@ -16,7 +16,7 @@ from pathlib import Path
 from typing import NamedTuple
 
 import texts
-from measure import counted, finished, peak
+from texts import counted, finished, peak
 
 BYTES = int(os.environ.get("BENCH_BYTES", "20000000"))
 RUNS = int(os.environ.get("BENCH_RUNS", "5"))

@@ -13,7 +13,6 @@ import timeit
 from pathlib import Path
 
 import texts
-from measure import finished
 
 BYTES = int(os.environ.get("BENCH_BYTES", "100000000"))
 HEADERS = os.environ.get("BENCH_HEADERS", "/usr/include")
@@ -66,7 +65,7 @@ def main():
     with tempfile.NamedTemporaryFile() as file:
         file.write(text)
         file.flush()
-        outcomes = [finished([program, *words], file.name, os.devnull) for _ in range(ROUNDS)]
+        outcomes = [texts.finished([program, *words], file.name, os.devnull) for _ in range(ROUNDS)]
     rows = {
         "`unifdef_text`, the whole text": seconds_of(calls.whole),
         f"a stream, chunks of {CHUNK:,} bytes": seconds_of(calls.stream),

@@ -6,7 +6,8 @@
 # Both export the functions of lib/unifdef.map alone. The same objects give the same bytes.
 set -eu -o pipefail
 export LC_ALL=C
-objects=$(realpath "$1") heap=$(realpath "$2")
+objects=$(realpath "$1")
+heap=$(realpath "$2")
 cd "$(dirname "$0")"
 version=$(../packaging/version.sh)
 major=${version%%.*}
