@@ -87,7 +87,7 @@ prints() {
 }
 
 # lists WORDS FILTER TEXT: what a run with a status and words writes, as a filter leaves it.
-# reports WORDS LINE..: all messages of such a run.
+# reports WORDS LINE..: all messages of such a run. makes WORDS FILE.. TEXT ..: the files then.
 lists() {
   # shellcheck disable=SC2086 # Words are split.
   run $1
@@ -97,6 +97,11 @@ reports() {
   # shellcheck disable=SC2086 # These too.
   run $1
   says_only "${@:2}"
+}
+makes() {
+  # shellcheck disable=SC2086 # These too.
+  run $1
+  is "${@:2}"
 }
 
 # put FILE.. TEXT: writes a text, with its escapes, into files. is FILE.. TEXT [and FILE.. TEXT ..]:
@@ -122,9 +127,9 @@ is() {
 }
 none_left() { check same "$(find -L "$work/run" -name '.unifdef-tree*')" ''; }
 
-# fresh FILE..: makes a new tree, whose files are changed by -DA. alone FILE.. TEXT: one of files with
-# this text. small_tree: one with files that are changed, unchanged, faulty, and in a directory.
-# anew COMMAND..: runs a command over a small tree.
+# fresh FILE..: makes a new tree, whose files are changed by -DA. alone FILE.. TEXT: one of files
+# with this text. small_tree: one with files that are changed, unchanged, faulty, and in a
+# directory. anew COMMAND..: runs a command over a small tree.
 fresh() {
   rm -rf "$work/run"
   mkdir -p "$work/run/src"

@@ -109,8 +109,7 @@ test_undoes() {
   put src/linked.c "$text"
   ln src/linked.c src/other.c
   cp -r src "$work/was"
-  run 2 -d -DA src
-  is src/a.c 'yes\n'
+  makes '2 -d -DA src' src/a.c 'yes\n'
   prints 0 grep -c linked.c
   cp "$work/out" "$work/diff"
   if has patch; then

@@ -17,14 +17,12 @@ test_names() {
   says "src/\\x81\\x88\\xff.c: Its name isn't UTF-8" '16 changed, 0 unchanged, 1 faulty'
   is "$bad" "$text"
   rm "$bad"
-  run 0 -DA -- src
-  is "${chosen[@]}" 'yes\n' and "${others[@]}" "$text"
+  makes '0 -DA -- src' "${chosen[@]}" 'yes\n' and "${others[@]}" "$text"
   none_left
   tree -DA -g '*.txt' -g '*.new' src/a.txt src
   says '2 changed, 0 unchanged, 0 faulty'
   put ./-x.c "$text"
-  tree -DA -- -x.c
-  is ./-x.c 'yes\n'
+  makes 'any -DA -- -x.c' ./-x.c 'yes\n'
 }
 
 test_named_files() {
@@ -32,11 +30,9 @@ test_named_files() {
   mkfifo src/pipe.c
   refused 'No file matches' -DA -g '*.none' src
   is src/a.txt "$text"
-  tree -DA src/a.txt
-  is src/a.txt 'yes\n'
+  makes 'any -DA src/a.txt' src/a.txt 'yes\n'
   put src/a.txt src/b.txt "$text"
-  tree -DA -g a.txt src/b.txt
-  is src/b.txt 'yes\n' and src/a.txt "$text"
+  makes 'any -DA -g a.txt src/b.txt' src/b.txt 'yes\n' and src/a.txt "$text"
   refused 'src/pipe.c: Is no regular file' -DA src/x.cc src/pipe.c
   is src/x.cc "$text"
 }
@@ -68,8 +64,7 @@ test_paths_from_input() {
   put src/directory/c.c "$text"
   mkfifo src/pipe
   printf 'src/a.txt\0src/link\0src/directory\0src/pipe\0src/none\0src/\x81\0' > "$work/paths"
-  run 2 -0 -DA
-  is src/a.txt 'yes\n' and src/b.c src/directory/c.c "$text"
+  makes '2 -0 -DA' src/a.txt 'yes\n' and src/b.c src/directory/c.c "$text"
   says 'src/pipe: Is no regular file' 'src/none: No such file or directory' \
     "src/\\x81: Its name isn't UTF-8" '1 changed, 0 unchanged, 3 faulty'
   rm src/pipe

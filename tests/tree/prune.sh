@@ -20,11 +20,9 @@ test_pruned_files() {
   put src/only.c '#if X || VMS /* c */\r\n#endif\r\n'
   put src/same.c '#if X\n#endif\n'
   before=$(stat -c '%i %y' src/same.c)
-  tree -UVMS src
-  is src/only.c '#if X || VMS /* c */\r\n#endif\r\n'
+  makes 'any -UVMS src' src/only.c '#if X || VMS /* c */\r\n#endif\r\n'
   put src/a.c "$unpruned"
-  run 1 -p -UVMS src
-  is src/a.c "$pruned" and src/only.c '#if X /* c */\r\n#endif\r\n'
+  makes '1 -p -UVMS src' src/a.c "$pruned" and src/only.c '#if X /* c */\r\n#endif\r\n'
   check same "$(stat -c '%i %y' src/same.c)" "$before"
   says_only '2 changed, 1 unchanged, 0 faulty' '3 lines removed' '3 conditions edited'
   none_left
@@ -57,10 +55,8 @@ test_pruned_files() {
   put src/a.c "$unpruned"
   ln src/a.c src/b.c
   run 2 -p -UVMS src
-  run 2 -p -n -UVMS src
-  is src/b.c "$unpruned"
-  tree -p -w -UVMS src
-  is src/b.c "$pruned"
+  makes '2 -p -n -UVMS src' src/b.c "$unpruned"
+  makes 'any -p -w -UVMS src' src/b.c "$pruned"
 }
 
 # Options that say how conditions are decided, and those that -p refuses.

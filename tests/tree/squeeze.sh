@@ -44,8 +44,7 @@ test_squeezed_counts() {
 #endif\n\n  a = 1;\n\n#ifdef VMS\n  v();\n#endif\n}\n'
   local after='int a;\n\nint b;\nvoid f(void) {\n  a = 1;\n}\n'
   alone src/a.c "$before"
-  run 1 -n -B -UVMS src
-  is src/a.c "$before"
+  makes '1 -n -B -UVMS src' src/a.c "$before"
   cp "$work/out" "$work/diff"
   reports '1 -B -UVMS src' '1 changed, 0 unchanged, 0 faulty' '12 lines removed'
   is src/a.c "$after"
