@@ -86,22 +86,11 @@ prints() {
   check same "$("${filter[@]}" < "$work/out")" "$1"
 }
 
-# lists WORDS FILTER TEXT: what a run with a status and words writes, as a filter leaves it.
-# reports WORDS LINE..: all messages of such a run. makes WORDS FILE.. TEXT ..: the files then.
-lists() {
+# after WORDS CHECK ARGUMENT..: a check of a run with a status and words.
+after() {
   # shellcheck disable=SC2086 # Words are split.
   run $1
-  prints "$3" "$2"
-}
-reports() {
-  # shellcheck disable=SC2086 # These too.
-  run $1
-  says_only "${@:2}"
-}
-makes() {
-  # shellcheck disable=SC2086 # These too.
-  run $1
-  is "${@:2}"
+  "${@:2}"
 }
 
 # put FILE.. TEXT: writes a text, with its escapes, into files. is FILE.. TEXT [and FILE.. TEXT ..]:

@@ -6,14 +6,11 @@ test_faults() {
   fresh src/good.c
   put src/bad.c '#endif\n'
   put src/$'very\nbad.c' 'x\n#else\n'
-  run 2 -DA src nowhere
-  says 'nowhere: No such file or directory'
+  after '2 -DA src nowhere' says 'nowhere: No such file or directory'
   is src/good.c "$text"
-  run 2 -DA src -n
-  says 'Option after a path: -n'
+  after '2 -DA src -n' says 'Option after a path: -n'
   is src/good.c "$text"
-  tree -DA src
-  says '1 changed, 0 unchanged, 2 faulty'
+  after 'any -DA src' says '1 changed, 0 unchanged, 2 faulty'
   check grep -qxF 'unifdef: src/bad.c: 1: Inappropriate #endif' "$work/err"
   is src/bad.c '#endif\n' and src/good.c 'yes\n'
 }
@@ -25,8 +22,7 @@ test_statuses() {
   put src/good.c "$text"
   put src/end.c '#ifdef A\nno newline\n#endif'
   cp -r src was
-  run 1 -n -DA -- src
-  says '2 would change, 0 unchanged, 0 faulty'
+  after '1 -n -DA -- src' says '2 would change, 0 unchanged, 0 faulty'
   check diff -r was src
   cp "$work/out" diff
   run 0 -x2 -DA -- src

@@ -18,8 +18,7 @@ test_kills() {
     anew injected any "${it% *}:signal=KILL:when=${it#* }" -DA src
     [ "$status" -ne 137 ] || killed=$((killed + 1))
     each_old_or_new
-    tree -DA src
-    none_left
+    after 'any -DA src' none_left
     is src/a.c src/directory/b.c 'yes\n'
     check grep -q ', 1 faulty$' "$work/err"
   done

@@ -5,7 +5,7 @@
 # A diff has the changed lines, three lines around them, and no other ones.
 test_small_diffs() {
   alone src/a.c "1\\n2\\n3\\n4\\n${text}5\\n6\\n7\\n8\\n"
-  lists 'any -n -q -DA src' cat '--- src/a.c
+  after 'any -n -q -DA src' prints '--- src/a.c
 +++ src/a.c
 @@ -2,11 +2,7 @@
  2
@@ -20,7 +20,7 @@ test_small_diffs() {
  6
  7'
   put src/a.c "$text"
-  lists 'any -n -q -c -UA src' cat '--- src/a.c
+  after 'any -n -q -c -UA src' prints '--- src/a.c
 +++ src/a.c
 @@ -1,5 +1,4 @@
  #ifdef A
@@ -109,7 +109,7 @@ test_undoes() {
   put src/linked.c "$text"
   ln src/linked.c src/other.c
   cp -r src "$work/was"
-  makes '2 -d -DA src' src/a.c 'yes\n'
+  after '2 -d -DA src' is src/a.c 'yes\n'
   prints 0 grep -c linked.c
   cp "$work/out" "$work/diff"
   if has patch; then
@@ -117,10 +117,8 @@ test_undoes() {
     patch -s -R -p0 -i "$work/diff"
     check diff -r "$work/was" src
   fi
-  tree -n -DA src
-  check cmp "$work/out" "$work/diff"
-  tree -n -d -DA src
-  check cmp "$work/out" "$work/diff"
+  after 'any -n -DA src' check cmp "$work/out" "$work/diff"
+  after 'any -n -d -DA src' check cmp "$work/out" "$work/diff"
   tree -w -d -q -DA src/linked.c
   check same "$(head -n 1 "$work/out" | cut -f 1)" '--- src/linked.c'
   rm -rf "$work/was"

@@ -18,13 +18,10 @@ test_keeps() {
   put directory/f.c "$text"
   before=$(stat -c '%i %y' src/same.c)
   one=$(number src/one.c)
-  tree -n -w -DA -- src src/one.c ./src/mode.c
-  says '3 would change, 1 unchanged, 0 faulty'
-  run 2 -DA -- src/one.c src/three.c
-  says 'src/one.c: Has several links; -w writes into it'
+  after 'any -n -w -DA -- src src/one.c ./src/mode.c' says '3 would change, 1 unchanged, 0 faulty'
+  after '2 -DA -- src/one.c src/three.c' says 'src/one.c: Has several links; -w writes into it'
   is src/one.c "$text"
-  run 1 -DA -w -- src src/one.c ./src/mode.c
-  says '3 changed, 1 unchanged, 0 faulty'
+  after '1 -DA -w -- src src/one.c ./src/mode.c' says '3 changed, 1 unchanged, 0 faulty'
   check same "$(stat -c %a src/mode.c)" 754
   check same "$(stat -c '%i %y' src/same.c)" "$before"
   check same "$(number src/one.c) $(number src/two.c)" "$one $one"
@@ -32,11 +29,10 @@ test_keeps() {
   check same "$(readlink src/{symbolic,outside,dangling}.c)" $'one.c\n../elsewhere.c\nnowhere'
   is elsewhere.c directory/f.c "$text"
   none_left
-  makes 'any -DA -- src/linked' directory/f.c 'yes\n'
-  run 2 -DA -- src/outside.c
-  says_first 'src/outside.c: Is a symbolic link'
+  after 'any -DA -- src/linked' is directory/f.c 'yes\n'
+  after '2 -DA -- src/outside.c' says_first 'src/outside.c: Is a symbolic link'
   put src/one.c "$text"
-  makes 'any -c -DA -w -- src/one.c src ./src' src/two.c '#ifdef A\n#else\nno\n#endif\n'
+  after 'any -c -DA -w -- src/one.c src ./src' is src/two.c '#ifdef A\n#else\nno\n#endif\n'
 }
 
 # -n reports the links that a run reports.
@@ -45,14 +41,12 @@ test_links() {
   put src/same.c 'int a;\n'
   ln src/a.c src/b.c
   ln src/same.c src/same2.c
-  run 2 -n -DA src
-  says 'src/a.c: Has several links; -w writes into it'
+  after '2 -n -DA src' says 'src/a.c: Has several links; -w writes into it'
   prints ''
   cp "$work/err" "$work/shown"
   tree -DA src
   check same "$(sed 's/would change/changed/' "$work/shown")" "$(cat "$work/err")"
-  run 1 -n -w -DA src
-  prints 1 grep -c '^-#ifdef'
+  after '1 -n -w -DA src' prints 1 grep -c '^-#ifdef'
 }
 
 # Files that can't be read or written, and those of another owner.
@@ -112,24 +106,23 @@ test_locks() {
     says "$taken"
     is src/a.c "$text" and src/.unifdef-tree.a.c 'left\n'
   fi
-  makes 'any -n -DA src' src/.unifdef-tree.a.c 'left\n'
+  after 'any -n -DA src' is src/.unifdef-tree.a.c 'left\n'
   ln src/.unifdef-tree.a.c linked
-  reports '1 -DA src' '1 changed, 0 unchanged, 0 faulty' '4 lines removed'
+  after '1 -DA src' says_only '1 changed, 0 unchanged, 0 faulty' '4 lines removed'
   is src/a.c 'yes\n' and linked 'left\n'
   none_left
   for kind in 'ln -s ../mine' mkfifo mkdir; do
     fresh src/a.c
     put mine 'mine\n'
     $kind src/.unifdef-tree.a.c
-    tree -DA src
-    says "$taken"
+    after 'any -DA src' says "$taken"
     check same "$(find src -mindepth 1 | wc -l)" 2
     is mine 'mine\n'
     rm -r src/.unifdef-tree.a.c
   done
   long=src/$(repeat 0 253).c
   put "$long" "$text"
-  makes 'any -DA src' src/a.c "$long" 'yes\n'
+  after 'any -DA src' is src/a.c "$long" 'yes\n'
   none_left
   fresh src/a.c src/.unifdef-tree.other.c
   tree -g '*' -DA src
@@ -146,7 +139,7 @@ test_unrenamed() {
     tree -DA src
     says 'src/a.c: Cannot be replaced; -w writes into it: Device or resource busy'
     none_left
-    makes 'any -w -DA src' "$work/over" 'yes\n'
+    after 'any -w -DA src' is "$work/over" 'yes\n'
     umount src/a.c
   else
     left_out 'files cannot be mounted here'
@@ -176,8 +169,7 @@ test_overlay() {
   fresh
   if mount -t overlay overlay -o \
     "lowerdir=$layers/lower,upperdir=$layers/upper,workdir=$layers/work" src 2> /dev/null; then
-    run 1 -DA src
-    says '3 changed, 0 unchanged, 0 faulty'
+    after '1 -DA src' says '3 changed, 0 unchanged, 0 faulty'
     is "$layers/lower/a.c" "$text"
     umount src
   else

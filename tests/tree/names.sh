@@ -17,12 +17,12 @@ test_names() {
   says "src/\\x81\\x88\\xff.c: Its name isn't UTF-8" '16 changed, 0 unchanged, 1 faulty'
   is "$bad" "$text"
   rm "$bad"
-  makes '0 -DA -- src' "${chosen[@]}" 'yes\n' and "${others[@]}" "$text"
+  after '0 -DA -- src' is "${chosen[@]}" 'yes\n' and "${others[@]}" "$text"
   none_left
   tree -DA -g '*.txt' -g '*.new' src/a.txt src
   says '2 changed, 0 unchanged, 0 faulty'
   put ./-x.c "$text"
-  makes 'any -DA -- -x.c' ./-x.c 'yes\n'
+  after 'any -DA -- -x.c' is ./-x.c 'yes\n'
 }
 
 test_named_files() {
@@ -30,9 +30,9 @@ test_named_files() {
   mkfifo src/pipe.c
   refused 'No file matches' -DA -g '*.none' src
   is src/a.txt "$text"
-  makes 'any -DA src/a.txt' src/a.txt 'yes\n'
+  after 'any -DA src/a.txt' is src/a.txt 'yes\n'
   put src/a.txt src/b.txt "$text"
-  makes 'any -DA -g a.txt src/b.txt' src/b.txt 'yes\n' and src/a.txt "$text"
+  after 'any -DA -g a.txt src/b.txt' is src/b.txt 'yes\n' and src/a.txt "$text"
   refused 'src/pipe.c: Is no regular file' -DA src/x.cc src/pipe.c
   is src/x.cc "$text"
 }
@@ -47,8 +47,7 @@ test_messages() {
   refused 'src/tab\x09.c: Is no regular file' -DA src/$'tab\t.c'
   refused 'src/\x1b[31mred.c: No such file or directory' -DA src/$'\e[31mred.c'
   refused 'Bad symbol: -DA\x0a1' -D$'A\n1' src
-  tree -DA src
-  check grep -qxF 'unifdef: src/bell\x07.c: 1: Inappropriate #endif' "$work/err"
+  after 'any -DA src' check grep -qxF 'unifdef: src/bell\x07.c: 1: Inappropriate #endif' "$work/err"
   is_root || says 'src/del\x7f and\x0aline.c: Cannot be read: Permission denied'
   can_trace || return 0
   under any strace -f -s 200 -o "$work/calls" -e trace=write -- -DA src
@@ -64,12 +63,12 @@ test_paths_from_input() {
   put src/directory/c.c "$text"
   mkfifo src/pipe
   printf 'src/a.txt\0src/link\0src/directory\0src/pipe\0src/none\0src/\x81\0' > "$work/paths"
-  makes '2 -0 -DA' src/a.txt 'yes\n' and src/b.c src/directory/c.c "$text"
+  after '2 -0 -DA' is src/a.txt 'yes\n' and src/b.c src/directory/c.c "$text"
   says 'src/pipe: Is no regular file' 'src/none: No such file or directory' \
     "src/\\x81: Its name isn't UTF-8" '1 changed, 0 unchanged, 3 faulty'
   rm src/pipe
   find src -print0 > "$work/paths"
-  reports '1 -0 -DA' '2 changed, 1 unchanged, 0 faulty' '8 lines removed'
+  after '1 -0 -DA' says_only '2 changed, 1 unchanged, 0 faulty' '8 lines removed'
   find src > "$work/paths"
   refused "Nothing is at a path of several lines; \
 -0 wants a NUL after each path (git ls-files -z)" -0 -q -DA

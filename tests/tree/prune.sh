@@ -20,23 +20,20 @@ test_pruned_files() {
   put src/only.c '#if X || VMS /* c */\r\n#endif\r\n'
   put src/same.c '#if X\n#endif\n'
   before=$(stat -c '%i %y' src/same.c)
-  makes 'any -UVMS src' src/only.c '#if X || VMS /* c */\r\n#endif\r\n'
+  after 'any -UVMS src' is src/only.c '#if X || VMS /* c */\r\n#endif\r\n'
   put src/a.c "$unpruned"
-  makes '1 -p -UVMS src' src/a.c "$pruned" and src/only.c '#if X /* c */\r\n#endif\r\n'
+  after '1 -p -UVMS src' is src/a.c "$pruned" and src/only.c '#if X /* c */\r\n#endif\r\n'
   check same "$(stat -c '%i %y' src/same.c)" "$before"
   says_only '2 changed, 1 unchanged, 0 faulty' '3 lines removed' '3 conditions edited'
   none_left
-  run 0 -p -UVMS src
-  says_first '0 changed, 3 unchanged, 0 faulty'
+  after '0 -p -UVMS src' says_first '0 changed, 3 unchanged, 0 faulty'
   is src/a.c "$pruned"
   put src/a.c "$unpruned"
   cp -r src was
-  run 1 -n -p -UVMS src
-  check diff -r was src
+  after '1 -n -p -UVMS src' check diff -r was src
   says_only '1 would change, 2 unchanged, 0 faulty' '3 lines removed' '2 conditions edited'
   cp "$work/out" diff
-  tree -d -p -UVMS src
-  check cmp "$work/out" diff
+  after 'any -d -p -UVMS src' check cmp "$work/out" diff
   is src/a.c "$pruned"
   if has patch; then
     patch -s -R -p0 -i diff
@@ -55,8 +52,8 @@ test_pruned_files() {
   put src/a.c "$unpruned"
   ln src/a.c src/b.c
   run 2 -p -UVMS src
-  makes '2 -p -n -UVMS src' src/b.c "$unpruned"
-  makes 'any -p -w -UVMS src' src/b.c "$pruned"
+  after '2 -p -n -UVMS src' is src/b.c "$unpruned"
+  after 'any -p -w -UVMS src' is src/b.c "$pruned"
 }
 
 # Options that say how conditions are decided, and those that -p refuses.
@@ -88,23 +85,22 @@ test_pruned_by_options() {
 test_unpruned() {
   alone src/a.c '#if X || V\\\nMS\n#endif\n#if!VMS&&X\n#endif\n#if X ? VMS : 1\n#endif
 #if X || VMS + Y\n#endif\n#if F(VMS)\n#endif\n'
-  reports 'any -p -r -UVMS src' '0 changed, 1 unchanged, 0 faulty' '0 conditions edited' \
+  after 'any -p -r -UVMS src' says_only '0 changed, 1 unchanged, 0 faulty' '0 conditions edited' \
     '5 conditions still name a symbol'
   prints 'src/a.c:1: over several lines: #if X || V\
 src/a.c:4: its rest would be misread: #if!VMS&&X
 src/a.c:6: not understood: #if X ? VMS : 1
 src/a.c:8: an operand is unknown: #if X || VMS + Y
 src/a.c:10: among arguments of a call: #if F(VMS)'
-  tree -r -UVMS src
-  prints 'src/a.c:4: #if!VMS&&X' sed -n 2p
+  after 'any -r -UVMS src' prints 'src/a.c:4: #if!VMS&&X' sed -n 2p
   put src/a.c '#if X\n#endif\n#if VMS && X\n#elif F(VMS) || VMS\n#endif\n/*\n*/ #ifdef X VMS
 #elifdef VMS -1\n#endif\n'
-  lists 'any -p -r -K -UVMS src' cat 'src/a.c:3: an operand is unknown: #if VMS && X
+  after 'any -p -r -K -UVMS src' prints 'src/a.c:3: an operand is unknown: #if VMS && X
 src/a.c:4: among arguments of a call: #elif F(VMS)
 src/a.c:7: not understood: */ #ifdef X VMS
 src/a.c:8: not understood: #elifdef VMS -1'
   put src/a.c '#ifdef A\n#if VMS /* q */\n#endif\n#endif\n'
-  lists 'any -p -r -iDA -UVMS src' cat 'src/a.c:1: decided as C: #if VMS /* q */'
+  after 'any -p -r -iDA -UVMS src' prints 'src/a.c:1: decided as C: #if VMS /* q */'
 }
 
 # folds BEFORE AFTER [OPTIONS]: checks what -p makes of a file. A second run changes nothing.
@@ -142,10 +138,10 @@ src/a.c:6: a comment names it: #else /* no
 src/a.c:8: a comment names it: #endif // VMS'
   prints "$listed"
   says_last '2 conditions still name a symbol'
-  lists 'any -p -r -b -UVMS src' cat "$listed"
+  after 'any -p -r -b -UVMS src' prints "$listed"
   put src/a.c '#ifdef VMS\na\n#else /* no\n VMS */\nb\n#endif
 #if A || \\\n VMS || \\\n B\nq\n#endif\n'
-  lists 'any -n -p -q -UVMS src' cat '--- src/a.c
+  after 'any -n -p -q -UVMS src' prints '--- src/a.c
 +++ src/a.c
 @@ -1,11 +1,5 @@
 -#ifdef VMS

@@ -44,17 +44,16 @@ test_squeezed_counts() {
 #endif\n\n  a = 1;\n\n#ifdef VMS\n  v();\n#endif\n}\n'
   local after='int a;\n\nint b;\nvoid f(void) {\n  a = 1;\n}\n'
   alone src/a.c "$before"
-  makes '1 -n -B -UVMS src' src/a.c "$before"
+  after '1 -n -B -UVMS src' is src/a.c "$before"
   cp "$work/out" "$work/diff"
-  reports '1 -B -UVMS src' '1 changed, 0 unchanged, 0 faulty' '12 lines removed'
+  after '1 -B -UVMS src' says_only '1 changed, 0 unchanged, 0 faulty' '12 lines removed'
   is src/a.c "$after"
   put src/a.c "$before"
-  run 1 -B -d -UVMS src
-  check cmp -s "$work/out" "$work/diff"
+  after '1 -B -d -UVMS src' check cmp -s "$work/out" "$work/diff"
   patch -s -R -p0 < "$work/diff"
   is src/a.c "$before"
   patch -s -p0 < "$work/diff"
   is src/a.c "$after"
   put src/a.c 'a;\n\n#ifdef Y\n#endif\n\n#if Y(1)\n#endif\n'
-  lists '1 -B -r -q -UY src' cat 'src/a.c:3: #if Y(1)'
+  after '1 -B -r -q -UY src' prints 'src/a.c:3: #if Y(1)'
 }

@@ -56,7 +56,7 @@ test_marks() {
   put src/later.h '\xef\xbb\xbf#pragma once\n#ifdef A\nyes\n#endif\n'
   put src/empty.h '\xef\xbb\xbf'
   cp -r src was
-  reports '2 -DA src' 'src/big.h: Cannot be read: text in UTF-16' \
+  after '2 -DA src' says_only 'src/big.h: Cannot be read: text in UTF-16' \
     'src/first.h: Cannot be read: byte order mark before #if' \
     'src/little.h: Cannot be read: text in UTF-16' \
     '1 changed, 1 unchanged, 3 faulty' '2 lines removed'
@@ -86,7 +86,7 @@ test_counter() {
   prints "$none"$'\nunifdef-tree: no condition names B' without_returns
   tree -DA src
   check same "$(cat "$work/err")" "$none"$'\nunifdef-tree: no condition names A'
-  reports 'any -q -DA src'
+  after 'any -q -DA src' says_only
 }
 
 # Removed lines are red, added ones green, and the head is cyan.
@@ -94,8 +94,7 @@ test_colours() {
   local esc=$'\x1b' plain
   has script || return 0
   fresh src/a.c
-  tree -n -q -UA src
-  prints 0 grep -c "$esc"
+  after 'any -n -q -UA src' prints 0 grep -c "$esc"
   plain=$(cat "$work/out")
   on_terminal '-n -q -UA src'
   check same "$(tr -d '\r' < "$work/out" | sed -n '3,5p;7,8p')" "${esc}[36m@@ -1,5 +1 @@${esc}[m
