@@ -33,8 +33,8 @@ CPU = os.environ.get("UNIFDEF_CPU", "")
 CAUGHT = {"stdout": subprocess.PIPE, "stderr": subprocess.STDOUT, "errors": "replace"}
 
 # Those with the longest chain above them, which begin first.
-FIRST = """ud_model ud_cond ud_faults ud_text ud_sections ud_args ud_simplified
-ud_io ud_passes ud_engine ud_replace ud_diff unifdef ud_tree""".split()
+FIRST = """ud_model ud_cond ud_text ud_sections ud_args ud_simplified
+ud_io ud_passes ud_engine ud_replace unifdef ud_tree""".split()
 
 # Among how many processors a check is split, if it is one of the longest of the chain. A split
 # check takes half as much time of a processor again.

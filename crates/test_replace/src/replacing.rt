@@ -4,7 +4,8 @@ use crate::fake::{Change, Failures, FakeDirectory};
 use std::process::Abort;
 use std::test::Fail;
 use ud_args::plan;
-use ud_faults::{RunFault, SectionFault};
+use ud_engine::RunFault;
+use ud_sections::SectionFault;
 use ud_replace::{FileId, ReplaceError, Target, TextPlan, Update, replace};
 
 /// A text for which the output is `OUTPUT`.

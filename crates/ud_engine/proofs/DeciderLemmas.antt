@@ -9,7 +9,7 @@ use Rattle.ud_model.specs.sections.Items.{Options, reading_of, mode_after, next_
 use Rattle.ud_model.specs.declared.kind.Mode.{Mode}
 use Rattle.ud_model.specs.declared.verdict.Verdict.{Verdict}
 use Rattle.ud_text.specs.scan.ScannerState.{ScannerRepresents}
-use Rattle.ud_faults.specs.declared.sections.SectionFault.{SectionFault}
+use Rattle.ud_sections.specs.declared.sections.fault.SectionFault.{SectionFault}
 use Rattle.ud_sections.specs.declared.sections.step.Span.{Span}
 use Rattle.ud_sections.specs.declared.sections.step.Step.{Step}
 use Rattle.ud_sections.specs.sections.MachineState.{MachineRepresents, StepsLine, machine_fault}

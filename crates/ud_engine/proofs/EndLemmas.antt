@@ -11,9 +11,9 @@ use Rattle.ud_model.proofs.text.LinesLemmas.{last_line-some, numbered_from-next}
 use Rattle.ud_model.specs.conditions.Table.{Argument}
 use Rattle.ud_text.specs.lines.LinesState.{LinesState}
 use Rattle.ud_sections.proofs.lemmas.sections.NextLemmas.{lines_more}
-use Rattle.ud_faults.specs.Faults.{fault_of}
-use Rattle.ud_faults.specs.declared.sections.SectionFault.{SectionFault}
-use Rattle.ud_faults.specs.declared.run.RunFault.TheVariants.{Section}
+use Rattle.ud_sections.specs.sections.SectionFaults.{fault_of}
+use Rattle.ud_sections.specs.declared.sections.fault.SectionFault.{SectionFault}
+use Rattle.ud_engine.specs.declared.fault.RunFault.TheVariants.{Section}
 use Rattle.ud_engine.specs.declared.line_processor.LineProcessor.{LineProcessor}
 use Rattle.ud_engine.specs.Finishing.{without_fault, PrintsAll, FinishFault, FinishTruncated, FinishOk, FinishErr}
 use Rattle.ud_engine.specs.Feeding.{EngineState, EngineRepresentsBuffered, EngineRepresents}

@@ -12,12 +12,12 @@ use Rattle.ud_model.specs.declared.limits.TheConstants.{LINE_BYTES, TEXT_LINES, 
 use Rattle.ud_model.proofs.text.LinesLemmas.{split_lines-append-open, split_lines-append-line, text_of-line_at, numbered_from-next, lines_so_far-append}
 use Rattle.ud_cond.specs.symbols.SymbolTable.{TableRepresents}
 use Rattle.ud_text.specs.lines.LinesState.{LinesRepresent, UpToNewline, BreaksLimit}
-use Rattle.ud_faults.specs.declared.text.TextFault.{TextFault}
-use Rattle.ud_faults.specs.declared.text.TextFault.TheVariants.{TooManyLines, LineTooLong}
+use Rattle.ud_text.specs.declared.lines.fault.TextFault.{TextFault}
+use Rattle.ud_text.specs.declared.lines.fault.TextFault.TheVariants.{TooManyLines, LineTooLong}
 use Rattle.ud_text.proofs.lemmas.lines.LinesLemmas.{represent_before, represent_rest}
 use Rattle.ud_sections.proofs.lemmas.sections.NextLemmas.{lines_more}
 use Rattle.ud_engine.specs.Feeding.{EngineState, IsOpen, EngineRepresentsBuffered, FaultsAfter, PrintsPrefix}
-use Rattle.ud_faults.specs.Faults.{limit_of}
+use Rattle.ud_text.specs.lines.LimitFaults.{limit_of}
 use Rattle.ud_engine.specs.ProcessedLines.{ProcessorRepresents, PrintsMore}
 use Rattle.ud_model.proofs.sections.FaultStays.{line_of-next_item}
 

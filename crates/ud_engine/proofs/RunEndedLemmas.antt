@@ -8,9 +8,10 @@ use Rattle.ud_model.specs.sections.Items.{Options}
 use Rattle.ud_model.specs.sections.Faults.{Fault}
 use Rattle.ud_model.specs.answer.Printing.{Judged}
 use Rattle.ud_model.specs.answer.Outcomes.{outcome_of, output_by, ran_as, came_as}
-use Rattle.ud_faults.specs.Faults.{fault_of, limit_of}
-use Rattle.ud_faults.specs.declared.run.RunFault.{RunFault}
-use Rattle.ud_faults.specs.declared.run.RunFault.TheVariants.{Text, Section, Read, Write}
+use Rattle.ud_text.specs.lines.LimitFaults.{limit_of}
+use Rattle.ud_sections.specs.sections.SectionFaults.{fault_of}
+use Rattle.ud_engine.specs.declared.fault.RunFault.{RunFault}
+use Rattle.ud_engine.specs.declared.fault.RunFault.TheVariants.{Text, Section, Read, Write}
 use Rattle.ud_engine.specs.Finishing.{FinishFault, FinishErr, Finishes}
 use Rattle.ud_engine.specs.Feeding.{EngineState, EngineRepresentsBuffered, FeedFails, FaultsAfter}
 use Rattle.ud_engine.specs.ProcessedLines.{text_by}

@@ -14,9 +14,9 @@ use Rattle.ud_text.specs.lines.Borrowing.{CanBorrow}
 use Rattle.ud_text.proofs.lemmas.scan.MaskLemmas.{no_newline-take}
 use Rattle.ud_text.proofs.lemmas.bulk.StepLemmas.{drop_both}
 use Rattle.ud_sections.specs.sections.Limits.{IsWithinLimits}
-use Rattle.ud_faults.specs.Faults.{fault_of}
-use Rattle.ud_faults.specs.declared.sections.SectionFault.{SectionFault}
-use Rattle.ud_faults.specs.declared.run.RunFault.TheVariants.{Section}
+use Rattle.ud_sections.specs.sections.SectionFaults.{fault_of}
+use Rattle.ud_sections.specs.declared.sections.fault.SectionFault.{SectionFault}
+use Rattle.ud_engine.specs.declared.fault.RunFault.TheVariants.{Section}
 use Rattle.ud_engine.specs.Advancing.{EngineAdvances, StepFails, slice_between}
 use Rattle.ud_engine.specs.Feeding.{EngineState, IsOpen, EngineRepresentsBuffered}
 use Rattle.ud_engine.specs.ProcessedLines.{PrintsLine}

@@ -19,14 +19,14 @@ use Rattle.ud_model.specs.sections.Items.{Options}
 use Rattle.ud_model.specs.answer.Printing.{Judged}
 use Rattle.ud_text.specs.lines.LinesState.{LinesState, HasCapacity}
 use Rattle.ud_text.specs.lines.Consuming.{CanConsume}
-use Rattle.ud_faults.specs.Faults.{fault_of}
+use Rattle.ud_sections.specs.sections.SectionFaults.{fault_of}
 use Rattle.ud_engine.specs.declared.engine.Cursor.{Cursor}
-use Rattle.ud_faults.specs.declared.run.RunFault.{RunFault}
-use Rattle.ud_faults.specs.declared.run.RunFault.TheVariants.{Text, Section, Read, Write}
+use Rattle.ud_engine.specs.declared.fault.RunFault.{RunFault}
+use Rattle.ud_engine.specs.declared.fault.RunFault.TheVariants.{Text, Section, Read, Write}
 use Rattle.ud_engine.specs.Feeding.{EngineState, EngineRepresentsBuffered, FaultsAfter}
 use Rattle.ud_engine.specs.Feeding.{Session, IsBufferedIn}
 use Rattle.ud_engine.specs.FaultEffects.{OutputUnchanged}
-use Rattle.ud_faults.specs.Faults.{limit_of}
+use Rattle.ud_text.specs.lines.LimitFaults.{limit_of}
 use Rattle.ud_io.specs.Streams.{Stream, stream_of, TakesAllBut}
 use Rattle.ud_io.specs.Watched.{WatchedState}
 

@@ -1,7 +1,7 @@
 -- FaultEffects: the state of the output after a fault, and the result of a call.
 use Rattle.std.specs.Prelude.{◌≡◌, ℕ, List, Bool, true, false, Result, Err}
-use Rattle.ud_faults.specs.declared.run.RunFault.{RunFault}
-use Rattle.ud_faults.specs.declared.run.RunFault.TheVariants.{Text, Section, Read, Write}
+use Rattle.ud_engine.specs.declared.fault.RunFault.{RunFault}
+use Rattle.ud_engine.specs.declared.fault.RunFault.TheVariants.{Text, Section, Read, Write}
 use Rattle.ud_io.specs.Watched.{WatchedState}
 
 -- `OutputUnchanged old new buffered left f`: `f` is a fault of the text; the writer and the buffer

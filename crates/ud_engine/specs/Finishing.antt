@@ -24,12 +24,12 @@ use Rattle.ud_model.specs.sections.Faults.{Fault}
 use Rattle.ud_model.specs.answer.Printing.{Judged}
 use Rattle.ud_model.specs.answer.Outcomes.{HasNoFault, ReadsAs, Outcome, HasOutcome}
 use Rattle.ud_text.specs.lines.LinesState.{LinesState}
-use Rattle.ud_faults.specs.Faults.{fault_of}
-use Rattle.ud_faults.specs.declared.run.RunFault.{RunFault}
-use Rattle.ud_faults.specs.declared.run.RunFault.TheVariants.{Text, Section, Read, Write}
+use Rattle.ud_sections.specs.sections.SectionFaults.{fault_of}
+use Rattle.ud_engine.specs.declared.fault.RunFault.{RunFault}
+use Rattle.ud_engine.specs.declared.fault.RunFault.TheVariants.{Text, Section, Read, Write}
 use Rattle.ud_engine.specs.declared.line_processor.LineProcessor.{LineProcessor}
 use Rattle.ud_engine.specs.Feeding.{EngineState, Session, IsInSession}
-use Rattle.ud_faults.specs.Faults.{limit_of}
+use Rattle.ud_text.specs.lines.LimitFaults.{limit_of}
 use Rattle.ud_engine.specs.ProcessedLines.{ProcessorRepresents, text_by, differs_in}
 use Rattle.ud_io.specs.Watched.{WatchedState, AppendsPrefix}
 

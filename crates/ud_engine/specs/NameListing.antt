@@ -8,8 +8,8 @@ use Rattle.ud_model.specs.sections.Faults.{FaultOf}
 use Rattle.ud_model.specs.conditions.Table.{Argument}
 use Rattle.ud_cond.specs.symbols.SymbolTable.{TableRepresents}
 use Rattle.ud_model.specs.answer.Listing.{levels, listed}
-use Rattle.ud_faults.specs.Faults.{fault_of}
-use Rattle.ud_faults.specs.declared.sections.SectionFault.{SectionFault}
+use Rattle.ud_sections.specs.sections.SectionFaults.{fault_of}
+use Rattle.ud_sections.specs.declared.sections.fault.SectionFault.{SectionFault}
 use Rattle.ud_engine.specs.declared.line_decider.LineDecider.{LineDecider}
 use Rattle.ud_engine.specs.DecidedLines.{DeciderRepresents}
 use Rattle.ud_io.specs.Streams.{Stream, stream_of, TakesAllBut}

@@ -34,8 +34,8 @@ use Rattle.ud_model.specs.declared.settings.Listing.{Listing}
 use Rattle.ud_model.specs.declared.settings.Listing.TheVariants.{Off, Names, Depths}
 use Rattle.ud_cond.specs.symbols.SymbolTable.{TableRepresents}
 use Rattle.ud_text.specs.lines.LinesState.{LinesState}
-use Rattle.ud_faults.specs.Faults.{fault_of}
-use Rattle.ud_faults.specs.declared.sections.SectionFault.{SectionFault}
+use Rattle.ud_sections.specs.sections.SectionFaults.{fault_of}
+use Rattle.ud_sections.specs.declared.sections.fault.SectionFault.{SectionFault}
 use Rattle.ud_engine.specs.declared.line_processor.LineProcessor.{LineProcessor}
 use Rattle.ud_engine.specs.declared.line_processor.SkippedText.{SkippedText}
 use Rattle.ud_sections.specs.declared.sections.step.Span.{Span}

@@ -24,14 +24,14 @@ use Rattle.ud_model.specs.answer.Outcomes.{lines_so_far, output_by}
 use Rattle.ud_model.specs.declared.limits.TheConstants.{LINE_BYTES, TEXT_LINES}
 use Rattle.ud_text.specs.lines.LinesState.{LinesState}
 use Rattle.ud_sections.specs.printing.Printers.{printer_represents, printer_piece}
-use Rattle.ud_faults.specs.Faults.{fault_of}
+use Rattle.ud_sections.specs.sections.SectionFaults.{fault_of}
 use Rattle.ud_sections.specs.declared.printing.printer.Printer.{Printer}
-use Rattle.ud_faults.specs.declared.run.RunFault.{RunFault}
-use Rattle.ud_faults.specs.declared.run.RunFault.TheVariants.{Text, Section, Read, Write}
+use Rattle.ud_engine.specs.declared.fault.RunFault.{RunFault}
+use Rattle.ud_engine.specs.declared.fault.RunFault.TheVariants.{Text, Section, Read, Write}
 use Rattle.ud_engine.specs.declared.pump.TheConstants.{CHUNK_BYTES}
 use Rattle.ud_engine.specs.Finishing.{RunAnswers}
 use Rattle.ud_engine.specs.Feeding.{EngineState, EngineRepresents}
-use Rattle.ud_faults.specs.Faults.{limit_of}
+use Rattle.ud_text.specs.lines.LimitFaults.{limit_of}
 use Rattle.ud_io.specs.Watched.{WatchedState, AppendsPrefix}
 
 -- `all_but_last_chunk given`: `given` without its last `CHUNK_BYTES`, the most that one read gives.

@@ -6,7 +6,7 @@ use Rattle.ud_model.specs.sections.Items.{Options}
 use Rattle.ud_model.specs.declared.limits.TheConstants.{TEXT_LINES}
 use Rattle.ud_text.specs.lines.LinesState.{LinesState}
 use Rattle.ud_sections.specs.declared.printing.printer.Printer.{Printer}
-use Rattle.ud_faults.specs.declared.run.RunFault.{RunFault}
+use Rattle.ud_engine.specs.declared.fault.RunFault.{RunFault}
 use Rattle.ud_io.specs.Watched.{WatchedState}
 use Rattle.ud_engine.specs.declared.pump.TheConstants.{CHUNK_BYTES}
 use Rattle.ud_engine.specs.Feeding.{EngineState}

@@ -35,7 +35,7 @@ use std::marker::Model;
 use std::mem;
 use ud_args::Plan;
 use ud_cond::Symbols;
-use ud_faults::RunFault;
+use crate::fault::RunFault;
 use ud_io::Watched;
 use ud_model::TEXT_LINES;
 use ud_sections::Show;

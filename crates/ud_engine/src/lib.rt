@@ -7,6 +7,7 @@
 #![tactic(auto)]
 
 mod engine;
+mod fault;
 mod line_decider;
 mod line_processor;
 mod listing;
@@ -16,7 +17,7 @@ mod plan_source;
 mod pump;
 
 pub use engine::{Engine, EngineOf};
+pub use fault::RunFault;
 pub use plan_source::PlanSource;
 pub use pump::run;
-pub use ud_faults::RunFault;
 pub use ud_io::{Watched, write_all};

@@ -17,7 +17,7 @@ ghost use Rattle.ud_model.specs.declared.limits.TheConstants.{LINE_BYTES};
 use crate::engine::{Engine, EngineOf};
 use std::io::{Read, Write};
 use ud_args::Plan;
-use ud_faults::RunFault;
+use crate::fault::RunFault;
 use ud_io::Watched;
 use ud_sections::Printer;
 use ud_text::{LineBuffer, LongLineBuffer, ShortLineBuffer, last_line_start};

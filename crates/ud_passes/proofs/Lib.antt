@@ -11,6 +11,10 @@
 --   SearchLemmas.line_searched    the mentions of a text with a line more
 --   TableLemmas.table_of          the rows of a table are sorted
 --   UnlistedLemmas.line_found     the conditions that can't be listed, with a line more
+--   diff.ScriptLemmas.script_whole   the script of a diff has all lines of both texts
+--   diff.UptoLemmas.hunks_all     kept lines up to the end need no further hunk
+--   diff.PatchLemmas.diff_is      a diff turns the lines of one text into those of the other
+mod diff
 pub mod WalkLemmas
 pub mod UnlistedLemmas
 pub mod TableLemmas

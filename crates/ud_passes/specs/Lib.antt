@@ -1,6 +1,7 @@
 pub mod Passes
 pub mod UntouchedTexts
 pub mod Walks
+pub mod diff
 pub mod folding
 pub mod names
 pub mod pruning

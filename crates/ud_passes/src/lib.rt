@@ -10,8 +10,10 @@
 //! - `fold` appends a text with each conditional directive on one line, and `restore` goes back.
 //! - `is_untouched` tells most texts that `fold` and `prune` leave as they are.
 //! - `squeeze` leaves out the blank lines that only stood there because of lines that went.
+//! - `unified_diff` returns what changed in a text.
 #![tactic(auto)]
 
+mod diff;
 mod folding;
 mod lines;
 mod names;
@@ -21,6 +23,7 @@ mod squeezing;
 mod untouched;
 mod walk;
 
+pub use diff::{EDITED, SAME, unified_diff};
 pub use folding::{fold, restore};
 pub use names::Names;
 pub use pruning::{law_pruned_text, prune};

@@ -22,7 +22,7 @@ use Rattle.ud_model.proofs.sections.Stays.{length_marks}
 use Rattle.ud_model.proofs.text.LinesLemmas.{split_lines-append, split_lines-append-line, split_lines-line-prefix, split_lines-open, texts_of-formed, lines_exist, map-lines_of}
 use Rattle.ud_text.specs.lines.LinesState.{UpToNewline}
 use Rattle.ud_text.specs.bulk.BulkLexemes.{IsLineStart, at_start, after_newline}
-use Rattle.ud_diff.specs.declared.script.TheConstants.{SAME}
+use Rattle.ud_passes.specs.declared.diff.script.TheConstants.{SAME}
 use Rattle.ud_replace.specs.Marks.{AreMarks, judged_by, mark_by, plain_piece, mark_of, mark_piece, first_text, later_texts, read_mark, read_marks}
 use Rattle.ud_replace.specs.FoldedMarks.{first_stay}
 

@@ -9,7 +9,7 @@ use Rattle.ud_args.specs.Plans.{PlanState, ForOptionsOf}
 use Rattle.ud_engine.specs.ProcessedLines.{text_by}
 use Rattle.ud_model.specs.sections.Items.{Options}
 use Rattle.ud_model.specs.answer.Printing.{Judged}
-use Rattle.ud_faults.specs.declared.run.RunFault.{RunFault}
+use Rattle.ud_engine.specs.declared.fault.RunFault.{RunFault}
 use Rattle.ud_engine.specs.Feeding.{EngineState, EngineRepresents, Session, IsInSession, Continues}
 use Rattle.ud_engine.specs.Finishing.{Finishes, FinishOk}
 use Rattle.ud_replace.specs.Marks.{AreMarks, PrintsBy, PrintsMarks, marked_piece, read_marks}

@@ -7,8 +7,8 @@ use Rattle.ud_model.proofs.output.Changed.{changed}
 use Rattle.ud_io.specs.Watched.{AppendsAllOrPrefix}
 use Rattle.ud_model.specs.conditions.Conditions.{Rules}
 use Rattle.ud_model.specs.sections.Items.{Options, rules_of}
-use Rattle.ud_faults.specs.declared.run.RunFault.{RunFault}
-use Rattle.ud_faults.specs.declared.run.RunFault.TheVariants.{Text as TextFault, Section, Read as ReadFault, Write as WriteFault}
+use Rattle.ud_engine.specs.declared.fault.RunFault.{RunFault}
+use Rattle.ud_engine.specs.declared.fault.RunFault.TheVariants.{Text as TextFault, Section, Read as ReadFault, Write as WriteFault}
 use Rattle.ud_engine.specs.Finishing.{RunAnswers}
 use Rattle.ud_engine.specs.Runs.{ErrorMatchesStreams}
 use Rattle.ud_passes.specs.pruning.PrunedTexts.{pruned_text, edited_count}

@@ -14,7 +14,7 @@ use Rattle.std.specs.List.{count_by}
 use Rattle.ud_model.specs.text.Lines.{texts_of}
 use Rattle.ud_model.specs.sections.Items.{Options}
 use Rattle.ud_simplified.specs.FoldedTexts.{vertical_tab, folded_text}
-use Rattle.ud_diff.specs.declared.script.TheConstants.{SAME}
+use Rattle.ud_passes.specs.declared.diff.script.TheConstants.{SAME}
 use Rattle.ud_passes.specs.squeezing.SqueezedTexts.{stays}
 use Rattle.ud_replace.specs.declared.marked.TheConstants.{REMOVED}
 use Rattle.ud_replace.specs.Marks.{AreMarks, first_text, later_texts}

@@ -29,7 +29,7 @@ use Rattle.ud_model.specs.declared.verdict.Verdict.{Verdict}
 use Rattle.ud_model.specs.answer.Outcomes.{ReadsAs}
 use Rattle.ud_model.specs.declared.settings.Settings.{Settings}
 use Rattle.ud_engine.specs.ProcessedLines.{text_by}
-use Rattle.ud_diff.specs.declared.script.TheConstants.{SAME, EDITED}
+use Rattle.ud_passes.specs.declared.diff.script.TheConstants.{SAME, EDITED}
 use Rattle.ud_replace.specs.declared.marked.TheConstants.{REMOVED}
 
 -- `plain_piece blank j`: what is printed for `j`. A removed line leaves its ending if `blank`.

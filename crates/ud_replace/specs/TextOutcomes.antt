@@ -34,9 +34,9 @@ use Rattle.ud_model.specs.declared.settings.Listing.TheVariants.{Off}
 use Rattle.ud_simplified.specs.FoldedTexts.{folded_text, restored_text}
 use Rattle.ud_model.specs.answer.Outcomes.{Outcome, HasOutcome}
 use Rattle.ud_cond.specs.symbols.SymbolTable.{TableRepresents}
-use Rattle.ud_faults.specs.declared.run.RunFault.{RunFault}
-use Rattle.ud_faults.specs.declared.run.RunFault.TheVariants.{Text as TextFault, Section}
-use Rattle.ud_faults.specs.declared.run.RunFault.TheVariants.{Read as ReadFault, Write}
+use Rattle.ud_engine.specs.declared.fault.RunFault.{RunFault}
+use Rattle.ud_engine.specs.declared.fault.RunFault.TheVariants.{Text as TextFault, Section}
+use Rattle.ud_engine.specs.declared.fault.RunFault.TheVariants.{Read as ReadFault, Write}
 use Rattle.ud_engine.specs.Finishing.{text_fault_of}
 use Rattle.ud_passes.specs.pruning.PrunedTexts.{pruned_text, edited_count}
 use Rattle.ud_passes.specs.squeezing.SqueezedTexts.{squeezed_text}

@@ -2,7 +2,7 @@
 use Rattle.std.specs.Prelude.{◌≡◌, ℕ, List, ◌++◌, Bool, true, None}
 use Rattle.ud_model.specs.sections.Items.{Options, rules_of}
 use Rattle.ud_model.specs.answer.Outcomes.{Outcome, HasOutcome}
-use Rattle.ud_faults.specs.declared.run.RunFault.{RunFault}
+use Rattle.ud_engine.specs.declared.fault.RunFault.{RunFault}
 use Rattle.ud_engine.specs.Finishing.{text_fault_of}
 use Rattle.ud_passes.specs.UntouchedTexts.{IsUntouched}
 use Rattle.ud_passes.specs.pruning.PrunedTexts.{pruned_text, edited_count}

@@ -1,7 +1,7 @@
 //! What happened to a file.
 
 use thiserror::Error;
-use ud_faults::RunFault;
+use ud_engine::RunFault;
 
 /// The treatment of a file whose text has no fault.
 #[derive(Clone, Copy, Debug, PartialEq, Eq)]

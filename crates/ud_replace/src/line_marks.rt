@@ -6,14 +6,14 @@ ghost use Rattle.ud_model.specs.text.Lines.{texts_of};
 ghost use Rattle.ud_model.specs.declared.settings.Listing.TheVariants.{Off};
 ghost use Rattle.ud_args.specs.Plans.{ForOptionsOf};
 ghost use Rattle.ud_text.specs.bulk.BulkLexemes.{IsLineStart};
-ghost use Rattle.ud_diff.specs.declared.script.TheConstants.{SAME};
+ghost use Rattle.ud_passes.specs.declared.diff.script.TheConstants.{SAME};
 ghost use Rattle.ud_replace.specs.Marks.{AreMarks, read_mark, read_marks};
 
 use crate::folded_marks::first_line;
 use crate::printing::print_marked;
 use std::alloc::{AllocError, Global};
 use ud_args::Plan;
-use ud_diff::SAME;
+use ud_passes::SAME;
 use ud_text::{count_lines, last_line_start};
 
 /// The most bytes of lines that are compared at once.

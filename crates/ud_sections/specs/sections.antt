@@ -1,4 +1,5 @@
 -- The open sections, and the decision on each line.
+pub mod SectionFaults
 pub mod StepViews
 pub mod SectionStates
 pub mod OpenSections

@@ -17,5 +17,4 @@ pub use directives::{Cut, Directive};
 pub use printing::{
     Blank, Complement, Delete, LineOutput, Lister, Pieces, Printer, Renumber, Show,
 };
-pub use sections::{Machine, Span, Step, TextPolicy};
-pub use ud_faults::SectionFault;
+pub use sections::{Machine, SectionFault, Span, Step, TextPolicy};

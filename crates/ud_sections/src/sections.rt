@@ -9,6 +9,7 @@
 
 mod check;
 mod classify_line;
+mod fault;
 mod line_kind;
 mod machine;
 mod open_section;
@@ -16,6 +17,7 @@ mod section_state;
 mod step;
 mod text_policy;
 
+pub use fault::SectionFault;
 pub use machine::Machine;
 pub use step::{Span, Step};
 pub use text_policy::TextPolicy;

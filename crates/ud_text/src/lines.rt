@@ -26,12 +26,13 @@ use memchr::memchr;
 pub use newlines::count_lines;
 use newlines::whole_lines_len;
 use std::marker::Model;
-use ud_faults::TextFault;
 use ud_model::{LINE_BYTES, Line, TEXT_LINES};
 
+mod fault;
 mod line_buffer;
 mod newlines;
 
+pub use fault::TextFault;
 pub use line_buffer::{LineBuffer, LongLineBuffer, ShortLineBuffer};
 
 /// The number of bytes that are searched for a newline at once.

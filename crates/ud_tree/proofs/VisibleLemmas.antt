@@ -4,7 +4,7 @@ use Rattle.std.specs.List.{flat_map}
 use Rattle.std.proofs.lemmas.Grind.{flat_map-append}
 use Rattle.ud_io.specs.Watched.{AppendsAllOrPrefix}
 use Rattle.unifdef.specs.RunMessages.{fault_message}
-use Rattle.ud_faults.specs.declared.run.RunFault.{RunFault}
+use Rattle.ud_engine.specs.declared.fault.RunFault.{RunFault}
 use Rattle.ud_tree.specs.Reports.{ReportState, Tells, TellsOf}
 use Rattle.ud_tree.specs.Messages.{IsTextMessage, is_visible, is_raw}
 use Rattle.ud_io.specs.Streams.{Stream, Sends}

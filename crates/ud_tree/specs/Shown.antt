@@ -22,8 +22,8 @@ use Rattle.ud_model.specs.sections.Items.{mode_by}
 use Rattle.ud_model.specs.declared.kind.Mode.{Mode}
 use Rattle.ud_model.specs.declared.kind.Mode.TheVariants.{C, Plain}
 use Rattle.ud_simplified.specs.FoldedTexts.{folded_text}
-use Rattle.ud_faults.specs.declared.run.RunFault.{RunFault}
-use Rattle.ud_diff.specs.Patching.{IsDiff}
+use Rattle.ud_engine.specs.declared.fault.RunFault.{RunFault}
+use Rattle.ud_passes.specs.diff.Patching.{IsDiff}
 use Rattle.ud_replace.specs.declared.error.Update.{Update}
 use Rattle.ud_replace.specs.declared.error.Update.TheVariants.{Unchanged, Replaced}
 use Rattle.ud_replace.specs.declared.error.ReplaceError.{ReplaceError}

@@ -5,10 +5,10 @@
 //! loses. Rejected: comparing the texts, which finds no better hunks.
 
 ghost use Rattle.std.specs.Prelude.{IfSome};
-ghost use Rattle.ud_diff.specs.Patching.{IsDiff};
+ghost use Rattle.ud_passes.specs.diff.Patching.{IsDiff};
 
 use crate::job::Job;
-use ud_diff::unified_diff;
+use ud_passes::unified_diff;
 use ud_replace::change_marks;
 
 /// Returns the diff of a text without a fault and its output; `None` if memory runs out.

@@ -30,7 +30,7 @@ use std::alloc::{AllocError, Global};
 use std::io::{self, Write};
 use std::marker::Model;
 use ud_cond::Rules;
-use ud_faults::RunFault;
+use ud_engine::RunFault;
 use ud_io::{Watched, send, send_parts};
 use ud_model::Settings;
 use ud_passes::{Listing, Remaining};

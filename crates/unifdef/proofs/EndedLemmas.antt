@@ -4,8 +4,8 @@ use Rattle.std.specs.Io.KnownBytes.{Keeps}
 use Rattle.ud_model.specs.text.Lines.{Line}
 use Rattle.ud_model.specs.sections.Items.{Options}
 use Rattle.ud_model.specs.sections.Faults.{Fault}
-use Rattle.ud_faults.specs.declared.run.RunFault.{RunFault}
-use Rattle.ud_faults.specs.declared.run.RunFault.TheVariants.{Text, Section, Read, Write}
+use Rattle.ud_engine.specs.declared.fault.RunFault.{RunFault}
+use Rattle.ud_engine.specs.declared.fault.RunFault.TheVariants.{Text, Section, Read, Write}
 use Rattle.ud_engine.specs.Runs.{RunEnded, EndsWith, AppendsPrefixOfOutput, Truncated, StoppedAtFault, in_course, at_end}
 use Rattle.ud_io.proofs.BufferingLemmas.{appends_kept}
 use Rattle.unifdef.specs.ToolEnded.{is_read_error, is_write_error}

@@ -11,12 +11,13 @@ use Rattle.ud_model.specs.answer.CommandLine.{UsageFault, options_of, display_na
 use Rattle.ud_model.specs.answer.Messages.{write_error}
 use Rattle.ud_model.specs.answer.Outcomes.{Outcome, HasOutcome, HasOutcomeSoFar}
 use Rattle.ud_model.proofs.sections.FaultStays.{fault_stays}
-use Rattle.ud_faults.specs.declared.run.RunFault.{RunFault}
-use Rattle.ud_faults.specs.declared.run.RunFault.TheVariants.{Text, Section, Read, Write}
+use Rattle.ud_engine.specs.declared.fault.RunFault.{RunFault}
+use Rattle.ud_engine.specs.declared.fault.RunFault.TheVariants.{Text, Section, Read, Write}
 use Rattle.ud_io.specs.Watched.{WatchedState, AppendsAllOrPrefix}
 use Rattle.ud_engine.specs.Runs.{EndsWith, StoppedAtFault}
 use Rattle.ud_engine.specs.Finishing.{text_fault_of}
-use Rattle.ud_faults.specs.Faults.{limit_of, fault_of}
+use Rattle.ud_text.specs.lines.LimitFaults.{limit_of}
+use Rattle.ud_sections.specs.sections.SectionFaults.{fault_of}
 use Rattle.unifdef.specs.RunMessages.{final_result, result_message, result_status}
 use Rattle.unifdef.specs.ToolCall.{Call}
 use Rattle.unifdef.specs.ToolAnswer.{AnswersSpec, RefusesArgs}

@@ -16,7 +16,7 @@ use Rattle.ud_io.proofs.BufferingLemmas.{appends_kept}
 use Rattle.ud_engine.specs.Finishing.{RunAnswers, ResultIs}
 use Rattle.ud_engine.specs.Runs.{LagsOneRead}
 use Rattle.ud_io.specs.Watched.{AppendsAllOrPrefix}
-use Rattle.ud_faults.specs.declared.run.RunFault.{RunFault}
+use Rattle.ud_engine.specs.declared.fault.RunFault.{RunFault}
 use Rattle.unifdef.specs.ToolCall.{Call}
 use Rattle.unifdef.specs.ToolAnswer.{Answers, AnswersSpec, FailsForMemory}
 use Rattle.unifdef.specs.UsageMessages.{usage_text}

@@ -3,9 +3,10 @@ use Rattle.std.specs.Prelude.{ℕ, List, [], Bool, true, false, Result, Ok, Err}
 use Rattle.ud_model.specs.answer.Messages.{message_of, read_error, write_error}
 use Rattle.ud_model.specs.answer.Answer.{status_under}
 use Rattle.ud_model.specs.declared.settings.Settings.{Settings}
-use Rattle.ud_faults.specs.Faults.{limit_of, fault_of}
-use Rattle.ud_faults.specs.declared.run.RunFault.{RunFault}
-use Rattle.ud_faults.specs.declared.run.RunFault.TheVariants.{Text, Section, Read, Write}
+use Rattle.ud_text.specs.lines.LimitFaults.{limit_of}
+use Rattle.ud_sections.specs.sections.SectionFaults.{fault_of}
+use Rattle.ud_engine.specs.declared.fault.RunFault.{RunFault}
+use Rattle.ud_engine.specs.declared.fault.RunFault.TheVariants.{Text, Section, Read, Write}
 
 -- `final_result ran flushed`: the result of a run that returned `ran`, after the flush of its
 -- output. A failed flush is a failed write, unless there is a fault already.

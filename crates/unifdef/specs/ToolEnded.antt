@@ -1,8 +1,8 @@
 -- ToolEnded: how the tool ended, whatever failed.
 use Rattle.std.specs.Prelude.{◌≡◌, ◌⊎◌, Bool, true, false, not, ◌||◌, None, Result, Ok, Err}
 use Rattle.ud_model.specs.answer.CommandLine.{options_of, display_name, usage_fault}
-use Rattle.ud_faults.specs.declared.run.RunFault.{RunFault}
-use Rattle.ud_faults.specs.declared.run.RunFault.TheVariants.{Text, Section, Read, Write}
+use Rattle.ud_engine.specs.declared.fault.RunFault.{RunFault}
+use Rattle.ud_engine.specs.declared.fault.RunFault.TheVariants.{Text, Section, Read, Write}
 use Rattle.ud_engine.specs.Runs.{RunEnded, LagsOneRead}
 use Rattle.ud_io.specs.Watched.{AppendsAllOrPrefix}
 use Rattle.unifdef.specs.RunMessages.{final_result, result_message, result_status}

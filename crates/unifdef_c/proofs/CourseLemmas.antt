@@ -6,8 +6,8 @@ use Rattle.std.proofs.lemmas.Option.{none-some}
 use Rattle.std.proofs.lemmas.Grind.{common_steps}
 use Rattle.ud_model.specs.answer.CommandLine.{usage_fault, options_of, display_name}
 use Rattle.ud_model.specs.answer.Answer.{Answer, IsAnswer, ran, run_answer}
-use Rattle.ud_faults.specs.declared.run.RunFault.{RunFault}
-use Rattle.ud_faults.specs.declared.run.RunFault.TheVariants.{Text, Section, Read, Write}
+use Rattle.ud_engine.specs.declared.fault.RunFault.{RunFault}
+use Rattle.ud_engine.specs.declared.fault.RunFault.TheVariants.{Text, Section, Read, Write}
 use Rattle.ud_engine.specs.Feeding.{FeedFails, Session, WriterMatches}
 use Rattle.ud_model.specs.sections.Faults.{Fault}
 use Rattle.ud_engine.specs.Finishing.{FinishFault, Finishes, RunAnswers}

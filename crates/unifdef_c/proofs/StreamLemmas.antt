@@ -3,7 +3,7 @@ use Rattle.std.proofs.Common.{◌≡◌, ◌∙◌, refl, sym, subst, ℕ, ℤ, 
 use Rattle.std.specs.Prelude.{IfOk, is_some}
 use Rattle.ud_model.specs.answer.CommandLine.{usage_fault, options_of, display_name}
 use Rattle.ud_model.specs.declared.settings.Settings.{Settings}
-use Rattle.ud_faults.specs.declared.run.RunFault.{RunFault}
+use Rattle.ud_engine.specs.declared.fault.RunFault.{RunFault}
 use Rattle.ud_args.specs.Plans.{PlanState, IsPlanOf}
 use Rattle.unifdef_c.specs.Streams.{IsNewStream, BeginsStream, FeedsStream, TakesStream, EndsStream, pending, has_ended}
 use Rattle.unifdef_c.specs.StreamCalls.{OpensStream, OpensHandle, FeedsHandle, TakesHandle, TellsEnd, EndsHandle, as_int, HasBadWords, opened, bad_words, no_memory}

@@ -6,8 +6,8 @@ use Rattle.std.specs.Prelude.{Bool, Result, Err, if◌then◌else◌}
 use Rattle.ud_model.specs.answer.CommandLine.{UsageFault, usage_fault}
 use Rattle.ud_model.specs.answer.Messages.{out_of_memory}
 use Rattle.ud_model.specs.declared.settings.Settings.{Settings}
-use Rattle.ud_faults.specs.declared.run.RunFault.{RunFault}
-use Rattle.ud_faults.specs.declared.run.RunFault.TheVariants.{Write}
+use Rattle.ud_engine.specs.declared.fault.RunFault.{RunFault}
+use Rattle.ud_engine.specs.declared.fault.RunFault.TheVariants.{Write}
 use Rattle.unifdef.specs.RunMessages.{result_message, result_status}
 use Rattle.unifdef_c.specs.Words.{words_of, AreUtf8}
 use Rattle.unifdef_c.specs.TextCalls.{overwritten}

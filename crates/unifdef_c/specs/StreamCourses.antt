@@ -3,7 +3,7 @@ use Rattle.std.specs.Prelude.{◌≡◌, ◌≤◌, ℕ, List, [], ◌++◌, len
 use Rattle.std.specs.Prelude.{Err, take}
 use Rattle.ud_model.specs.answer.CommandLine.{usage_fault, options_of, display_name}
 use Rattle.ud_model.specs.answer.Answer.{IsAnswer}
-use Rattle.ud_faults.specs.declared.run.RunFault.{RunFault}
+use Rattle.ud_engine.specs.declared.fault.RunFault.{RunFault}
 use Rattle.ud_engine.specs.Finishing.{RunAnswers}
 use Rattle.unifdef.specs.RunMessages.{result_message, result_status}
 use Rattle.unifdef_c.specs.Streams.{InSession, TakesStream, session, pending, output_of}

@@ -13,8 +13,8 @@ use Rattle.ud_model.specs.sections.Items.{Options}
 use Rattle.ud_model.specs.answer.CommandLine.{usage_fault, options_of, display_name}
 use Rattle.ud_model.specs.answer.Printing.{piece_after, style_of}
 use Rattle.ud_cond.specs.symbols.SymbolTable.{TableRepresents}
-use Rattle.ud_faults.specs.declared.run.RunFault.{RunFault}
-use Rattle.ud_faults.specs.declared.run.RunFault.TheVariants.{Text, Section, Read, Write}
+use Rattle.ud_engine.specs.declared.fault.RunFault.{RunFault}
+use Rattle.ud_engine.specs.declared.fault.RunFault.TheVariants.{Text, Section, Read, Write}
 use Rattle.ud_sections.specs.printing.Printers.{printer_represents, printer_piece}
 use Rattle.ud_args.specs.Plans.{PlanState}
 use Rattle.ud_engine.specs.Feeding.{Session, IsInSession, FeedsChunk, WriterMatches, RecordsFault}

@@ -2,8 +2,8 @@
 //! the calls for a stream.
 
 ghost use Rattle.std.specs.Prelude.{◌≡◌, ◌++◌, [], ℕ, List, Bool, Result, Err};
-ghost use Rattle.ud_faults.specs.declared.run.RunFault.{RunFault};
-ghost use Rattle.ud_faults.specs.declared.run.RunFault.TheVariants.{Write};
+ghost use Rattle.ud_engine.specs.declared.fault.RunFault.{RunFault};
+ghost use Rattle.ud_engine.specs.declared.fault.RunFault.TheVariants.{Write};
 ghost use Rattle.unifdef_c.specs.Streams.{BeginsStream, FeedsStream, EndsStream};
 ghost use Rattle.unifdef_c.specs.StreamCourses.{GoesOn, HasStopped, IsAnswerOf, TakesOn};
 ghost use Rattle.unifdef_c.specs.declared.stream.Stream.{Stream};

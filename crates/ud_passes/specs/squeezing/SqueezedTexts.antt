@@ -32,7 +32,7 @@ use Rattle.ud_model.specs.aids.ReadAs.{read_as}
 use Rattle.ud_model.specs.declared.kind.Mode.TheVariants.{C}
 use Rattle.ud_model.specs.declared.kind.Role.{Role}
 use Rattle.ud_model.specs.declared.kind.Role.TheVariants.{IfGroup, ElifGroup, ElseGroup, EndifLine}
-use Rattle.ud_diff.specs.declared.script.TheConstants.{SAME, EDITED}
+use Rattle.ud_passes.specs.declared.diff.script.TheConstants.{SAME, EDITED}
 use Rattle.ud_passes.specs.Passes.{fits}
 use Rattle.ud_passes.specs.declared.squeezing.places.Place.{Place}
 use Rattle.ud_passes.specs.declared.squeezing.marks.TheConstants.{SQUEEZED}

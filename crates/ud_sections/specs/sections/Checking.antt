@@ -3,12 +3,12 @@ use Rattle.std.specs.Prelude.{ℕ, ◌==◌, Bool, true, false, not, ◌&&◌, �
 use Rattle.std.specs.Prelude.{Some, None, Result, Ok, Err}
 use Rattle.ud_model.specs.sections.Faults.{keeps_rest}
 use Rattle.ud_model.specs.declared.limits.TheConstants.{OPEN_SECTIONS}
-use Rattle.ud_faults.specs.declared.sections.SectionFault.{SectionFault}
-use Rattle.ud_faults.specs.declared.sections.SectionFault.TheVariants.{InappropriateElif}
-use Rattle.ud_faults.specs.declared.sections.SectionFault.TheVariants.{InappropriateElse}
-use Rattle.ud_faults.specs.declared.sections.SectionFault.TheVariants.{InappropriateEndif}
-use Rattle.ud_faults.specs.declared.sections.SectionFault.TheVariants.{TooManyLevels}
-use Rattle.ud_faults.specs.declared.sections.SectionFault.TheVariants.{Obfuscated}
+use Rattle.ud_sections.specs.declared.sections.fault.SectionFault.{SectionFault}
+use Rattle.ud_sections.specs.declared.sections.fault.SectionFault.TheVariants.{InappropriateElif}
+use Rattle.ud_sections.specs.declared.sections.fault.SectionFault.TheVariants.{InappropriateElse}
+use Rattle.ud_sections.specs.declared.sections.fault.SectionFault.TheVariants.{InappropriateEndif}
+use Rattle.ud_sections.specs.declared.sections.fault.SectionFault.TheVariants.{TooManyLevels}
+use Rattle.ud_sections.specs.declared.sections.fault.SectionFault.TheVariants.{Obfuscated}
 use Rattle.ud_sections.specs.declared.sections.open_section.StackOp.{StackOp}
 use Rattle.ud_sections.specs.declared.sections.open_section.StackOp.TheVariants.{Stay, Push}
 use Rattle.ud_sections.specs.declared.sections.open_section.StackOp.TheVariants.{Replace, Pop}

@@ -36,8 +36,8 @@ use Rattle.ud_model.specs.declared.line.Line.{Line as TheLine}
 use Rattle.ud_model.specs.declared.kind.Mode.{Mode}
 use Rattle.ud_model.specs.declared.verdict.Verdict.{Verdict}
 use Rattle.ud_cond.specs.symbols.SymbolTable.{TableRepresents}
-use Rattle.ud_faults.specs.Faults.{fault_of}
-use Rattle.ud_faults.specs.declared.sections.SectionFault.{SectionFault}
+use Rattle.ud_sections.specs.sections.SectionFaults.{fault_of}
+use Rattle.ud_sections.specs.declared.sections.fault.SectionFault.{SectionFault}
 use Rattle.ud_sections.specs.declared.sections.machine.Machine.{Machine}
 use Rattle.ud_sections.specs.declared.sections.step.Step.{Step}
 use Rattle.ud_sections.specs.sections.StepViews.{as_span, HoldsKeyword}

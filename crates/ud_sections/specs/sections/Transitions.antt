@@ -6,8 +6,8 @@ use Rattle.ud_model.specs.conditions.Table.{Argument}
 use Rattle.ud_model.specs.declared.verdict.Verdict.{Verdict}
 use Rattle.ud_model.specs.sections.Items.{mode_by, rules_of}
 use Rattle.ud_cond.specs.symbols.SymbolTable.{TableRepresents}
-use Rattle.ud_faults.specs.declared.sections.SectionFault.{SectionFault}
-use Rattle.ud_faults.specs.declared.sections.SectionFault.TheVariants.{Obfuscated}
+use Rattle.ud_sections.specs.declared.sections.fault.SectionFault.{SectionFault}
+use Rattle.ud_sections.specs.declared.sections.fault.SectionFault.TheVariants.{Obfuscated}
 use Rattle.ud_sections.specs.declared.directives.Cut.{Cut}
 use Rattle.ud_sections.specs.declared.sections.check.LineContext.{LineContext}
 use Rattle.ud_sections.specs.declared.sections.open_section.Action.{Action}

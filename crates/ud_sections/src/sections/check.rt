@@ -9,7 +9,7 @@ ghost use Rattle.ud_sections.specs.sections.Checking.{checked_by};
 use crate::sections::classify_line::ClassifiedLine;
 use crate::sections::line_kind::LineKind;
 use crate::sections::open_section::{Action, Enclosing, StackOp};
-use ud_faults::SectionFault;
+use crate::sections::SectionFault;
 use ud_model::{OPEN_SECTIONS, Verdict};
 
 /// The context of a line: what the lines before it decide.

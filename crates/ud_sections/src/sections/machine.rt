@@ -33,7 +33,7 @@ use crate::sections::step::{Span, Step};
 use crate::sections::text_policy::TextPolicy;
 use arrayvec::ArrayVec;
 use ud_cond::Symbols;
-use ud_faults::SectionFault;
+use crate::sections::SectionFault;
 use ud_model::{Line, Mode, OPEN_SECTIONS, Scan, Settings, Verdict};
 
 /// The step of a line, and its change of the open sections.

@@ -7,8 +7,8 @@ use Rattle.std.specs.Prelude.{false, Option, Some, None, if◌then◌else◌, �
 use Rattle.std.specs.Prelude.{MatchResult}
 use Rattle.ud_model.specs.text.Lines.{NoNewline, split_lines, Line, lines_of}
 use Rattle.ud_model.specs.declared.limits.TheConstants.{LINE_BYTES}
-use Rattle.ud_faults.specs.declared.text.TextFault.{TextFault}
-use Rattle.ud_faults.specs.declared.text.TextFault.TheVariants.{TooManyLines, LineTooLong}
+use Rattle.ud_text.specs.declared.lines.fault.TextFault.{TextFault}
+use Rattle.ud_text.specs.declared.lines.fault.TextFault.TheVariants.{TooManyLines, LineTooLong}
 
 -- `LinesState`: the bytes of the line so far; whether it has its newline; how many lines were
 -- consumed before it; whether the text has ended; the error after which the lines are fused; and

@@ -7,7 +7,7 @@ ghost use Rattle.unifdef.specs.RunMessages.{final_result, result_message, result
 
 use crate::diagnostics::fault_messages::report_fault;
 use std::io::Write;
-use ud_faults::RunFault;
+use ud_engine::RunFault;
 use ud_io::Watched;
 use ud_model::{ExitMode, Listing, Settings};
 

@@ -3,13 +3,16 @@
 ghost use Rattle.std.specs.Prelude.{◌≡◌, false};
 ghost use Rattle.ud_model.specs.answer.Messages.{about, about_line, message_of};
 ghost use Rattle.ud_model.specs.sections.Faults.{premature_eof};
-ghost use Rattle.ud_faults.specs.Faults.{limit_of, fault_of};
+ghost use Rattle.ud_text.specs.lines.LimitFaults.{limit_of};
+ghost use Rattle.ud_sections.specs.sections.SectionFaults.{fault_of};
 ghost use Rattle.ud_io.specs.Watched.{AppendsAllOrPrefix};
 ghost use Rattle.unifdef.specs.RunMessages.{fault_message};
 
 use itoa::Buffer;
 use std::io::Write;
-use ud_faults::{RunFault, SectionFault, TextFault};
+use ud_engine::RunFault;
+use ud_sections::SectionFault;
+use ud_text::TextFault;
 use ud_io::{Watched, send_parts};
 
 /// Reports why a run ended. If a write fails, only a prefix of the message was written.

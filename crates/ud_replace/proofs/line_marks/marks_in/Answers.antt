@@ -1,7 +1,7 @@
 -- One line after another.
 use Rattle.std.proofs.Common.{ℕ, List, ◌++◌, length, replicate, ap, ap₂, append-nil, append_assoc, sym, ◌∙◌}
 use Rattle.std.proofs.lemmas.Bool.{eqb-true, eqb-false}
-use Rattle.ud_diff.specs.declared.script.TheConstants.{SAME}
+use Rattle.ud_passes.specs.declared.diff.script.TheConstants.{SAME}
 use Rattle.ud_replace.specs.Marks.{read_marks}
 use Rattle.ud_model.specs.text.Lines.{texts_of, whole_lines}
 use Rattle.ud_replace.proofs.MarkLemmas.{marks_after, read_marks-next, read_marks-none}

@@ -1,6 +1,6 @@
 -- The marks so far.
 use Rattle.std.proofs.Common.{◌≡◌, ◌++◌, replicate}
-use Rattle.ud_diff.specs.declared.script.TheConstants.{SAME}
+use Rattle.ud_passes.specs.declared.diff.script.TheConstants.{SAME}
 use Rattle.ud_replace.proofs.line_marks.push_same.Given as goal
 
 abbrev pub invariant-loop-line : goal.invariant-loop-line

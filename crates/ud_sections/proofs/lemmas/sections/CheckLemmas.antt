@@ -10,8 +10,8 @@ use Rattle.ud_model.specs.declared.limits.TheConstants.{OPEN_SECTIONS}
 use Rattle.ud_model.proofs.sections.Growth.{Adds, lines-add}
 use Rattle.ud_model.proofs.sections.Unique.{grows}
 use Rattle.ud_model.proofs.sections.Stays.{marks_so_far_same}
-use Rattle.ud_faults.specs.declared.sections.SectionFault.{SectionFault}
-use Rattle.ud_faults.specs.declared.sections.SectionFault.TheVariants.{TooManyLevels, Obfuscated}
+use Rattle.ud_sections.specs.declared.sections.fault.SectionFault.{SectionFault}
+use Rattle.ud_sections.specs.declared.sections.fault.SectionFault.TheVariants.{TooManyLevels, Obfuscated}
 use Rattle.ud_sections.specs.declared.sections.check.LineContext.{LineContext}
 use Rattle.ud_sections.specs.declared.sections.open_section.Action.{Action}
 use Rattle.ud_sections.specs.declared.sections.classify_line.ClassifiedLine.{ClassifiedLine}
@@ -19,7 +19,7 @@ use Rattle.ud_sections.specs.sections.Actions.{act, Applies}
 use Rattle.ud_sections.specs.sections.Checking.{is_directive_kind, opens_section, is_obfuscated_by, misplaced_fault_by, checked_action, checked_by}
 use Rattle.ud_sections.specs.sections.OpenSections.{open_sections_of, section_at}
 use Rattle.ud_sections.specs.sections.Limits.{IsWithinLimits}
-use Rattle.ud_faults.specs.Faults.{fault_of}
+use Rattle.ud_sections.specs.sections.SectionFaults.{fault_of}
 use Rattle.ud_sections.specs.sections.ClassifiedLines.{item_kind}
 use Rattle.ud_sections.proofs.lemmas.sections.LineFaults.{is_cut_item, out_of_place_fault, too_deep_fault, spoiled_fault, clear_line}
 use Rattle.ud_sections.proofs.lemmas.sections.ActionLemmas.{mark_of, Moved, moves, takes, depth_levels, changes_depth, changes_deeper}

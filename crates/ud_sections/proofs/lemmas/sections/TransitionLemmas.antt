@@ -11,8 +11,8 @@ use Rattle.ud_model.specs.sections.Faults.{FaultOf, NoneHolds, cases, is_cut, la
 use Rattle.ud_model.specs.answer.Printing.{keyword_in, judged_line}
 use Rattle.ud_model.specs.declared.limits.TheConstants.{OPEN_SECTIONS}
 use Rattle.ud_model.proofs.sections.Soundness.{reading_of-item_of, sound_lines}
-use Rattle.ud_faults.specs.declared.sections.SectionFault.{SectionFault}
-use Rattle.ud_faults.specs.declared.sections.SectionFault.TheVariants.{Obfuscated}
+use Rattle.ud_sections.specs.declared.sections.fault.SectionFault.{SectionFault}
+use Rattle.ud_sections.specs.declared.sections.fault.SectionFault.TheVariants.{Obfuscated}
 use Rattle.ud_sections.specs.declared.directives.Cut.{Cut}
 use Rattle.ud_sections.specs.declared.sections.open_section.Action.{Action}
 use Rattle.ud_sections.specs.declared.sections.machine.Machine.{Machine}
@@ -25,7 +25,7 @@ use Rattle.ud_sections.specs.sections.Checking.{checked_by}
 use Rattle.ud_sections.specs.sections.OpenSections.{open_sections_of}
 use Rattle.ud_sections.specs.sections.Limits.{IsWithinLimits}
 use Rattle.ud_sections.specs.sections.MachineState.{MachineRepresents, ComesNext}
-use Rattle.ud_faults.specs.Faults.{fault_of}
+use Rattle.ud_sections.specs.sections.SectionFaults.{fault_of}
 use Rattle.ud_sections.specs.sections.ClassifiedLines.{classified}
 use Rattle.ud_sections.specs.sections.StepViews.{as_span}
 use Rattle.ud_sections.specs.sections.Transitions.{context_of, transition_with, transition_of}

@@ -1,5 +1,5 @@
 use Rattle.std.proofs.Common.{rules, sym, subst}
-use Rattle.ud_faults.specs.Faults.{fault_of}
+use Rattle.ud_sections.specs.sections.SectionFaults.{fault_of}
 use Rattle.ud_engine.specs.Feeding.{EngineState, IsInSession}
 use Rattle.ud_engine.proofs.EndLemmas.{rests, ends_at, ends_well}
 use Rattle.ud_engine.proofs.engine.EngineOf.finish_in_place.Goals as goal

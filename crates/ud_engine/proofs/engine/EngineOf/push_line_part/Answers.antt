@@ -3,7 +3,7 @@ use Rattle.ud_cond.specs.symbols.SymbolTable.{TableRepresents}
 use Rattle.ud_model.specs.text.Lines.{Line, NoNewline, IsWhole}
 use Rattle.ud_text.specs.lines.LinesState.{LinesState, BreaksLimit}
 use Rattle.ud_model.specs.aids.LineViews.{as_line}
-use Rattle.ud_faults.specs.declared.text.TextFault.{TextFault}
+use Rattle.ud_text.specs.declared.lines.fault.TextFault.{TextFault}
 use Rattle.ud_text.proofs.lemmas.lines.NewlineLemmas.{up_to_newline-some, whole_newlineless}
 use Rattle.ud_engine.specs.Feeding.{EngineState, EngineRepresentsBuffered}
 use Rattle.ud_io.specs.Streams.{stream_of}

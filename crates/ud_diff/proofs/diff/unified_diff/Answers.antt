@@ -1,7 +1,0 @@
--- By the script, the names and the hunks.
-use Rattle.std.proofs.Common.{arith}
-use Rattle.ud_diff.proofs.PatchLemmas.{diff_is}
-use Rattle.ud_diff.proofs.diff.unified_diff.Goals as goal
-
-pub returns : goal.returns
-returns c = grind (arith, diff_is)

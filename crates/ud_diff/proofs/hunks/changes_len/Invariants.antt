@@ -1,5 +1,0 @@
-use Rattle.ud_diff.proofs.ContextLemmas.{ChangesUpto}
-use Rattle.ud_diff.proofs.hunks.changes_len.Given as goal
-
-abbrev pub invariant-loop-at : goal.invariant-loop-at
-invariant-loop-at l = ChangesUpto l.lines l.at l.last

@@ -1,0 +1,147 @@
+-- Contexts: lemmas on the changes of a script and the kept lines around them.
+use Rattle.std.proofs.Common.{◌≡◌, ℕ, zero, suc, ◌+◌, ◌-◌, ◌*◌, ◌<◌, ◌≤◌, min, true, false, List, [], ◌∷◌, ◌++◌, length, take, drop, get_or, sym, ◌∙◌, ap, subst, inl, inr, ◌⊎◌, arith}
+use Rattle.std.proofs.lemmas.Bool.{cases_lt, false≢true}
+use Rattle.std.proofs.lemmas.List.{map-append, length-append, length-map, length-take, length-drop, get_or-take, get_or-drop, get_or_append_left, get_or_default, drop-drop, drop_more}
+use Rattle.std.proofs.lemmas.List.Elements.{All-map}
+use Rattle.std.proofs.Math.ListN.{get_or-map}
+use Rattle.std.proofs.Math.Seq.{take-add}
+use Rattle.ud_passes.specs.declared.diff.line.DiffLine.{DiffLine}
+use Rattle.ud_passes.specs.diff.Hunks.{SignedLine, is_change}
+use Rattle.ud_passes.specs.diff.Contexts.{context, IsKept, AreKept, AreChanges, one, more}
+use Rattle.ud_passes.specs.diff.Scripts.{signed, signed_lines, between, gap, BeginsWithChange}
+
+-- The lines of the script from the position `i` up to `j` are kept ones, as far as there are any.
+abbrev pub KeptAt : List DiffLine → ℕ → ℕ → Type 0
+KeptAt ls i j = (k : ℕ) (d : DiffLine) → i ≤ k → k < j → k < length ls → is_change (get_or ls k d).sign ≡ false
+
+-- A line between two positions.
+between_at : (ls : List DiffLine) (i n k : ℕ) (d : DiffLine) → k < n → get_or (take n (drop i ls)) k d ≡ get_or ls (i + k) d
+between_at ls i n k d low = get_or-take n (drop i ls) k d low ∙ get_or-drop i ls k d
+
+-- The lines between two positions are no more than the difference.
+between_few : (ls : List DiffLine) (i n : ℕ) → length (take n (drop i ls)) ≡ min n (length ls - i)
+between_few ls i n = length-take n (drop i ls) ∙ ap (λ (k : ℕ). min n k) (length-drop i ls)
+
+-- The lines between two positions of the script are as many as the difference.
+pub length-between : (ls : List DiffLine) (i j : ℕ) → i ≤ j → j ≤ length ls → length (between i j ls) ≡ j - i
+length-between ls i j h within = grind (arith, between_few, length-map)
+
+-- Lines that are kept at each position are kept.
+pub kept_range : (ls : List DiffLine) (i j : ℕ) → KeptAt ls i j → AreKept (between i j ls)
+kept_range ls i j h = All-map IsKept signed (take (j - i) (drop i ls))
+    (λ k d within. let few : length (take (j - i) (drop i ls)) ≡ min (j - i) (length ls - i) = between_few ls i (j - i) in
+    subst (λ (l : DiffLine). is_change l.sign ≡ false) (sym (between_at ls i (j - i) k d (omega arith))) (h (i + k) d (omega arith) (omega arith) (omega arith)))
+
+-- Lines that are kept are kept at each position.
+pub kept_at : (ls : List DiffLine) (i j : ℕ) → AreKept (between i j ls) → KeptAt ls i j
+kept_at ls i j h k d low high within =
+    let few : length (take (j - i) (drop i ls)) ≡ min (j - i) (length ls - i) = between_few ls i (j - i) in
+    let all : length (between i j ls) ≡ length (take (j - i) (drop i ls)) = length-map (take (j - i) (drop i ls)) signed in
+    let so_far : i + (k - i) ≡ k = omega arith in
+    let is : get_or (between i j ls) (k - i) (signed d) ≡ signed (get_or ls k d) =
+    get_or-map signed (take (j - i) (drop i ls)) (k - i) d
+    ∙ ap signed (between_at ls i (j - i) (k - i) d (omega arith) ∙ ap (λ (n : ℕ). get_or ls n d) so_far) in
+    subst IsKept is (h (k - i) (signed d) (omega arith))
+
+-- The lines between two positions, parted at a third.
+pub between_parts : (ls : List DiffLine) (i j k : ℕ) → i ≤ j → j ≤ k → between i k ls ≡ between i j ls ++ between j k ls
+between_parts ls i j k low high = let so_many : k - i ≡ (j - i) + (k - j) = omega arith in
+    let so_far : i + (j - i) ≡ j = omega arith in
+    ap signed_lines (ap (λ (n : ℕ). take n (drop i ls)) so_many ∙ take-add (j - i) (k - j) (drop i ls)
+    ∙ ap (λ (xs : List DiffLine). take (j - i) (drop i ls) ++ take (k - j) xs)
+    (drop-drop (j - i) i ls ∙ ap (λ (n : ℕ). drop n ls) so_far))
+    ∙ map-append signed (take (j - i) (drop i ls)) (take (k - j) (drop j ls))
+
+-- The line at a position.
+pub between_one : (ls : List DiffLine) (i : ℕ) (d : DiffLine) → i < length ls → between i (i + 1) ls ≡ signed (get_or ls i d) ∷ []
+between_one ls i d within = grind (arith, drop_more)
+
+-- Changes begin with one.
+pub changes_begin : (ls : List SignedLine) → AreChanges ls → (0 < length ls) × ((d : SignedLine) → is_change (get_or ls 0 d).sign ≡ true)
+changes_begin _ (one l is) = (omega arith, λ d. is)
+changes_begin _ (more ls kept l h are few is) =
+    grind (arith, length-append, get_or_append_left, changes_begin ls h)
+
+-- The first of the changes between two positions.
+pub changes_begin_at : (ls : List DiffLine) (i j : ℕ) → AreChanges (between i j ls) →
+    (i < j) × (i < length ls) × ((d : DiffLine) → is_change (get_or ls i d).sign ≡ true)
+changes_begin_at ls i j h =
+    let some : 0 < length (between i j ls) = (changes_begin (between i j ls) h).0 in
+    let few : length (take (j - i) (drop i ls)) ≡ min (j - i) (length ls - i) = between_few ls i (j - i) in
+    let all : length (between i j ls) ≡ length (take (j - i) (drop i ls)) = length-map (take (j - i) (drop i ls)) signed in (
+      omega arith,
+      omega arith,
+      λ d. let same : i + 0 ≡ i = omega arith in
+          subst (λ (l : SignedLine). is_change l.sign ≡ true)
+          (get_or-map signed (take (j - i) (drop i ls)) 0 d
+          ∙ ap signed (between_at ls i (j - i) 0 d (omega arith) ∙ ap (λ (n : ℕ). get_or ls n d) same))
+          ((changes_begin (between i j ls) h).1 (signed d)),
+    )
+
+-- Kept lines end before a change.
+pub change_far : (ls : List DiffLine) (i j first : ℕ) → KeptAt ls i j → i ≤ first → first < length ls →
+    ((d : DiffLine) → is_change (get_or ls first d).sign ≡ true) → j ≤ first
+change_far [] i j first kept low within is = absurd (omega arith)
+change_far (l ∷ ls) i j first kept low within is = by_order (cases_lt first j)
+  where
+    by_order : (first < j) ⊎ (j ≤ first) → j ≤ first
+    by_order (inl near) = absurd (false≢true (sym (kept first l low near within) ∙ is l))
+    by_order (inr far) = far
+
+-- Of the lines up to the position `at`, the changes end at `last`, and few kept lines come since.
+pub record ChangesUpto (ls : List DiffLine) (at last : ℕ) : Type 0 where
+  pub reached : last ≤ at
+  pub near : at ≤ last + 2 * context
+  pub kept : KeptAt ls last at
+  pub changed : 0 < at → AreChanges (between 0 last ls)
+
+-- A change is one of them.
+pub changes_more : (ls : List DiffLine) (at last : ℕ) (d : DiffLine) → at < length ls → is_change (get_or ls at d).sign ≡ true → ChangesUpto ls at last →
+    ChangesUpto ls (at + 1) (at + 1)
+changes_more ls at last d within is h = record {
+  reached = omega arith;
+  near = omega arith;
+  kept = λ k e low high inside. absurd (omega arith);
+  changed = λ some. by_order (cases_lt 0 at);
+}
+  where
+    by_order : (0 < at) ⊎ (at ≤ 0) → AreChanges (between 0 (at + 1) ls)
+    by_order (inl later) = let reached = h.reached in
+        let near = h.near in
+        let few : length (between last at ls) ≡ at - last = length-between ls last at reached (omega arith) in
+        subst AreChanges
+        (ap (λ (xs : List SignedLine). between 0 last ls ++ (between last at ls ++ xs)) (sym (between_one ls at d within))
+        ∙ ap (λ (xs : List SignedLine). between 0 last ls ++ xs) (sym (between_parts ls last at (at + 1) reached (omega arith)))
+        ∙ sym (between_parts ls 0 last (at + 1) (omega arith) (omega arith)))
+        (more (between 0 last ls) (between last at ls) (signed (get_or ls at d)) (h.changed later) (kept_range ls last at h.kept) (omega arith) is)
+    by_order (inr first) = let zero_is : at ≡ 0 = omega arith in
+        subst (λ (n : ℕ). AreChanges (between n (at + 1) ls)) zero_is (subst AreChanges (sym (between_one ls at d within)) (one (signed (get_or ls at d)) is))
+
+-- The first of lines that begin with a change isn't kept.
+begins_first : (ls : List DiffLine) (d : DiffLine) → BeginsWithChange ls → is_change (get_or ls 0 d).sign ≡ false → ⊥
+begins_first ls d h is = grind arith
+
+-- A kept line comes after them.
+pub changes_kept : (ls : List DiffLine) (at last : ℕ) (d : DiffLine) → BeginsWithChange ls → at < length ls → is_change (get_or ls at d).sign ≡ false →
+    at - last < 2 * context → ChangesUpto ls at last → ChangesUpto ls (at + 1) last
+changes_kept ls at last d begins within is few h =
+    grind (arith, cases_lt, begins_first, get_or_default)
+
+-- At the end of the lines no gap is needed.
+pub changes_end : (ls : List DiffLine) (last : ℕ) → ChangesUpto ls (length ls) last → AreKept (between last (last + gap) ls)
+changes_end ls last h = kept_range ls last (last + gap) (λ k d low high within. h.kept k d low within within)
+
+-- A kept line ends the gap.
+pub changes_gap : (ls : List DiffLine) (at last : ℕ) (d : DiffLine) → at < length ls → is_change (get_or ls at d).sign ≡ false →
+    2 * context ≤ at - last → ChangesUpto ls at last → AreKept (between last (last + gap) ls)
+changes_gap ls at last d within is far h = grind (arith, kept_range, cases_lt, get_or_default)
+
+-- Lines from a change on begin with it.
+pub begins_at : (ls : List DiffLine) (i : ℕ) → i < length ls → ((d : DiffLine) → is_change (get_or ls i d).sign ≡ true) → BeginsWithChange (drop i ls)
+begins_at [] i within h = absurd (omega arith)
+begins_at (l ∷ ls) zero within h = h l
+begins_at (l ∷ ls) (suc i) within h = begins_at ls i (omega arith) h
+
+-- The lines between two positions from a third one on.
+pub between_drop : (ls : List DiffLine) (from i j : ℕ) → between i j (drop from ls) ≡ between (from + i) (from + j) ls
+between_drop ls from i j = grind (arith, drop-drop)

@@ -1,0 +1,115 @@
+-- Patching: hunks that turn lines into others make these of them, and turned round the first ones.
+use Rattle.std.proofs.Common.{◌≡◌, ℕ, ◌+◌, ◌-◌, Bool, true, List, [], ◌∷◌, ◌++◌, length, map, take, drop, Option, Some, None, refl, sym, ◌∙◌, ap, subst, append_assoc, append-nil, arith, if◌then◌else◌, leb}
+use Rattle.std.specs.Prelude.{option_and_then, option_map}
+use Rattle.std.proofs.lemmas.Bool.{le-leb, and_from}
+use Rattle.std.proofs.lemmas.List.{map-append, length-append, take_at, drop_at}
+use Rattle.std.proofs.lemmas.Slice.Eq.{bytes_eq-Decides}
+use Rattle.ud_passes.specs.diff.Hunks.{SignedLine, Hunk, old_lines, new_lines, turned_line, turned}
+use Rattle.ud_passes.specs.diff.DiffTexts.{names_text}
+use Rattle.ud_passes.specs.diff.Patching.{rest_after, is_within, patched_from, patched, Turns, nothing, stay, change, IsDiff}
+use Rattle.ud_passes.specs.diff.Scripts.{IsScript, AppendsHunks}
+
+-- The hunks, applied to the lines `old`, before which `m` lines come, give the lines `new`, before
+-- which `n` come.
+data TurnsFrom : ℕ → ℕ → List Hunk → List (List ℕ) → List (List ℕ) → Type 0 where
+  done : (m n : ℕ) (ls : List (List ℕ)) → TurnsFrom m n [] ls ls
+  next : (m n : ℕ) (h : Hunk) (hunks : List Hunk) (ls old new : List (List ℕ)) → h.old_before ≡ m + length ls → h.new_before ≡ n + length ls →
+      TurnsFrom (h.old_before + length (old_lines h.lines)) (h.new_before + length (new_lines h.lines)) hunks old new →
+      TurnsFrom m n (h ∷ hunks) (ls ++ (old_lines h.lines ++ old)) (ls ++ (new_lines h.lines ++ new))
+
+-- Hunks turn equal lines alike.
+turns_cast : {m n : ℕ} {hunks : List Hunk} {o p w x : List (List ℕ)} → o ≡ p → w ≡ x → TurnsFrom m n hunks o w → TurnsFrom m n hunks p x
+turns_cast {m} {n} {hunks} {o} {p} {w} {x} e f t = subst (λ (a : List (List ℕ)). TurnsFrom m n hunks a x) e (subst (λ (a : List (List ℕ)). TurnsFrom m n hunks o a) f t)
+
+-- Lines that stay may come before.
+turns_after : (a b : ℕ) (hunks : List Hunk) (o w : List (List ℕ)) → TurnsFrom a b hunks o w → (m n : ℕ) (ls : List (List ℕ)) →
+    a ≡ m + length ls → b ≡ n + length ls → TurnsFrom m n hunks (ls ++ o) (ls ++ w)
+turns_after _ _ _ _ _ (done a b ls0) m n ls e f = done m n (ls ++ ls0)
+turns_after _ _ _ _ _ (next a b h hunks ls0 old new p q r) m n ls e f =
+    let both : length (ls ++ ls0) ≡ length ls + length ls0 = length-append ls ls0 in
+    turns_cast (append_assoc ls ls0 (old_lines h.lines ++ old)) (append_assoc ls ls0 (new_lines h.lines ++ new))
+    (next m n h hunks (ls ++ ls0) old new (omega arith) (omega arith) r)
+
+-- Hunks that turn all lines so far, and then others.
+turns_then : (hunks : List Hunk) (old new : List (List ℕ)) → Turns hunks old new → (ks : List Hunk) (o w : List (List ℕ)) →
+    TurnsFrom (length old) (length new) ks o w → TurnsFrom 0 0 (hunks ++ ks) (old ++ o) (new ++ w)
+turns_then _ _ _ nothing ks o w r = r
+turns_then _ _ _ (stay hunks old new ls t) ks o w r =
+    turns_cast (sym (append_assoc old ls o)) (sym (append_assoc new ls w))
+    (turns_then hunks old new t ks (ls ++ o) (ls ++ w)
+    (turns_after (length (old ++ ls)) (length (new ++ ls)) ks o w r (length old) (length new) ls (length-append old ls) (length-append new ls)))
+turns_then _ _ _ (change hunks old new h t a b) ks o w r =
+    let more_old : length (old ++ old_lines h.lines) ≡ h.old_before + length (old_lines h.lines) =
+    length-append old (old_lines h.lines) ∙ ap (λ (k : ℕ). k + length (old_lines h.lines)) (sym a) in
+    let more_new : length (new ++ new_lines h.lines) ≡ h.new_before + length (new_lines h.lines) =
+    length-append new (new_lines h.lines) ∙ ap (λ (k : ℕ). k + length (new_lines h.lines)) (sym b) in
+    let later : TurnsFrom (h.old_before + length (old_lines h.lines)) (h.new_before + length (new_lines h.lines)) ks o w =
+    subst (λ (k : ℕ). TurnsFrom (h.old_before + length (old_lines h.lines)) k ks o w) more_new
+    (subst (λ (k : ℕ). TurnsFrom k (length (new ++ new_lines h.lines)) ks o w) more_old r) in
+    let here : TurnsFrom (length old) (length new) (h ∷ ks) (old_lines h.lines ++ o) (new_lines h.lines ++ w) =
+    next (length old) (length new) h ks [] o w (omega arith) (omega arith) later in
+    subst (λ (hs : List Hunk). TurnsFrom 0 0 hs ((old ++ old_lines h.lines) ++ o) ((new ++ new_lines h.lines) ++ w)) (sym (append_assoc hunks (h ∷ []) ks))
+    (turns_cast (sym (append_assoc old (old_lines h.lines) o)) (sym (append_assoc new (new_lines h.lines) w))
+    (turns_then hunks old new t (h ∷ ks) (old_lines h.lines ++ o) (new_lines h.lines ++ w) here))
+
+-- Lines that begin with the wanted ones have these others after them.
+rest_after_at : (ws rest : List (List ℕ)) → rest_after ws (ws ++ rest) ≡ Some rest
+rest_after_at [] rest = refl
+rest_after_at (w ∷ ws) rest = grind (arith, bytes_eq-Decides, rest_after_at ws rest)
+
+-- The lines that a hunk makes, step by step.
+abbrev made : Bool → List (List ℕ) → Option (List (List ℕ)) → (List (List ℕ) → Option (List (List ℕ))) → List (List ℕ) → Option (List (List ℕ))
+made inside front found f news =
+    if inside then option_and_then (λ (rest : List (List ℕ)). option_map (λ (w : List (List ℕ)). front ++ (news ++ w)) (f rest)) found else None
+
+-- A hunk makes the lines before it, its new ones, and what the later hunks make.
+made_is : (inside : Bool) (front : List (List ℕ)) (found : Option (List (List ℕ))) (f : List (List ℕ) → Option (List (List ℕ)))
+    (ls rest news later : List (List ℕ)) → inside ≡ true → front ≡ ls → found ≡ Some rest → f rest ≡ Some later →
+    made inside front found f news ≡ Some (ls ++ (news ++ later))
+made_is inside front found f ls rest news later a b d e = grind arith
+
+-- Hunks that turn lines into others make these of them.
+makes : (m n : ℕ) (hunks : List Hunk) (old new : List (List ℕ)) → TurnsFrom m n hunks old new → patched_from m hunks old ≡ Some new
+makes _ _ _ _ _ (done m n ls) = refl
+makes _ _ _ _ _ (next m n h hunks ls old new a b r) =
+    let so_many : length ls ≡ h.old_before - m = omega arith in
+    let all = length-append ls (old_lines h.lines ++ old) in
+    made_is (is_within m h (ls ++ (old_lines h.lines ++ old))) (take (h.old_before - m) (ls ++ (old_lines h.lines ++ old)))
+    (rest_after (old_lines h.lines) (drop (h.old_before - m) (ls ++ (old_lines h.lines ++ old))))
+    (patched_from (h.old_before + length (old_lines h.lines)) hunks) ls old (new_lines h.lines) new
+    (and_from (leb m h.old_before) (leb (h.old_before - m) (length (ls ++ (old_lines h.lines ++ old))))
+    (le-leb m h.old_before (omega arith)) (le-leb (h.old_before - m) (length (ls ++ (old_lines h.lines ++ old))) (omega arith)))
+    (take_at ls (old_lines h.lines ++ old) (h.old_before - m) so_many)
+    (ap (rest_after (old_lines h.lines)) (drop_at ls (old_lines h.lines ++ old) (h.old_before - m) so_many) ∙ rest_after_at (old_lines h.lines) old)
+    (makes (h.old_before + length (old_lines h.lines)) (h.new_before + length (new_lines h.lines)) hunks old new r)
+
+-- Hunks that turn a text into another one make that of it.
+turns_makes : (hunks : List Hunk) (old new : List (List ℕ)) → Turns hunks old new → patched hunks old ≡ Some new
+turns_makes hunks old new t = makes 0 0 hunks old new
+    (subst (λ (hs : List Hunk). TurnsFrom 0 0 hs old new) (append-nil hunks)
+    (turns_cast (append-nil old) (append-nil new) (turns_then hunks old new t [] [] [] (done (length old) (length new) []))))
+
+-- The lines of one text in a turned hunk are those of the other one.
+turned_old : (ls : List SignedLine) → old_lines (map turned_line ls) ≡ new_lines ls
+turned_old [] = refl
+turned_old (l ∷ ls) = grind (arith, turned_old ls)
+
+turned_new : (ls : List SignedLine) → new_lines (map turned_line ls) ≡ old_lines ls
+turned_new [] = refl
+turned_new (l ∷ ls) = grind (arith, turned_new ls)
+
+-- Turned hunks turn the new text into the old one.
+turns_back : (hunks : List Hunk) (old new : List (List ℕ)) → Turns hunks old new → Turns (map turned hunks) new old
+turns_back _ _ _ nothing = nothing
+turns_back _ _ _ (stay hunks old new ls t) = stay (map turned hunks) new old ls (turns_back hunks old new t)
+turns_back _ _ _ (change hunks old new h t a b) =
+    let back : Turns (map turned hunks ++ turned h ∷ []) (new ++ old_lines (turned h).lines) (old ++ new_lines (turned h).lines) =
+    change (map turned hunks) new old (turned h) (turns_back hunks old new t) b a in
+    subst (λ (hs : List Hunk). Turns hs (new ++ new_lines h.lines) (old ++ old_lines h.lines)) (sym (map-append turned hunks (h ∷ [])))
+    (subst (λ (x : List (List ℕ)). Turns (map turned hunks ++ turned h ∷ []) x (old ++ old_lines h.lines)) (ap (λ (x : List (List ℕ)). new ++ x) (turned_old h.lines))
+    (subst (λ (x : List (List ℕ)). Turns (map turned hunks ++ turned h ∷ []) (new ++ old_lines (turned h).lines) x)
+    (ap (λ (x : List (List ℕ)). old ++ x) (turned_new h.lines)) back))
+
+-- The names and the hunks of a script of two texts are a diff of them.
+pub diff_is : (path old new bytes : List ℕ) (lines : List SignedLine) → IsScript old new lines → AppendsHunks lines (names_text path) bytes → IsDiff path old new bytes
+diff_is path old new bytes lines script h = grind (arith, turns_makes, turns_back)
