@@ -67,9 +67,10 @@ test_other_names() {
   put t/.x '// #if A\n/*\n#elifndef A\n'
   tells '3 files of other names name a symbol, as t/.x' -g '!old' t
   tells '4 files of other names name a symbol, as t/.x' t
-  find t -type f -print0 > list
-  tree -q -x2 -r -UA -0 < list
-  tells '' -0 < list
+  # Paths of the input have no other names beside them.
+  find t -name a.c -print0 > "$work/list"
+  input=$work/list tells '' -0
+  says '0 conditions still name a symbol'
 }
 
 # chooses NAMES WORD..: of a fresh tree with ${files[@]}, a run changes these, in this order.

@@ -11,10 +11,15 @@
 --   SearchLemmas.line_searched    the mentions of a text with a line more
 --   TableLemmas.table_of          the rows of a table are sorted
 --   UnlistedLemmas.line_found     the conditions that can't be listed, with a line more
---   diff.ScriptLemmas.script_whole   the script of a diff has all lines of both texts
---   diff.UptoLemmas.hunks_all     kept lines up to the end need no further hunk
---   diff.PatchLemmas.diff_is      a diff turns the lines of one text into those of the other
-mod diff
+--   ScriptLemmas.script_whole     the script of a diff has all lines of both texts
+--   UptoLemmas.hunks_all          kept lines up to the end need no further hunk
+--   PatchLemmas.diff_is           a diff turns the lines of one text into those of the other
+mod LineLemmas
+mod ScriptLemmas
+mod ContextLemmas
+mod HunkLemmas
+mod UptoLemmas
+mod PatchLemmas
 pub mod WalkLemmas
 pub mod UnlistedLemmas
 pub mod TableLemmas

@@ -15,9 +15,9 @@ use Rattle.ud_tree.specs.declared.arguments.Arguments.{Arguments}
 use Rattle.ud_tree.specs.Reports.{ReportState}
 use Rattle.ud_tree.specs.declared.walk.Found.{Found}
 use Rattle.ud_tree.specs.declared.walk.Walk.{Walk}
-use Rattle.ud_tree.specs.Catching.{Catches}
+use Rattle.ud_tree.specs.Catching.{AddsAllowed, Catches}
 use Rattle.ud_tree.specs.Choices.{IsLeft, IsSkipped}
-use Rattle.ud_tree.specs.Covering.{IsDirectoryPath, WasEntered, IsDue, Begins, at_file, at_directory, at_link, Visits, no_text, was_met, VisitsAll, IsIn, StandsIn, Gives, no_path_text, was_given, paths_of, CoversPaths, CoversInput, MissesNone, misses_no_path, misses_no_input}
+use Rattle.ud_tree.specs.Covering.{IsDirectoryPath, WasEntered, IsDue, Begins, at_file, at_directory, at_link, Visits, no_text, was_met, VisitsAll, IsAllowed, IsIn, StandsIn, Gives, no_path_text, was_given, paths_of, CoversPaths, CoversInput, MissesNone, misses_no_path, misses_no_input}
 use Rattle.ud_tree.specs.Streams.{Source}
 use Rattle.ud_tree.specs.WalkMessages.{TakesPaths}
 use Rattle.ud_tree.specs.Walks.{IsKept, Adds, adds_none, adds_one, AddsNode, no_node, file_node}
@@ -101,8 +101,8 @@ ListsNone ws = (directory : List ℕ) (names : List (List ℕ)) (answer : Bool) 
 pub lists_none : ListsNone []
 lists_none directory names answer h = omega (arith, h.1)
 
--- A list of one call has no other.
-pub only_one : (w x : WalkCall) → Contains (w ∷ []) x → w ≡ x
+-- A list of one element has no other.
+pub only_one : {X : Type 0} (w x : X) → Contains (w ∷ []) x → w ≡ x
 only_one w x h = grind arith
 
 lists_no_more : (w : WalkCall) (ws : List WalkCall) → ((directory : List ℕ) (names : List (List ℕ)) (answer : Bool) → ¬ (w ≡ listed directory names answer)) → ListsNone ws → ListsNone (w ∷ ws)
@@ -453,15 +453,25 @@ same_walked (x ∷ xs) (y ∷ ys) e = let rest : map walked xs ≡ map walked ys
 same_calls : (xs ys : List WalkCall) (old : List Call) → map walked xs ++ old ≡ map walked ys ++ old → xs ≡ ys
 same_calls xs ys old e = same_walked xs ys (append_cancel_right (map walked xs) (map walked ys) old e)
 
+-- A walk from no files has none but such as it may take.
+only_allowed : (patterns paths : List (List ℕ)) (before found : List Found) → before ≡ [] → AddsAllowed patterns paths before found → All (IsAllowed patterns paths) found
+only_allowed patterns paths before found none h = All-weaker ((λ g. Contains before g ⊎ IsAllowed patterns paths g)) (IsAllowed patterns paths) by_case found h
+  where
+    by_case : (f : Found) → Contains before f ⊎ IsAllowed patterns paths f → IsAllowed patterns paths f
+    by_case f (inr may) = may
+    by_case f (inl there) = let inside : Contains [] f = subst (λ (fs : List Found). Contains fs f) none there in
+        absurd (omega (arith, inside.1))
+
 -- All paths can be taken, and all directories were entered.
 pub covers_paths : {pats : List (List ℕ)} → {X : Type 0} (f : X → List ℕ) (xs : List X) (i : ℕ) {x y z : List Call} {a b c : List (List ℕ)}
     {found : List Found} {first r last : ReportState} → i ≡ length xs → ¬ (0 < r.faulty) →
     StartsSome pats (map f (take i xs)) x y a b found first r → Exhausts pats y z b c r last → {w v : Walk} →
-    All (Contains v.found.items) found → Catches x z w v → (patterns : List (List ℕ)) →
+    All (Contains v.found.items) found → w.found.items ≡ [] → Catches (map f xs) x z w v → (patterns : List (List ℕ)) →
     map string_bytes w.patterns.now ≡ patterns → pats ≡ patterns →
-    CoversPaths (map f xs) patterns x z (IsIn v.found.items) (0 < last.faulty)
+    CoversPaths (map f xs) patterns x z IsIn v.found.items (0 < last.faulty)
 unfolding explores_then
-covers_paths f xs i {x = x} {y = y} {z = z} {b = b} {c = c} {found = found} {r = r} {last = last} all fine h k {w = w} {v = v} stay caught patterns are same = record {
+covers_paths f xs i {x = x} {y = y} {z = z} {b = b} {c = c} {found = found} {r = r} {last = last} all fine h k {w = w} {v = v} stay none caught patterns are same = record {
+  allowed = only_allowed patterns (map f xs) w.found.items v.found.items none (subst (λ (ps : List (List ℕ)). AddsAllowed ps (map f xs) w.found.items v.found.items) are caught.grows.allowed);
   calls = ys ++ ws;
   are = (explores_then h.explores k.explores).are;
   waiting = c;
@@ -493,14 +503,23 @@ covers_paths f xs i {x = x} {y = y} {z = z} {b = b} {c = c} {found = found} {r =
         (λ p start. begins_within (earlier_calls ws ys) (due_later ws ys b c k.explores.waits)
         (is_in_later found v.found.items stay) start) (map f (take i xs)) each
 
+-- A file was found before, or is at this path.
+abbrev pub AtPath : List ℕ → List Found → Found → Type 0
+AtPath path found f = Contains found f ⊎ (string_bytes f.path ≡ path)
+
+-- The files that were found stay.
+still_at : (path : List ℕ) (found : List Found) → All (AtPath path found) found
+still_at path found = All-weaker (Contains found) (AtPath path found) (λ f there. inl there) found (All-contains_itself found)
+
 -- A path of the input was looked at, and isn't that of a regular file, or was found.
 takes_met : (answer : Lookup) (path name : List ℕ) {calls calls' : List Call} (found found' : List Found)
     (r r' : ReportState) → (0 < r.faulty → 0 < r'.faulty) → name ≡ path → calls' ≡ walked (met path answer) ∷ calls →
     All (Contains found') found →
     ((node : Node) → answer ≡ Present node → node.kind ≡ File → IsIn found' name node.id) →
     ((node : Node) → answer ≡ Present node → node.kind ≡ Other → 0 < r'.faulty) →
-    TakesOne name calls calls' found found' r r'
-takes_met answer path name found found' r r' counted same is stay has told = record {
+    All (AtPath name found) found' → TakesOne name calls calls' found found' r r'
+takes_met answer path name found found' r r' counted same is stay has told only = record {
+  only = only;
   kept = counted;
   made = met path answer ∷ [];
   are = is;
@@ -513,7 +532,7 @@ pub takes_unmet : (answer : Lookup) (path name : List ℕ) {calls calls' : List 
     (r r' : ReportState) → (0 < r.faulty → 0 < r'.faulty) → ((node : Node) → ¬ (answer ≡ Present node)) → name ≡ path →
     calls' ≡ walked (met path answer) ∷ calls → TakesOne name calls calls' found found r r'
 takes_unmet answer path name found r r' counted other same is =
-    takes_met answer path name found found r r' counted same is (All-contains_itself found) (λ node is_node kind. absurd (other node is_node)) (λ node is_node kind. absurd (other node is_node))
+    takes_met answer path name found found r r' counted same is (All-contains_itself found) (λ node is_node kind. absurd (other node is_node)) (λ node is_node kind. absurd (other node is_node)) (still_at name found)
 
 -- A node of the input was added, if it is a file.
 pub takes_node : (node : Node) (path name : List ℕ) {calls calls' : List Call} (found found' : List Found)
@@ -521,7 +540,7 @@ pub takes_node : (node : Node) (path name : List ℕ) {calls calls' : List Call}
     calls' ≡ walked (met path (Present node)) ∷ calls → AddsNode found path node found' →
     (node.kind ≡ File → IsIn found' path node.id) → TakesOne name calls calls' found found' r r'
 takes_node node path name found found' r r' counted told same is adds has =
-    takes_met (Present node) path name found found' r r' counted same is (added_stay adds) (λ n is_node kind. here n is_node kind) (λ n is_node kind. other n is_node kind)
+    takes_met (Present node) path name found found' r r' counted same is (added_stay adds) (λ n is_node kind. here n is_node kind) (λ n is_node kind. other n is_node kind) (added_at adds)
   where
     other : (n : Node) → Present node ≡ Present n → n.kind ≡ Other → 0 < r'.faulty
     other n is_node kind = let e : node ≡ n = cc in
@@ -537,13 +556,21 @@ takes_node node path name found found' r r' counted told same is adds has =
     stay_by path id (adds_one f named same grown) = subst (λ (fs : List Found). All (Contains fs) found) (sym grown)
         (All-weaker (Contains found) (Contains (found ++ f ∷ [])) (λ g there. Contains-append_left found (f ∷ []) g there) found (All-contains_itself found))
 
+    at_by : (id : FileId) → Adds found path id found' → All (AtPath name found) found'
+    at_by id (adds_none same) = subst (All (AtPath name found)) (sym same) (still_at name found)
+    at_by id (adds_one f named is grown) = subst (All (AtPath name found)) (sym grown) (All-push (AtPath name found) found f (still_at name found) (inr (named ∙ sym same)))
+
+    added_at : AddsNode found path node found' → All (AtPath name found) found'
+    added_at (no_node same) = at_by node.id (adds_none same)
+    added_at (file_node kind h) = at_by node.id h
+
     added_stay : AddsNode found path node found' → All (Contains found') found
     added_stay (no_node same) = stay_by path node.id (adds_none same)
     added_stay (file_node kind h) = stay_by path node.id h
 
 -- A path of the input isn't UTF-8.
 pub takes_other : (name : List ℕ) (calls : List Call) (found : List Found) (r r' : ReportState) → ¬ (IsUtf8 name) → 0 < r'.faulty → TakesOne name calls calls found found r r'
-takes_other name calls found r r' other some = record { kept = λ before. some; made = []; are = refl; gives = no_path_text other some; stay = All-contains_itself found }
+takes_other name calls found r r' other some = record { kept = λ before. some; made = []; are = refl; gives = no_path_text other some; stay = All-contains_itself found; only = still_at name found }
 
 gives_within : {xs ys : List WalkCall} {p q : List ℕ → FileId → Type 0} {s t : Type 0} {path : List ℕ} → Within xs ys →
     ((path : List ℕ) (id : FileId) → p path id → q path id) → (s → t) → Gives xs p s path → Gives ys q t path
@@ -551,14 +578,19 @@ gives_within w d e (no_path_text other told) = no_path_text other (e told)
 gives_within {path = path} w d e (was_given answer seen k l) = was_given answer (w (met path answer) seen) (λ node is kind. d path node.id (k node is kind)) (λ node is kind. e (l node is kind))
 
 -- No path of the input was given yet.
-pub takes_none : (calls : List Call) (found : List Found) (told : Type 0) → CoversInput [] calls calls (IsIn found) told
-takes_none calls found told = record { calls = []; are = refl; gives = All-nil (Gives [] (IsIn found) told) }
+pub takes_none : (calls : List Call) (found : List Found) (told : Type 0) → found ≡ [] → CoversInput [] calls calls IsIn found told
+takes_none calls found told none = record {
+  calls = [];
+  are = refl;
+  gives = All-nil (Gives [] (IsIn found) told);
+  allowed = subst (All (λ f. Contains [] (string_bytes f.path))) (sym none) (All-nil (λ f. Contains [] (string_bytes f.path)));
+}
 
 -- One path more was given.
 pub takes_at : {X : Type 0} (f : X → List ℕ) (xs : List X) (i : ℕ) (v : X) (path : List ℕ) {x y z : List Call}
     (found found' : List Found) {r r' : ReportState} → i < length xs → v ≡ get_or xs i v → path ≡ f v →
-    CoversInput (map f (take i xs)) x y (IsIn found) (0 < r.faulty) → TakesOne path y z found found' r r' →
-    CoversInput (map f (take (i + 1) xs)) x z (IsIn found') (0 < r'.faulty)
+    CoversInput (map f (take i xs)) x y IsIn found (0 < r.faulty) → TakesOne path y z found found' r r' →
+    CoversInput (map f (take (i + 1) xs)) x z IsIn found' (0 < r'.faulty)
 takes_at f xs i v path {x = x} {y = y} {z = z} found found' {r = r} {r' = r'} within is named h k = record {
   calls = all;
   are = parts_are h.calls k.made x y z h.are k.are;
@@ -568,10 +600,19 @@ takes_at f xs i v path {x = x} {y = y} {z = z} found found' {r = r} {r' = r'} wi
       (λ p g. gives_within (earlier_calls h.calls k.made) (is_in_later found found' k.stay) k.kept g)
       (map f (take i xs)) h.gives)
       (gives_within (later_calls h.calls k.made) (λ p id there. there) (λ some. some) k.gives));
+  allowed = subst (λ ps. All (λ g. Contains ps (string_bytes g.path)) found') (sym (one_more f xs i v path within is named)) (All-weaker (AtPath path found) (λ g. Contains before (string_bytes g.path)) at_one found' k.only);
 }
   where
     all : List WalkCall
     all = k.made ++ h.calls
+
+    before : List (List ℕ)
+    before = map f (take i xs) ++ path ∷ []
+
+    at_one : (g : Found) → AtPath path found g → Contains before (string_bytes g.path)
+    at_one g (inl there) = Contains-append_left (map f (take i xs)) (path ∷ []) (string_bytes g.path)
+        (All-contains (λ e. Contains (map f (take i xs)) (string_bytes e.path)) found g h.allowed there)
+    at_one g (inr at) = subst (Contains before) (sym at) (Contains-push (map f (take i xs)) path)
 
 -- Files that were found are kept.
 stands_in : (found files : List Found) → All (IsKept files) found → (path : List ℕ) (id : FileId) → IsIn found path id → StandsIn files path id
@@ -593,9 +634,10 @@ left_kept found files kept path id (inr left) = inr left
 
 -- The paths are covered, and the files that were found are kept.
 pub covers_kept : {paths patterns : List (List ℕ)} {x y : List Call} (found files : List Found) (s t : Type 0) →
-    (s → t) → All (IsKept files) found → CoversPaths paths patterns x y (IsIn found) s →
-    CoversPaths paths patterns x y (StandsIn files) t
-covers_kept {paths = paths} found files s t e kept h = record {
+    (s → t) → All (IsKept files) found → All (Contains found) files → CoversPaths paths patterns x y IsIn found s →
+    CoversPaths paths patterns x y StandsIn files t
+covers_kept {paths = paths} {patterns = patterns} found files s t e kept from h = record {
+  allowed = All-weaker (Contains found) (IsAllowed patterns paths) (λ f there. All-contains (IsAllowed patterns paths) found f h.allowed there) files from;
   calls = h.calls;
   are = h.are;
   waiting = h.waiting;
@@ -610,10 +652,11 @@ covers_kept {paths = paths} found files s t e kept h = record {
 
 -- No path is missed, and the files that were found are kept.
 pub misses_kept : (args : Arguments) (text : List ℕ) {x y : List Call} (found files : List Found) (s t : Type 0) →
-    (s → t) → All (IsKept files) found → MissesNone args text x y (IsIn found) s →
-    MissesNone args text x y (StandsIn files) t
-misses_kept args text found files s t e kept (misses_no_path none h) = misses_no_path none (covers_kept found files s t e kept h)
-misses_kept args text found files s t e kept (misses_no_input input h) = misses_no_input input (record {
+    (s → t) → All (IsKept files) found → All (Contains found) files → MissesNone args text x y IsIn found s →
+    MissesNone args text x y StandsIn files t
+misses_kept args text found files s t e kept from (misses_no_path none h) = misses_no_path none (covers_kept found files s t e kept from h)
+misses_kept args text found files s t e kept from (misses_no_input input h) = misses_no_input input (record {
+  allowed = All-weaker (Contains found) (λ f. Contains (paths_of text) (string_bytes f.path)) (λ f there. All-contains (λ g. Contains (paths_of text) (string_bytes g.path)) found f h.allowed there) files from;
   calls = h.calls;
   are = h.are;
   gives = All-weaker (Gives h.calls (IsIn found) s) (Gives h.calls (StandsIn files) t) (λ p g. gives_within (λ w there. there) (stands_in found files kept) e g) (paths_of text) h.gives;
@@ -621,9 +664,9 @@ misses_kept args text found files s t e kept (misses_no_input input h) = misses_
 
 -- The paths are taken, and the files that were found are kept.
 pub paths_kept : {args : Arguments} {given left : Source} {x y : List Call} (found files : List Found) (s t : Type 0) →
-    (s → t) → All (IsKept files) found → TakesPaths args given left x y (IsIn found) s →
-    TakesPaths args given left x y (StandsIn files) t
-paths_kept {args = args} found files s t e kept h = record { text = h.text; takes = h.takes; misses = misses_kept args h.text found files s t e kept h.misses }
+    (s → t) → All (IsKept files) found → All (Contains found) files → TakesPaths args given left x y IsIn found s →
+    TakesPaths args given left x y StandsIn files t
+paths_kept {args = args} found files s t e kept from h = record { text = h.text; takes = h.takes; misses = misses_kept args h.text found files s t e kept from h.misses }
 
 -- A file that was pushed is among those found.
 pub is_in_pushed : (before after : List Found) (f : Found) (path : List ℕ) (id : FileId) → string_bytes f.path ≡ path → f.id ≡ id → after ≡ before ++ f ∷ [] → IsIn after path id

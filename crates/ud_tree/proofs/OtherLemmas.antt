@@ -1,6 +1,7 @@
 -- The files of other names, and which of them name a symbol.
-use Rattle.std.proofs.Common.{◌≡◌, ◌⊎◌, inl, inr, ℕ, ◌<◌, ◌≤◌, ◌+◌, List, [], ◌∷◌, ◌++◌, length, get_or, map, cond, Bool, true, false, not, ◌&&◌, Option, is_some, Result, Ok, Err, is_ok, refl, sym, ap, ◌∙◌, arith, bytes_eq, is_eq, is_lt}
+use Rattle.std.proofs.Common.{◌≡◌, ◌⊎◌, inl, inr, ℕ, ◌<◌, ◌≤◌, ◌+◌, ◌==◌, List, [], ◌∷◌, ◌++◌, length, get_or, map, cond, Bool, true, false, not, ◌&&◌, Option, is_some, Result, Ok, Err, is_ok, refl, sym, ap, ◌∙◌, arith, bytes_eq, is_eq, is_lt}
 use Rattle.std.proofs.lemmas.Bool.{cases_lt}
+use Rattle.std.proofs.lemmas.Grind.{common_steps}
 use Rattle.std.proofs.lemmas.Cmp.{nat_list_cmp_total}
 use Rattle.std.proofs.lemmas.List.{map-append}
 use Rattle.std.proofs.lemmas.List.Elements.{filter-append}
@@ -15,6 +16,11 @@ use Rattle.std.specs.declared.cmp.Ordering.{Ordering}
 use Rattle.std.specs.declared.cmp.Ordering.TheVariants.{Less, Equal, Greater}
 use Rattle.std.specs.Prelude.{string_bytes, filter}
 use Rattle.ud_model.specs.conditions.Table.{Argument}
+use Rattle.ud_cond.specs.symbols.SymbolTable.{TableRepresents}
+use Rattle.ud_passes.specs.declared.remaining.listing.Listing.TheVariants.{Texts}
+use Rattle.ud_passes.specs.remaining.ListedNames.{names_listed}
+use Rattle.ud_passes.specs.remaining.Mentions.{Mention}
+use Rattle.ud_passes.specs.remaining.RemainingLists.{lines_for, named_count}
 use Rattle.ud_replace.specs.declared.stat.FileStat.{FileStat}
 use Rattle.ud_replace.specs.Calls.{Call, was_read}
 use Rattle.ud_replace.specs.Moments.{EachCall}
@@ -74,16 +80,17 @@ pub touches_more : {name bytes : List ℕ} {old mid new : List Call} (answer : O
     EachCall TouchesNothing old new
 touches_more answer h is = each_then h (read_touches (reads answer is))
 
-module _ {table : List Argument} {files : List Found} where
+module _ {args : Arguments} {files : List Found} where
   -- No file was read yet.
-  pub reads_none : (calls : List Call) (others : List Found) → others ≡ [] → ReadsOthers table files [] calls calls others
-  reads_none calls others none = record { looks = []; files_are = refl; calls_are = refl; others_are = none }
+  pub reads_none : (calls : List Call) (others : List Found) → others ≡ [] → ReadsOthers args files [] calls calls others
+  reads_none calls others none = record { looks = []; files_are = refl; calls_are = refl; others_are = λ table r. none }
 
   -- Another one was read.
   pub reads_more : {all others after : List Found} {old mid new : List Call} (f : Found) (path bytes : List ℕ) (answer : Option FileStat) (named : Bool) →
-      is_among files f ≡ false → path ≡ string_bytes f.path → ReadsOthers table files all old mid others →
-      new ≡ was_read path bytes answer ∷ mid → named ≡ (is_some answer && names_symbol table bytes) →
-      after ≡ others ++ cond named (f ∷ []) [] → ReadsOthers table files (all ++ f ∷ []) old new after
+      is_among files f ≡ false → path ≡ string_bytes f.path → ReadsOthers args files all old mid others →
+      new ≡ was_read path bytes answer ∷ mid →
+      ((table : List Argument) → TableRepresents args.plan.run.symbols table → named ≡ (is_some answer && names_symbol table bytes)) →
+      after ≡ others ++ cond named (f ∷ []) [] → ReadsOthers args files (all ++ f ∷ []) old new after
   reads_more {all = all} {others = others} {old = old} {mid = mid} f path bytes answer named is at h call tells grown = record {
     looks = h.looks ++ look ∷ [];
     files_are = map-append (λ l. l.file) h.looks (look ∷ []) ∙ ap (λ (fs : List Found). fs ++ f ∷ []) h.files_are
@@ -91,7 +98,7 @@ module _ {table : List Argument} {files : List Found} where
         ∙ sym (filter-append (λ g. not (is_among files g)) all (f ∷ []));
     calls_are = call ∙ ap (λ (p : List ℕ). was_read p bytes answer ∷ mid) at ∙ ap (λ (cs : List Call). was_read (string_bytes f.path) bytes answer ∷ cs) h.calls_are
         ∙ sym (calls_push h.looks look old);
-    others_are = grown ∙ ap (λ (fs : List Found). fs ++ cond named (f ∷ []) []) h.others_are ∙ ap (λ (b : Bool). map (λ l. l.file) (filter (is_named table) h.looks) ++ cond b (f ∷ []) []) tells
+    others_are = λ table r. grown ∙ ap (λ (fs : List Found). fs ++ cond named (f ∷ []) []) (h.others_are table r) ∙ ap (λ (b : Bool). map (λ l. l.file) (filter (is_named table) h.looks) ++ cond b (f ∷ []) []) (tells table r)
         ∙ ap (λ (fs : List Found). map (λ l. l.file) (filter (is_named table) h.looks) ++ fs) (one (is_named table look))
         ∙ sym (map-append (λ l. l.file) (filter (is_named table) h.looks) (filter (is_named table) (look ∷ [])))
         ∙ ap (map (λ l. l.file)) (sym (filter-append (is_named table) h.looks (look ∷ [])));
@@ -104,6 +111,15 @@ module _ {table : List Argument} {files : List Found} where
       one true = refl
       one false = refl
 
+-- The list of a text's conditions is empty if none is counted.
+pub texts_count : (table : List Argument) (ms : List Mention) → (length (lines_for table Texts [] ms) == 0) ≡ (named_count table ms == 0)
+texts_count table [] = refl
+texts_count table (m ∷ ms) = by_case (names_listed table m) refl (texts_count table ms)
+  where
+    by_case : (b : Bool) → names_listed table m ≡ b → (length (lines_for table Texts [] ms) == 0) ≡ (named_count table ms == 0) →
+        (length (lines_for table Texts [] (m ∷ ms)) == 0) ≡ (named_count table (m ∷ ms) == 0)
+    by_case b e more = grind (arith, common_steps, e, more)
+
 -- 3. The walk over files of all names.
 
 -- It touches no file.
@@ -113,18 +129,18 @@ walked_touches {calls = calls} h = each_at h.finds.are (walk_touches h.finds.cal
 -- It found all files.
 pub walked_over : {args : Arguments} {calls calls' : List Call} {w w' : Walk} {r r' : ReportState} (files : List Found) → w.found.items ≡ [] → r.faulty ≡ 0 →
     GoesOn calls calls' w w' r r' →
-    CoversPaths (map string_bytes args.paths.items) (any_name (map string_bytes args.patterns.items)) calls calls' (IsIn w'.found.items) (0 < r'.faulty) →
+    CoversPaths (map string_bytes args.paths.items) (any_name (map string_bytes args.patterns.items)) calls calls' IsIn w'.found.items (0 < r'.faulty) →
     IsFileList w'.found.items files → WalksOthers args calls calls' files
 walked_over {w' = w'} {r = r} {r' = r'} files empty none h covers l = record {
   messages = h.told.messages;
   walk = h.told.walk;
   is_walk = walk_found files empty h.finds l;
   covers = covers_kept w'.found.items files (0 < r'.faulty) (0 < length h.told.messages)
-      (λ some. some_told r.faulty r'.faulty (length h.told.messages) none h.told.counted some) l.kept covers;
+      (λ some. some_told r.faulty r'.faulty (length h.told.messages) none h.told.counted some) l.kept l.from covers;
 }
 
 -- A path of the command line can't be taken any more.
-pub none_walked : {table : List Argument} {args : Arguments} {files : List Found} {calls calls' : List Call} {w w' : Walk} {r r' : ReportState} {others : List Found} → r.faulty ≡ 0 →
-    GoesOn calls calls' w w' r r' → 0 < r'.faulty → others ≡ [] → AreOthers table args files calls calls' others
+pub none_walked : {args : Arguments} {files : List Found} {calls calls' : List Call} {w w' : Walk} {r r' : ReportState} {others : List Found} → r.faulty ≡ 0 →
+    GoesOn calls calls' w w' r r' → 0 < r'.faulty → others ≡ [] → AreOthers args files calls calls' others
 none_walked {r = r} {r' = r'} none h bad empty =
     no_path h.told.messages h.told.walk (some_told r.faulty r'.faulty (length h.told.messages) none h.told.counted bad) empty

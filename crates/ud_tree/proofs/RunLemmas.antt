@@ -407,7 +407,7 @@ ran_from job {old = old} {mid = mid} {new = new} {files = files} in_walk is firs
     mid = mid.calls;
     files = files;
     takes = w.paths.takes;
-    misses = subst (λ (fs : List Found). MissesNone job.arguments.now w.paths.text old.calls mid.calls (StandsIn fs) (0 < length w.reports.messages)) (sym is) w.paths.misses;
+    misses = subst (λ (fs : List Found). MissesNone job.arguments.now w.paths.text old.calls mid.calls StandsIn fs (0 < length w.reports.messages)) (sym is) w.paths.misses;
     is_walk = subst (λ (fs : List Found). IsWalk old.calls mid.calls fs) (sym is) w.is_walk;
     walk = w.reports.walk;
     some = subst (λ (fs : List Found). job.arguments.now.from_input ≡ false → 0 < length fs) (sym is) w.some;

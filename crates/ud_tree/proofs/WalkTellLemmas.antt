@@ -8,7 +8,7 @@ use Rattle.ud_replace.specs.declared.node.NodeKind.{NodeKind}
 use Rattle.ud_replace.specs.declared.node.NodeKind.TheVariants.{File, Link, Other}
 use Rattle.ud_replace.specs.declared.node.Lookup.{Lookup}
 use Rattle.ud_replace.specs.declared.node.Lookup.TheVariants.{Present, Absent}
-use Rattle.ud_replace.specs.declared.node.FileId.{FileId}
+use Rattle.ud_tree.specs.declared.walk.Found.{Found}
 use Rattle.ud_replace.specs.declared.node.Node.{Node}
 use Rattle.ud_replace.specs.Calls.{Call, walked, WalkCall, met, followed, listed}
 use Rattle.ud_tree.specs.Reports.{ReportState, Says, ReportsOne, ReportsOf}
@@ -18,7 +18,7 @@ use Rattle.ud_tree.specs.Messages.{locked_line, fault_line, IsFailureOf, no_reas
 use Rattle.ud_tree.specs.Streams.{Source, takes_all, takes_none}
 use Rattle.std.specs.Prelude.{string_bytes}
 use Rattle.ud_tree.specs.declared.arguments.Arguments.{Arguments}
-use Rattle.ud_tree.specs.Covering.{CoversPaths, misses_no_path, misses_no_input}
+use Rattle.ud_tree.specs.Covering.{CoversPaths, misses_no_path, misses_no_input, IsIn}
 use Rattle.ud_tree.specs.Summaries.{line_of}
 use Rattle.ud_tree.specs.WalkMessages.{is_refused, is_unread, IsRemark, is_link, is_other, is_no_text, no_input, AreTold, none_told, then_answered, then_refused, then_vanished, then_remark, WasListed, IsRefusal, ReportsWalk, GoesOn, ReportsNames, VisitTells, is_gone, is_told, TellsGiven, is_quiet, is_irregular, input_message, bad_input, Stops, StopsWalk, TakesEach, TakesPaths}
 use Rattle.ud_tree.proofs.ReportLemmas.{tells_none, tells_then, tells_same, says_tells, reports_same, reports_weaker}
@@ -292,19 +292,19 @@ pub some_unless : (from_input : Bool) (n : ℕ) → from_input ≡ true → from
 some_unless from_input n input args = absurd (true≢false (sym input ∙ args))
 
 -- Each path of the input was given.
-pub paths_given : (args : Arguments) {given left : Source} {calls calls' : List Call} {has : List ℕ → FileId → Type 0}
-    {told : Type 0} → args.from_input ≡ true → TakesEach given left calls calls' has told →
-    TakesPaths args given left calls calls' has told
+pub paths_given : (args : Arguments) {given left : Source} {calls calls' : List Call} {found : List Found}
+    {told : Type 0} → args.from_input ≡ true → TakesEach given left calls calls' found told →
+    TakesPaths args given left calls calls' IsIn found told
 paths_given args input h = record { text = h.text; takes = takes_all input h.reads; misses = misses_no_input input h.covers }
 
 -- The paths of the command line are covered, and nothing was read.
-pub paths_covered : (args : Arguments) {given : Source} {paths : List (String Global)} {calls calls' : List Call} {has : List ℕ → FileId → Type 0} {told : Type 0} → args.from_input ≡ false →
-    CoversPaths (map (λ p. string_bytes p) paths) (map (λ p. string_bytes p) args.patterns.items) calls calls' has told → paths ≡ args.paths.items → TakesPaths args given given calls calls' has told
-paths_covered args {calls = calls} {calls' = calls'} {has = has} {told = told} none h are =
+pub paths_covered : (args : Arguments) {given : Source} {paths : List (String Global)} {calls calls' : List Call} {found : List Found} {told : Type 0} → args.from_input ≡ false →
+    CoversPaths (map (λ p. string_bytes p) paths) (map (λ p. string_bytes p) args.patterns.items) calls calls' IsIn found told → paths ≡ args.paths.items → TakesPaths args given given calls calls' IsIn found told
+paths_covered args {calls = calls} {calls' = calls'} {found = found} {told = told} none h are =
     record {
       text = [];
       takes = takes_none none refl;
-      misses = misses_no_path none (subst (λ ps. CoversPaths (map (λ p. string_bytes p) ps) (map (λ p. string_bytes p) args.patterns.items) calls calls' has told) are h);
+      misses = misses_no_path none (subst (λ ps. CoversPaths (map (λ p. string_bytes p) ps) (map (λ p. string_bytes p) args.patterns.items) calls calls' IsIn found told) are h);
     }
 
 -- Nothing was asked yet.

@@ -1,11 +1,12 @@
 -- Catching: which of the regular files that it meets a walk takes.
 --
 --   IsTaken w path id     a walk has found a file, or its patterns don't choose it
---   Grows w v             a walk goes on with its patterns, and loses no file
---   Catches old new w v   a part of a walk, which takes each regular file that it meets
+--   AddsAllowed patterns paths found found'   the files after are those before, or may be taken
+--   Grows paths w v       a walk goes on with its patterns, loses no file, and adds what it may
+--   Catches paths old new w v   a part of a walk, which takes each regular file that it meets
 --
 -- `w` and `v` are the walk before and after, and `old` and `new` are the calls before and after,
--- the newest first.
+-- the newest first. Files at `paths` are taken whatever their names.
 use Rattle.std.specs.Prelude.{◌≡◌, ◌⊎◌, ℕ, List, ◌++◌, map, string_bytes}
 use Rattle.std.specs.List.{All, Contains}
 use Rattle.ud_replace.specs.declared.node.FileId.{FileId}
@@ -13,25 +14,34 @@ use Rattle.ud_replace.specs.declared.node.Lookup.TheVariants.{Present}
 use Rattle.ud_replace.specs.declared.node.Node.{Node}
 use Rattle.ud_replace.specs.declared.node.NodeKind.TheVariants.{File}
 use Rattle.ud_replace.specs.Calls.{Call, walked, WalkCall, met}
+use Rattle.ud_tree.specs.declared.walk.Found.{Found}
 use Rattle.ud_tree.specs.declared.walk.Walk.{Walk}
 use Rattle.ud_tree.specs.Choices.{IsLeft}
-use Rattle.ud_tree.specs.Covering.{IsIn}
+use Rattle.ud_tree.specs.Covering.{IsAllowed, IsIn}
 
 -- `IsTaken w path id`: the walk has found the file with this path and identity, or its patterns
 -- don't choose it.
 abbrev pub IsTaken : Walk → List ℕ → FileId → Type 0
 IsTaken w path id = IsIn w.found.items path id ⊎ IsLeft (map string_bytes w.patterns.now) path
 
--- `Grows w v`: the walk `v` has the patterns of `w`, and each file that `w` has found.
-pub record Grows (w v : Walk) : Type 0 where
+-- `AddsAllowed patterns paths found found'`: each file of `found'` is one of `found`, or may be
+-- taken.
+abbrev pub AddsAllowed : List (List ℕ) → List (List ℕ) → List Found → List Found → Type 0
+AddsAllowed patterns paths found found' =
+    All (λ f. Contains found f ⊎ IsAllowed patterns paths f) found'
+
+-- `Grows paths w v`: the walk `v` has the patterns of `w`, each file that `w` has found, and no
+-- other but such as it may take.
+pub record Grows (paths : List (List ℕ)) (w v : Walk) : Type 0 where
   pub same : v.patterns.now ≡ w.patterns.now
   pub stay : All (Contains v.found.items) w.found.items
+  pub allowed : AddsAllowed (map string_bytes w.patterns.now) paths w.found.items v.found.items
 
--- `Catches old new w v`: since `old`, only calls of a walk were made. The walk has gone on from `w`
--- to `v`, and each regular file that one of these calls met is taken.
-pub record Catches (old new : List Call) (w v : Walk) : Type 0 where
+-- `Catches paths old new w v`: since `old`, only calls of a walk were made. The walk has gone on from
+-- `w` to `v`, and each regular file that one of these calls met is taken.
+pub record Catches (paths : List (List ℕ)) (old new : List Call) (w v : Walk) : Type 0 where
   pub calls : List WalkCall
   pub are : new ≡ map walked calls ++ old
-  pub grows : Grows w v
+  pub grows : Grows paths w v
   pub taken : (path : List ℕ) (node : Node) → Contains calls (met path (Present node)) →
       node.kind ≡ File → IsTaken v path node.id

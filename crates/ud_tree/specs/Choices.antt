@@ -9,6 +9,7 @@
 --   Chooses texts below chosen   whether a file is chosen
 --   LeavesDirectory texts below   a directory is left out
 --   IsBelow path below       the part of a path below a directory above it
+--   IsChosen texts path      the file at this path is chosen
 --   IsLeft texts path        the file at this path isn't chosen
 --   IsSkipped texts path name   the directory at this path is left out
 --
@@ -115,6 +116,10 @@ pub record LeavesDirectory (texts : List (List ℕ)) (below : List ℕ) : Type 0
 pub data IsBelow (path : List ℕ) : List ℕ → Type 0 where
   whole : IsBelow path path
   after : (directory below : List ℕ) → path ≡ directory ++ 47 ∷ below → IsBelow path below
+
+-- `IsChosen texts path`: the rules choose the file, by its path below a directory above it.
+abbrev pub IsChosen : List (List ℕ) → List ℕ → Type 0
+IsChosen texts path = (below : List ℕ) × IsBelow path below × Chooses texts below true
 
 -- `IsLeft texts path`: the rules don't choose the file, by its path below a directory above it.
 abbrev pub IsLeft : List (List ℕ) → List ℕ → Type 0

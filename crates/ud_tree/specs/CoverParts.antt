@@ -93,11 +93,13 @@ pub data AddsDirectory (patterns : List (List ℕ)) (path name : List ℕ) (node
       AddsDirectory patterns path name node directories directories'
 
 -- `TakesOne path calls calls' found found' old new`: since `calls`, only calls of a walk were made,
--- and the path `path` of the input was given. The files found before stay.
+-- and the path `path` of the input was given. The files found before stay, and each other one is at
+-- this path.
 pub record TakesOne (path : List ℕ) (calls calls' : List Call) (found found' : List Found)
     (old new : ReportState) : Type 0 where
   pub made : List WalkCall
   pub are : calls' ≡ map walked made ++ calls
   pub gives : Gives made (IsIn found') (0 < new.faulty) path
   pub stay : All (Contains found') found
+  pub only : All (λ f. Contains found f ⊎ (string_bytes f.path ≡ path)) found'
   pub kept : 0 < old.faulty → 0 < new.faulty

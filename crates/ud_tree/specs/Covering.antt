@@ -11,12 +11,14 @@
 --   Gives calls has told path     what happened to a path of the input
 --   own_path path                 a path, unless it is empty
 --   paths_after path text, paths_of text   the paths of the input
---   CoversPaths paths patterns old new has told   a whole walk from the command line's paths
---   CoversInput paths old new has told   a whole walk from the input's paths
---   MissesNone args text old new has told   a whole walk from the arguments' paths
+--   IsAllowed patterns paths f    a walk from these paths may take a file
+--   CoversPaths paths patterns old new has found told   a whole walk from the command line's paths
+--   CoversInput paths old new has found told   a whole walk from the input's paths
+--   MissesNone args text old new has found told   a whole walk from the arguments' paths
 --
 -- `calls` are the calls of a walk, the newest first. `due path` says that a directory was listed or
--- is waiting, `has path id` that a file was found, and `told` that the walk has a message.
+-- is waiting, `has path id` (`has found path id`) that a file was found, and `told` that the walk has
+-- a message.
 use Rattle.std.specs.Prelude.{◌≡◌, ◌⊎◌, ℕ, List, [], ◌∷◌, ◌++◌, Bool, true, false, IsUtf8, codes}
 use Rattle.std.specs.Prelude.{string_bytes, map, length, ◌+◌, ◌<◌, ◌^◌, ◌==◌, if◌then◌else◌}
 use Rattle.std.specs.List.{All, Contains}
@@ -29,7 +31,7 @@ use Rattle.ud_replace.specs.declared.node.NodeKind.TheVariants.{Other}
 use Rattle.ud_replace.specs.Calls.{Call, walked, WalkCall, met, followed, listed}
 use Rattle.ud_tree.specs.declared.arguments.Arguments.{Arguments}
 use Rattle.ud_tree.specs.declared.walk.Found.{Found}
-use Rattle.ud_tree.specs.Choices.{IsLeft, IsSkipped}
+use Rattle.ud_tree.specs.Choices.{IsChosen, IsLeft, IsSkipped}
 
 -- `IsDirectoryPath path directory`: `directory` is `path`, with a slash at its end.
 abbrev pub IsDirectoryPath : List ℕ → List ℕ → Type 0
@@ -110,36 +112,48 @@ paths_after path (b ∷ text) = if b == 0 then own_path path ++ paths_after [] t
 abbrev pub paths_of : List ℕ → List (List ℕ)
 paths_of text = paths_after [] text
 
--- `CoversPaths paths patterns old new has told`: since `old`, only calls of a walk were made. Each
--- of `paths` can be taken, and was found if it is a regular file. Each name in each listed
+-- `IsAllowed patterns paths f`: the path of `f` is one of `paths`, or the patterns choose it.
+abbrev pub IsAllowed : List (List ℕ) → List (List ℕ) → Found → Type 0
+IsAllowed patterns paths f =
+    Contains paths (string_bytes f.path) ⊎ IsChosen patterns (string_bytes f.path)
+
+-- `CoversPaths paths patterns old new has found told`: since `old`, only calls of a walk were made.
+-- Each of `paths` can be taken, and was found if it is a regular file. Each name in each listed
 -- directory was visited. Each directory that is due was listed, unless there were more calls than a
--- machine counts. Each regular file met was found, or the patterns don't choose it.
+-- machine counts. Each regular file met was found, or the patterns don't choose it. Each file of
+-- `found` is at one of `paths`, or the patterns choose it.
 pub record CoversPaths (paths patterns : List (List ℕ)) (old new : List Call)
-    (has : List ℕ → FileId → Type 0) (told : Type 0) : Type 0 where
+    (has : List Found → List ℕ → FileId → Type 0) (found : List Found) (told : Type 0) :
+    Type 0 where
   pub calls : List WalkCall
   pub are : new ≡ map walked calls ++ old
   pub waiting : List (List ℕ)
   pub all_listed : length calls + 1 < 2 ^ 64 → waiting ≡ []
-  pub begins : All (Begins calls (IsDue calls waiting) has) paths
+  pub begins : All (Begins calls (IsDue calls waiting) (has found)) paths
   pub visits : VisitsAll patterns calls (IsDue calls waiting) told
   pub taken : (path : List ℕ) (node : Node) → Contains calls (met path (Present node)) →
-      node.kind ≡ File → has path node.id ⊎ IsLeft patterns path
+      node.kind ≡ File → has found path node.id ⊎ IsLeft patterns path
+  pub allowed : All (IsAllowed patterns paths) found
 
--- `CoversInput paths old new has told`: since `old`, only calls of a walk were made, and each of
--- `paths` was given.
+-- `CoversInput paths old new has found told`: since `old`, only calls of a walk were made, and each
+-- of `paths` was given. Each file of `found` is at one of them.
 pub record CoversInput (paths : List (List ℕ)) (old new : List Call)
-    (has : List ℕ → FileId → Type 0) (told : Type 0) : Type 0 where
+    (has : List Found → List ℕ → FileId → Type 0) (found : List Found) (told : Type 0) :
+    Type 0 where
   pub calls : List WalkCall
   pub are : new ≡ map walked calls ++ old
-  pub gives : All (Gives calls has told) paths
+  pub gives : All (Gives calls (has found) told) paths
+  pub allowed : All (λ f. Contains paths (string_bytes f.path)) found
 
--- `MissesNone args text old new has told`: the paths come from the command line, and are covered.
--- Or they come from the input `text`, and each was given.
+-- `MissesNone args text old new has found told`: the paths come from the command line, and are
+-- covered. Or they come from the input `text`, and each was given. No other file was found.
 pub data MissesNone (args : Arguments) (text : List ℕ) (old new : List Call)
-    (has : List ℕ → FileId → Type 0) (told : Type 0) : Type 0 where
+    (has : List Found → List ℕ → FileId → Type 0) (found : List Found) (told : Type 0) :
+    Type 0 where
   misses_no_path : args.from_input ≡ false →
       CoversPaths (map (λ p. string_bytes p) args.paths.items)
-      (map (λ p. string_bytes p) args.patterns.items) old new has told →
-      MissesNone args text old new has told
-  misses_no_input : args.from_input ≡ true → CoversInput (paths_of text) old new has told →
-      MissesNone args text old new has told
+      (map (λ p. string_bytes p) args.patterns.items) old new has found told →
+      MissesNone args text old new has found told
+  misses_no_input : args.from_input ≡ true →
+      CoversInput (paths_of text) old new has found told →
+      MissesNone args text old new has found told

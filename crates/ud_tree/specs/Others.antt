@@ -9,13 +9,14 @@
 --   calls_of looks old       the calls after these files were read
 --   LooksAt args path old new answer   a file was read
 --   WalksOthers args old new all   a walk found the files of all names
---   ReadsOthers table files all old new others   those of other names were read
---   AreOthers table args files old new others   the files of other names that name a symbol
+--   ReadsOthers args files all old new others   those of other names were read
+--   AddsOther args files f old new others others'   one file more was read
+--   AreOthers args files old new others   the files of other names that name a symbol
 --   SeeksOthers args files old new is_lost others   they were sought, if they are wanted
 --   FindsOthers args files old new before after others   so they were, and nothing was written
 --
 -- `old` and `new` are the calls before and after, the newest first.
-use Rattle.std.specs.Prelude.{◌≡◌, ℕ, ◌<◌, List, [], ◌∷◌, length, take, filter, map, Option}
+use Rattle.std.specs.Prelude.{◌≡◌, ℕ, ◌<◌, List, [], ◌∷◌, ◌++◌, length, take, filter, map, Option}
 use Rattle.std.specs.Prelude.{Bool, true, false, not, ◌&&◌, ◌==◌, codes, bytes_eq, is_some}
 use Rattle.std.specs.Prelude.{nat_eq}
 use Rattle.std.specs.Prelude.{string_bytes, Result, IfOk}
@@ -24,8 +25,7 @@ use Rattle.std.specs.declared.alloc.AllocError.{AllocError}
 use Rattle.ud_model.specs.conditions.Table.{Argument}
 use Rattle.ud_model.specs.declared.kind.Mode.TheVariants.{Plain}
 use Rattle.ud_cond.specs.symbols.SymbolTable.{TableRepresents}
-use Rattle.ud_passes.specs.declared.remaining.listing.Listing.TheVariants.{Texts}
-use Rattle.ud_passes.specs.remaining.RemainingLists.{remaining_text}
+use Rattle.ud_passes.specs.remaining.RemainingLists.{remaining_count}
 use Rattle.ud_replace.specs.declared.stat.FileStat.{FileStat}
 use Rattle.ud_replace.specs.Calls.{Call, was_read}
 use Rattle.ud_replace.specs.Moments.{EachCall}
@@ -61,7 +61,7 @@ is_text bytes = not (list_any (λ byte. nat_eq byte 0) (take PROBE_BYTES bytes))
 -- strings of C mean nothing there.
 abbrev pub names_symbol : List Argument → List ℕ → Bool
 names_symbol table bytes =
-    is_text bytes && not (length (remaining_text table Texts Plain [] bytes) == 0)
+    is_text bytes && not (remaining_count table Plain bytes == 0)
 
 -- `Look`: a file, what was read of it, and whether that is all of it.
 pub record Look : Type 0 where
@@ -97,27 +97,36 @@ pub record WalksOthers (args : Arguments) (old new : List Call) (all : List Foun
   pub walk : WalkTells old new messages
   pub is_walk : IsWalk old new all
   pub covers : CoversPaths (map string_bytes args.paths.items)
-      (any_name (map string_bytes args.patterns.items)) old new (StandsIn all)
+      (any_name (map string_bytes args.patterns.items)) old new StandsIn all
       (0 < length messages)
 
--- `ReadsOthers table files all old new others`: those of the files `all` that aren't among `files`
--- were read in turn, and `others` are those of them that name a symbol.
-pub record ReadsOthers (table : List Argument) (files all : List Found) (old new : List Call)
+-- `ReadsOthers args files all old new others`: the files of `all` that aren't among `files` were read
+-- in turn, and `others` are those that name a symbol.
+pub record ReadsOthers (args : Arguments) (files all : List Found) (old new : List Call)
     (others : List Found) : Type 0 where
   pub looks : List Look
   pub files_are : map (λ l. l.file) looks ≡ filter (λ f. not (is_among files f)) all
   pub calls_are : new ≡ calls_of looks old
-  pub others_are : others ≡ map (λ l. l.file) (filter (is_named table) looks)
+  pub others_are : (table : List Argument) → TableRepresents args.plan.run.symbols table →
+      others ≡ map (λ l. l.file) (filter (is_named table) looks)
 
--- `AreOthers table args files old new others`: a walk found the files of all names, and those that
--- aren't among `files` were read. Or a path of the command line can't be taken any more, and there
--- are none.
-pub data AreOthers (table : List Argument) (args : Arguments) (files : List Found)
-    (old new : List Call) (others : List Found) : Type 0 where
+-- `AddsOther args files f old new others others'`: if those of some files were read, those of these
+-- and `f` now were.
+abbrev pub AddsOther : Arguments → List Found → Found → List Call → List Call → List Found →
+    List Found → Type 0
+AddsOther args files f old new others others' = (all : List Found) (start : List Call) →
+    ReadsOthers args files all start old others →
+    ReadsOthers args files (all ++ f ∷ []) start new others'
+
+-- `AreOthers args files old new others`: a walk found the files of all names, and those that aren't
+-- among `files` were read. Or a path of the command line can't be taken any more, and there are
+-- none.
+pub data AreOthers (args : Arguments) (files : List Found) (old new : List Call)
+    (others : List Found) : Type 0 where
   no_path : (messages : List (List ℕ)) → WalkTells old new messages → 0 < length messages →
-      others ≡ [] → AreOthers table args files old new others
+      others ≡ [] → AreOthers args files old new others
   were_read : (mid : List Call) (all : List Found) → WalksOthers args old mid all →
-      ReadsOthers table files all mid new others → AreOthers table args files old new others
+      ReadsOthers args files all mid new others → AreOthers args files old new others
 
 -- `SeeksOthers args files old new is_lost others`: no call touches a file. `others` are the files
 -- of other names that name a symbol, if the run tells of them, unless some were lost for lack of
@@ -126,8 +135,7 @@ pub record SeeksOthers (args : Arguments) (files : List Found) (old new : List C
     (is_lost : Bool) (others : List Found) : Type 0 where
   pub touches : EachCall TouchesNothing old new
   pub unwanted : wants_others args ≡ false → (new ≡ old) × (others ≡ [])
-  pub found : is_lost ≡ false → wants_others args ≡ true → (table : List Argument) →
-      TableRepresents args.plan.run.symbols table → AreOthers table args files old new others
+  pub found : is_lost ≡ false → wants_others args ≡ true → AreOthers args files old new others
 
 -- `FindsOthers args files old new before after others`: the same, by what the report records, to
 -- which nothing else was added.

@@ -15,8 +15,8 @@
 --   input_message                the message if the input couldn't be read
 --   Stops from_input left messages told   why no file follows a walk, and its message
 --   StopsWalk from_input left calls calls' old new   a walk that no file follows
---   TakesEach given left calls calls' has told   the input was read, and each path was given
---   TakesPaths args given left calls calls' has told   all paths are taken
+--   TakesEach given left calls calls' found told   the input was read, and each path was given
+--   TakesPaths args given left calls calls' has found told   all paths are taken
 --   WalksAll args given left calls calls' found old new all   a walk over all paths, or not
 --   FindsFiles args given left calls calls' files old new   a walk that found files
 --   EndsWalk args given left calls calls' old new found   a walk that found files, or none
@@ -185,27 +185,28 @@ pub record StopsWalk (from_input : Bool) (left : Source) (calls calls' : List Ca
   pub stops : Stops from_input left messages told
   pub tells : Tells old new (joined messages ++ told)
 
--- `TakesEach given left calls calls' has told`: the input was read whole, and each of its paths was
+-- `TakesEach given left calls calls' found told`: the input was read whole, and each of its paths was
 -- given.
-pub record TakesEach (given left : Source) (calls calls' : List Call)
-    (has : List ℕ → FileId → Type 0) (told : Type 0) : Type 0 where
+pub record TakesEach (given left : Source) (calls calls' : List Call) (found : List Found)
+    (told : Type 0) : Type 0 where
   pub text : List ℕ
   pub reads : ReadsWhole given left text
-  pub covers : CoversInput (paths_of text) calls calls' has told
+  pub covers : CoversInput (paths_of text) calls calls' IsIn found told
 
--- `TakesPaths args given left calls calls' has told`: the input was read whole, if paths come from
--- it. Since `calls`, a whole walk missed none of the paths.
+-- `TakesPaths args given left calls calls' has found told`: the input was read whole, if paths come
+-- from it. Since `calls`, a whole walk missed none of the paths.
 pub record TakesPaths (args : Arguments) (given left : Source) (calls calls' : List Call)
-    (has : List ℕ → FileId → Type 0) (told : Type 0) : Type 0 where
+    (has : List Found → List ℕ → FileId → Type 0) (found : List Found) (told : Type 0) :
+    Type 0 where
   pub text : List ℕ
   pub takes : TakesInput args.from_input given left text
-  pub misses : MissesNone args text calls calls' has told
+  pub misses : MissesNone args text calls calls' has found told
 
 -- `WalksAll args given left calls calls' found old new all`: if `all`, the paths are taken, and the
 -- walk has found `found`. Else no file follows it.
 pub record WalksAll (args : Arguments) (given left : Source) (calls calls' : List Call)
     (found : List Found) (old new : ReportState) (all : Bool) : Type 0 where
-  pub takes : all ≡ true → TakesPaths args given left calls calls' (IsIn found) (0 < new.faulty)
+  pub takes : all ≡ true → TakesPaths args given left calls calls' IsIn found (0 < new.faulty)
   pub stops : all ≡ false → old.faulty ≡ 0 → StopsWalk args.from_input left calls calls' old new
 
 -- `FindsFiles args given left calls calls' files old new`: the paths are taken. Since `calls`, a
@@ -216,7 +217,7 @@ pub record FindsFiles (args : Arguments) (given left : Source) (calls calls' : L
   pub is_walk : IsWalk calls calls' files
   pub some : args.from_input ≡ false → 0 < length files
   pub reports : ReportsWalk calls calls' old new
-  pub paths : TakesPaths args given left calls calls' (StandsIn files) (0 < length reports.messages)
+  pub paths : TakesPaths args given left calls calls' StandsIn files (0 < length reports.messages)
 
 -- `EndsWalk args given left calls calls' old new found`: the walk found these files, or no file
 -- follows it.

@@ -57,7 +57,8 @@ fn walk_all<T: Tree, R: Read, E: Write>(
     input: &mut Watched<R>,
     report: &mut Report<E>,
 ) -> Result<bool, AllocError>
-    requires { walk.old.patterns.now ≡ job.now.arguments.now.patterns.items }
+    requires patterns { walk.old.patterns.now ≡ job.now.arguments.now.patterns.items }
+    requires found { walk.old.found.items ≡ [] }
     ensures goes_on { GoesOn (T.history tree.old) (T.history tree.new) walk.old walk.new
         report.old report.new }
     ensures walks { IfOk result (WalksAll job.now.arguments.now
@@ -81,11 +82,12 @@ pub(crate) fn walk_paths<T: Tree, E: Write>(
     tree: &mut T,
     report: &mut Report<E>,
 ) -> Result<bool, AllocError>
+    requires { walk.old.found.items ≡ [] }
     ensures goes_on { GoesOn (T.history tree.old) (T.history tree.new) walk.old walk.new
         report.old report.new }
     ensures covers { IfOk result (λ all. all ≡ true → CoversPaths (map string_bytes paths.now)
         (map string_bytes walk.old.patterns.now) (T.history tree.old) (T.history tree.new)
-        (IsIn walk.new.found.items) (0 < report.new.faulty)) }
+        IsIn walk.new.found.items (0 < report.new.faulty)) }
     ensures refused { IfOk result (λ all. all ≡ false → 0 < report.new.faulty) }
 {
     for path in paths {
@@ -107,11 +109,12 @@ fn add_input<T: Tree, R: Read, E: Write>(
     input: &mut Watched<R>,
     report: &mut Report<E>,
 ) -> Result<bool, AllocError>
+    requires { walk.old.found.items ≡ [] }
     ensures goes_on { GoesOn (T.history tree.old) (T.history tree.new) walk.old walk.new
         report.old report.new }
     ensures takes { IfOk result (λ all. all ≡ true → TakesEach
         (source_of R.remaining input.old) (source_of R.remaining input.new)
-        (T.history tree.old) (T.history tree.new) (IsIn walk.new.found.items)
+        (T.history tree.old) (T.history tree.new) walk.new.found.items
         (0 < report.new.faulty)) }
     ensures stops { IfOk result (λ all. all ≡ false →
         StopsWalk true (source_of R.remaining input.new) (T.history tree.old)

@@ -3,14 +3,13 @@
 //! Once its own files are processed, a run that lists what remains walks over its paths again. It
 //! takes the files of all names, and reads those that aren't its own. It changes none of them.
 
-ghost use Rattle.std.specs.Prelude.{◌≡◌, List, [], ◌∷◌, ◌++◌, map, string_bytes, IfOk, OnOk};
+ghost use Rattle.std.specs.Prelude.{◌≡◌, List, [], ◌∷◌, map, string_bytes, IfOk, OnOk};
 ghost use Rattle.ud_model.specs.conditions.Table.{Argument};
 ghost use Rattle.ud_cond.specs.symbols.SymbolTable.{TableRepresents};
-ghost use Rattle.ud_replace.specs.Calls.{Call};
 ghost use Rattle.ud_replace.specs.Moments.{EachCall};
 ghost use Rattle.ud_tree.specs.declared.walk.Found.{Found};
-ghost use Rattle.ud_tree.specs.Others.{AreOthers, FindsOthers, LooksAt, ReadsOthers, any_name};
-ghost use Rattle.ud_tree.specs.Others.{is_among, is_text, names_symbol};
+ghost use Rattle.ud_tree.specs.Others.{AddsOther, AreOthers, FindsOthers, LooksAt, ReadsOthers};
+ghost use Rattle.ud_tree.specs.Others.{any_name, is_among, is_text, names_symbol};
 ghost use Rattle.ud_tree.specs.TreeMoments.{TouchesNothing};
 ghost use Rattle.ud_tree.specs.Walks.{IsBefore};
 ghost use Rattle.std.specs.List.{AllPairs};
@@ -94,11 +93,8 @@ fn add_other<T: Tree>(
 ) -> Result<(), AllocError>
     requires { AllPairs IsBefore files.now }
     ensures touches { EachCall TouchesNothing (T.history tree.old) (T.history tree.new) }
-    ensures added { OnOk result ((table : List Argument) (all : List Found) (start : List Call) →
-        TableRepresents job.now.arguments.now.plan.run.symbols table →
-        ReadsOthers table files.now all start (T.history tree.old) others.old.items →
-        ReadsOthers table files.now (all ++ found ∷ []) start (T.history tree.new)
-        others.new.items) }
+    ensures adds { OnOk result (AddsOther job.now.arguments.now files.now found
+        (T.history tree.old) (T.history tree.new) others.old.items others.new.items) }
 {
     if is_among(files, &found) {
         return Ok(());
@@ -111,7 +107,7 @@ fn add_other<T: Tree>(
     Ok(())
 }
 
-/// Returns those of the files `all` that aren't among `files` and name a symbol.
+/// Returns the files of `all` that aren't among `files` and name a symbol.
 ///
 /// # Errors
 /// Fails if memory runs out.
@@ -123,10 +119,8 @@ fn read_others<T: Tree>(
 ) -> Result<Vec<Found>, AllocError>
     requires { AllPairs IsBefore files.now }
     ensures touches { EachCall TouchesNothing (T.history tree.old) (T.history tree.new) }
-    ensures read { IfOk result (λ others. (table : List Argument) →
-        TableRepresents job.now.arguments.now.plan.run.symbols table →
-        ReadsOthers table files.now all.items (T.history tree.old) (T.history tree.new)
-        others.items) }
+    ensures read { IfOk result (λ others. ReadsOthers job.now.arguments.now files.now all.items
+        (T.history tree.old) (T.history tree.new) others.items) }
 {
     let mut others = Vec::new(job.alloc);
     for found in all {
@@ -163,10 +157,8 @@ fn others_of<T: Tree>(
 ) -> Result<Vec<Found>, AllocError>
     requires { AllPairs IsBefore files.now }
     ensures touches { EachCall TouchesNothing (T.history tree.old) (T.history tree.new) }
-    ensures others { IfOk result (λ others. (table : List Argument) →
-        TableRepresents job.now.arguments.now.plan.run.symbols table →
-        AreOthers table job.now.arguments.now files.now (T.history tree.old) (T.history tree.new)
-        others.items) }
+    ensures others { IfOk result (λ others. AreOthers job.now.arguments.now files.now
+        (T.history tree.old) (T.history tree.new) others.items) }
 {
     let patterns = any_name(job.alloc, job.arguments.patterns.as_slice())?;
     let mut walk = Walk::new(job.alloc, patterns.as_slice());

@@ -94,7 +94,7 @@ impl<'w> Walk<'w> {
             path.now (T.history tree.old) (T.history tree.new)
             (waiting self.old) (waiting self.new) self.new.found.items report.old report.new) }
         ensures catches { OnOk result
-            (Catches (T.history tree.old) (T.history tree.new) self.old self.new) }
+            (Catches (path.now ∷ []) (T.history tree.old) (T.history tree.new) self.old self.new) }
     {
         let node = match tree.node(path) {
             Lookup::Present(node) => node,
@@ -182,7 +182,7 @@ impl<'w> Walk<'w> {
     fn add_directory(&mut self, path: &str) -> Result<(), AllocError>
         ensures found { self.new.found.items ≡ self.old.found.items }
         ensures waits { OnOk result (Waits path.now (waiting self.old) (waiting self.new)) }
-        ensures grows { OnOk result (Grows self.old self.new) }
+        ensures grows { OnOk result (Grows [] self.old self.new) }
     {
         let directory = directory_path(self.alloc, path)?;
         self.directories.push(directory)?;
@@ -193,7 +193,7 @@ impl<'w> Walk<'w> {
     fn add_file(&mut self, path: &str, id: FileId) -> Result<(), AllocError>
         ensures adds { Adds self.old.found.items path.now id self.new.found.items }
         ensures directories { self.new.directories.items ≡ self.old.directories.items }
-        ensures grows { OnOk result (Grows self.old self.new) }
+        ensures grows { OnOk result (Grows [] self.old self.new) }
         ensures taken { OnOk result (IsTaken self.new path.now id) }
     {
         if chooses(self.patterns, below(path.as_bytes(), self.root)) {
@@ -208,7 +208,7 @@ impl<'w> Walk<'w> {
         ensures adds { Adds self.old.found.items path.now id self.new.found.items }
         ensures directories { self.new.directories.items ≡ self.old.directories.items }
         ensures is_in { OnOk result (IsIn self.new.found.items path.now id) }
-        ensures grows { OnOk result (Grows self.old self.new) }
+        ensures grows { OnOk result (Grows (path.now ∷ []) self.old self.new) }
     {
         let path = String::from_str(self.alloc, path)?;
         self.found.push(Found { path, id })?;
@@ -232,7 +232,7 @@ impl<'w> Walk<'w> {
             directory.now name.now (T.history tree.old) (T.history tree.new)
             (waiting self.old) (waiting self.new) report.old report.new) }
         ensures catches { OnOk result
-            (Catches (T.history tree.old) (T.history tree.new) self.old self.new) }
+            (Catches [] (T.history tree.old) (T.history tree.new) self.old self.new) }
     {
         let mut path = String::from_str(self.alloc, directory)?;
         let Ok(text) = std::str::from_utf8(name) else {
@@ -269,7 +269,7 @@ impl<'w> Walk<'w> {
         ensures waits { OnOk result (AddsDirectory (map string_bytes self.old.patterns.now)
             path.now name.now node (waiting self.old)
             (waiting self.new)) }
-        ensures grows { OnOk result (Grows self.old self.new) }
+        ensures grows { OnOk result (Grows [] self.old self.new) }
         ensures taken { OnOk result (node.kind ≡ NodeKind.File →
             IsTaken self.new path.now node.id) }
     {
@@ -293,7 +293,7 @@ impl<'w> Walk<'w> {
             directory.now (T.history tree.old) (T.history tree.new)
             (waiting self.old) (waiting self.new) report.old report.new) }
         ensures catches { OnOk result
-            (Catches (T.history tree.old) (T.history tree.new) self.old self.new) }
+            (Catches [] (T.history tree.old) (T.history tree.new) self.old self.new) }
     {
         let names = self.list_directory(tree, report, directory);
         for name in names.as_slice() {
@@ -358,7 +358,7 @@ impl<'w> Walk<'w> {
             (T.history tree.old) (T.history tree.new)
             (waiting self.old) (waiting self.new) report.old report.new) }
         ensures catches { OnOk result
-            (Catches (T.history tree.old) (T.history tree.new) self.old self.new) }
+            (Catches [] (T.history tree.old) (T.history tree.new) self.old self.new) }
     {
         self.starts = self.directories.len();
         'directories: for _entered in 0..u64::MAX {

@@ -1,6 +1,6 @@
 -- By the script, the names and the hunks.
 use Rattle.std.proofs.Common.{arith}
-use Rattle.ud_passes.proofs.diff.PatchLemmas.{diff_is}
+use Rattle.ud_passes.proofs.PatchLemmas.{diff_is}
 use Rattle.ud_passes.proofs.diff.unified_diff.Goals as goal
 
 pub returns : goal.returns

@@ -20,7 +20,7 @@ returns-then-not-all-clause-stops g c = λ cut. stops_unread (g.T.Directory.hist
 pub loop-name-init : goal.loop-name-init
 loop-name-init g c = (
   goes_none (g.T.Directory.history c.args.tree.now) c.args.walk.now c.args.report.now,
-  takes_none (g.T.Directory.history c.args.tree.now) c.args.walk.now.found.items (0 < c.args.report.now.faulty),
+  takes_none (g.T.Directory.history c.args.tree.now) c.args.walk.now.found.items (0 < c.args.report.now.faulty) c.requires,
 )
 
 pub loop-name-preserved : goal.loop-name-preserved

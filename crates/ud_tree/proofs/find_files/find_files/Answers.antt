@@ -30,7 +30,7 @@ returns-clause-ends g c = λ none. record {
     paths = paths_kept c.walk_all.new.walk.found.items c.in_ok-files.files.items (0 < c.walk_all.new.report.faulty) (0 < length c.walk_all.ensures.goes_on.told.messages)
         (λ some. some_told c.args.report.now.faulty c.walk_all.new.report.faulty
         (length c.walk_all.ensures.goes_on.told.messages) none c.walk_all.ensures.goes_on.told.counted some)
-        c.in_ok-files.ensures.kept
+        c.in_ok-files.ensures.kept c.in_ok-files.ensures.from
         (c.in_ok-all.ensures.walks.takes c.if-not-all.false);
   };
   stops = tt;

@@ -1,8 +1,9 @@
-use Rattle.std.proofs.Common.{map, refl, arith}
-use Rattle.ud_tree.proofs.CatchLemmas.{grows_same, catches_none, catches_then}
+use Rattle.std.proofs.Common.{map, refl, arith, subst}
+use Rattle.ud_tree.proofs.CatchLemmas.{grows_same, catches_none, catches_more, catches_then}
+use Rattle.std.specs.List.{Contains}
 use Rattle.std.specs.Prelude.{string_bytes}
-use Rattle.ud_tree.proofs.CoverLemmas.{starts_none, starts_at, covers_paths}
-use Rattle.ud_tree.proofs.WalkTellLemmas.{goes_none, goes_then}
+use Rattle.ud_tree.proofs.CoverLemmas.{only_one, starts_none, starts_at, covers_paths}
+use Rattle.ud_tree.proofs.WalkTellLemmas.{goes_none, goes_then, name_listed}
 use Rattle.ud_tree.proofs.find_files.walk_paths.Goals as goal
 
 pub loop-path-init : goal.loop-path-init
@@ -18,7 +19,8 @@ loop-path-preserved g c = (
   starts_at (λ p. string_bytes p) c.args.paths.now c.loop-path.path-index c.path-item.result
       c.as_str.result.now c.loop-path-test.true c.path-item.is c.as_str.ensures.value
       c.in_ok-start.ensures.catches.grows.stay c.loop-path.invariant.1 (rw c.loop-path.invariant.2.grows.same at c.in_ok-start.ensures.starts),
-  catches_then c.loop-path.invariant.2 c.in_ok-start.ensures.catches,
+  catches_then c.loop-path.invariant.2 (catches_more (λ path there. subst (Contains (map (λ p. string_bytes p) c.args.paths.now)) (only_one _ path there)
+      (name_listed (λ p. string_bytes p) c.args.paths.now c.loop-path.path-index c.path-item.result c.as_str.result.now c.loop-path-test.true c.path-item.is c.as_str.ensures.value)) c.in_ok-start.ensures.catches),
 )
 
 pub returns-in_err-start-clause-goes_on : goal.returns-in_err-start-clause-goes_on
@@ -35,4 +37,4 @@ returns-clause-covers g c = λ all.
     covers_paths (λ p. string_bytes p) c.args.paths.now c.loop-path.path-index (omega arith)
     (λ some. omega (arith, some, c.faulty.ensures, c.if-faulty-gt0.false)) c.loop-path.invariant.1
     (rw c.loop-path.invariant.2.grows.same at c.in_ok-go.ensures.exhausts)
-    c.in_ok-go.ensures.catches.grows.stay (catches_then c.loop-path.invariant.2 c.in_ok-go.ensures.catches) _ refl refl
+    c.in_ok-go.ensures.catches.grows.stay c.requires (catches_then c.loop-path.invariant.2 (catches_more (λ path there. absurd (omega (arith, there.1))) c.in_ok-go.ensures.catches)) _ refl refl

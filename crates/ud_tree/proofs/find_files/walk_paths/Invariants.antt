@@ -11,4 +11,4 @@ invariant-loop-path g l =
     × StartsSome (map string_bytes l.fn.walk.patterns.now) (map (λ p. string_bytes p) (take l.path-index l.paths)) (g.T.Directory.history l.fn.tree)
     (g.T.Directory.history l.tree) (map (λ d. string_bytes d) l.fn.walk.directories.items)
     (map (λ d. string_bytes d) l.walk.directories.items) l.walk.found.items l.fn.report l.report
-    × Catches (g.T.Directory.history l.fn.tree) (g.T.Directory.history l.tree) l.fn.walk l.walk
+    × Catches (map (λ p. string_bytes p) l.paths) (g.T.Directory.history l.fn.tree) (g.T.Directory.history l.tree) l.fn.walk l.walk

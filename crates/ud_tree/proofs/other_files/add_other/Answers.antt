@@ -13,10 +13,10 @@ returns-in_err-named-clause-touches g c = touches_more c.look_at.ensures.answer 
 pub returns-then-not-named-clause-touches : goal.returns-then-not-named-clause-touches
 returns-then-not-named-clause-touches g c = touches_more c.look_at.ensures.answer no_call c.look_at.ensures.call
 
-pub returns-then-not-named-clause-added : goal.returns-then-not-named-clause-added
-returns-then-not-named-clause-added g c = λ table all start r h.
+pub returns-then-not-named-clause-adds : goal.returns-then-not-named-clause-adds
+returns-then-not-named-clause-adds g c = λ all start h.
     reads_more c.args.found c.as_bytes.result.now c.look_at.ensures.bytes c.look_at.ensures.answer c.in_ok-named.named (sym c.is_among.ensures ∙ c.if-is_among.false) c.as_bytes.ensures.value
-    h c.look_at.ensures.call ((rw c.in_ok-named.was at c.look_at.ensures.tells) table r)
+    h c.look_at.ensures.call (rw c.in_ok-named.was at c.look_at.ensures.tells)
     (sym (append-nil c.args.others.now.items) ∙ ap (λ (b : Bool). c.args.others.now.items ++ cond b (c.args.found ∷ []) []) (sym c.if-not-named.true))
 
 pub returns-in_err-push-clause-touches : goal.returns-in_err-push-clause-touches
@@ -25,8 +25,8 @@ returns-in_err-push-clause-touches g c = touches_more c.look_at.ensures.answer n
 pub returns-clause-touches : goal.returns-clause-touches
 returns-clause-touches g c = touches_more c.look_at.ensures.answer no_call c.look_at.ensures.call
 
-pub returns-clause-added : goal.returns-clause-added
-returns-clause-added g c = λ table all start r h.
+pub returns-clause-adds : goal.returns-clause-adds
+returns-clause-adds g c = λ all start h.
     reads_more c.args.found c.as_bytes.result.now c.look_at.ensures.bytes c.look_at.ensures.answer c.in_ok-named.named (sym c.is_among.ensures ∙ c.if-is_among.false) c.as_bytes.ensures.value
-    h c.look_at.ensures.call ((rw c.in_ok-named.was at c.look_at.ensures.tells) table r)
+    h c.look_at.ensures.call (rw c.in_ok-named.was at c.look_at.ensures.tells)
     (c.in_ok-push.ensures.items ∙ ap (λ (b : Bool). c.args.others.now.items ++ cond b (c.args.found ∷ []) []) (sym c.if-not-named.false))

@@ -1,4 +1,4 @@
--- They aren't wanted.
+-- They aren't wanted, or were found.
 use Rattle.std.proofs.Common.{refl, sym, ◌∙◌, true≢false}
 use Rattle.ud_replace.specs.Moments.{no_call}
 use Rattle.ud_tree.proofs.other_files.find_others.Goals as goal
@@ -13,5 +13,18 @@ returns-then-not-wants_others g c = record {
     touches = no_call;
     unwanted = λ off. (refl, c.new.ensures.items);
     found = λ whole wanted. absurd (true≢false (sym wanted ∙ sym c.wants_others.ensures ∙ c.if-not-wants_others.true));
+  };
+}
+
+pub returns-in-Ok : goal.returns-in-Ok
+returns-in-Ok g c = record {
+  screen = record { quiet = refl; terminal = refl; shown = refl };
+  remaining = refl;
+  unnamed = refl;
+  kept = λ lost. lost;
+  seeks = record {
+    touches = c.others_of.ensures.touches;
+    unwanted = λ off. absurd (true≢false (sym c.if-not-wants_others.false ∙ c.wants_others.ensures ∙ off));
+    found = λ whole wanted. c.in-Ok.ensures.others;
   };
 }

@@ -17,7 +17,7 @@ pub returns-then-not-all-clause-touches : goal.returns-then-not-all-clause-touch
 returns-then-not-all-clause-touches g c = walked_touches c.walk_paths.ensures.goes_on
 
 pub returns-then-not-all-clause-others : goal.returns-then-not-all-clause-others
-returns-then-not-all-clause-others g c = λ table r.
+returns-then-not-all-clause-others g c =
     none_walked (ap (λ (s : ReportState). s.faulty) c.new-untold.ensures) c.walk_paths.ensures.goes_on (c.in_ok-all.ensures.refused c.if-not-all.true) c.new-then-not-all.ensures.items
 
 pub returns-in_err-found-clause-touches : goal.returns-in_err-found-clause-touches
@@ -30,9 +30,9 @@ pub returns-clause-touches : goal.returns-clause-touches
 returns-clause-touches g c = each_then (walked_touches c.walk_paths.ensures.goes_on) c.read_others.ensures.touches
 
 pub returns-clause-others : goal.returns-clause-others
-returns-clause-others g c = λ table r.
+returns-clause-others g c =
     were_read _ c.in_ok-found.found.items
     (walked_over c.in_ok-found.found.items c.new-walk.ensures.found (ap (λ (s : ReportState). s.faulty) c.new-untold.ensures) c.walk_paths.ensures.goes_on
     (rw (c.as_slice-paths.ensures.value, c.new-walk.ensures.patterns, c.as_slice-2.ensures.value, c.in_ok-patterns.ensures, c.as_slice.ensures.value) at (c.in_ok-all.ensures.covers c.if-not-all.false))
     c.in_ok-found.ensures)
-    (c.in_ok-others.ensures.read table r)
+    c.in_ok-others.ensures.read

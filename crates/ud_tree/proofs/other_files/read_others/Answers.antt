@@ -5,12 +5,12 @@ use Rattle.ud_tree.proofs.TreeLaws.{each_then}
 use Rattle.ud_tree.proofs.other_files.read_others.Goals as goal
 
 pub loop-found-init : goal.loop-found-init
-loop-found-init g c = (no_call, λ table r. reads_none _ _ c.new-others.ensures.items)
+loop-found-init g c = (no_call, reads_none _ _ c.new-others.ensures.items)
 
 pub loop-found-preserved : goal.loop-found-preserved
 loop-found-preserved g c = (
   each_then c.loop-found.invariant.0 c.add_other.ensures.touches,
-  λ table r. c.in_ok-add_other.ensures.added table c.loop-found.yielded _ r (c.loop-found.invariant.1 table r),
+  c.in_ok-add_other.ensures.adds c.loop-found.yielded _ c.loop-found.invariant.1,
 )
 
 pub returns-in_err-add_other-clause-touches : goal.returns-in_err-add_other-clause-touches

@@ -1,5 +1,5 @@
 -- By the ranges and the lines.
-use Rattle.ud_passes.proofs.diff.HunkLemmas.{hunk_appended}
+use Rattle.ud_passes.proofs.HunkLemmas.{hunk_appended}
 use Rattle.ud_passes.proofs.diff.hunks.append_hunk.Goals as goal
 
 pub returns : goal.returns

@@ -3,8 +3,8 @@ use Rattle.std.proofs.Common.{ℕ, ◌+◌, ◌-◌, List, take, drop, refl, ap,
 use Rattle.std.proofs.lemmas.List.Sums.{count_by-le-length}
 use Rattle.ud_passes.specs.declared.diff.line.DiffLine.{DiffLine}
 use Rattle.ud_passes.specs.diff.Hunks.{is_old, is_new}
-use Rattle.ud_passes.proofs.diff.HunkLemmas.{upto_few, taken_few}
-use Rattle.ud_passes.proofs.diff.UptoLemmas.{hunks_none, hunks_more, hunks_all, after_hunk}
+use Rattle.ud_passes.proofs.HunkLemmas.{upto_few, taken_few}
+use Rattle.ud_passes.proofs.UptoLemmas.{hunks_none, hunks_more, hunks_all, after_hunk}
 use Rattle.ud_passes.proofs.diff.hunks.append_hunks.Goals as goal
 
 pub loop-start-init : goal.loop-start-init

@@ -1,7 +1,7 @@
 use Rattle.std.proofs.Common.{◌≡◌, ◌≤◌, ◌-◌, length, take}
 use Rattle.ud_passes.specs.diff.Hunks.{old_lines, new_lines}
 use Rattle.ud_passes.specs.diff.Scripts.{signed_lines}
-use Rattle.ud_passes.proofs.diff.UptoLemmas.{HunksUpto}
+use Rattle.ud_passes.proofs.UptoLemmas.{HunksUpto}
 use Rattle.ud_passes.proofs.diff.hunks.append_hunks.Given as goal
 
 abbrev pub invariant-loop-start : goal.invariant-loop-start

@@ -1,6 +1,6 @@
 -- By the lines so far.
 use Rattle.std.proofs.Common.{◌≡◌, ℕ, ◌+◌, length, sym, subst, arith}
-use Rattle.ud_passes.proofs.diff.ContextLemmas.{ChangesUpto, changes_more, changes_kept, changes_end, changes_gap}
+use Rattle.ud_passes.proofs.ContextLemmas.{ChangesUpto, changes_more, changes_kept, changes_end, changes_gap}
 use Rattle.ud_passes.proofs.diff.hunks.changes_len.Goals as goal
 use Rattle.ud_passes.proofs.diff.hunks.changes_len.Goals.{then-is_change, else-is_change+else-at-last}
 

@@ -1,4 +1,4 @@
-use Rattle.ud_passes.proofs.diff.ContextLemmas.{ChangesUpto}
+use Rattle.ud_passes.proofs.ContextLemmas.{ChangesUpto}
 use Rattle.ud_passes.proofs.diff.hunks.changes_len.Given as goal
 
 abbrev pub invariant-loop-at : goal.invariant-loop-at

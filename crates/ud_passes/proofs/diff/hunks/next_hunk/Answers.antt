@@ -1,7 +1,7 @@
 -- By the first change, and the changes after it.
 use Rattle.std.proofs.Common.{◌+◌, ◌∙◌, sym, arith}
 use Rattle.ud_passes.specs.diff.Scripts.{IsNextHunk}
-use Rattle.ud_passes.proofs.diff.HunkLemmas.{kept_rest, begins_there, next_hunk_at}
+use Rattle.ud_passes.proofs.HunkLemmas.{kept_rest, begins_there, next_hunk_at}
 use Rattle.ud_passes.proofs.diff.hunks.next_hunk.Goals as goal
 
 pub returns-in_default-clause-next : goal.returns-in_default-clause-next

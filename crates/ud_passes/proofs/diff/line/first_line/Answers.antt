@@ -1,7 +1,7 @@
 -- By a search of the first newline.
 use Rattle.std.proofs.Common.{◌≡◌, ◌≢◌, ℕ, List, [], ◌∷◌, length, take, drop, false, nat_eq, sym, ◌∙◌, ap, ap₂, arith}
 use Rattle.ud_model.specs.text.Lines.{texts_of}
-use Rattle.ud_passes.proofs.diff.LineLemmas.{texts_of-found, texts_of-open}
+use Rattle.ud_passes.proofs.LineLemmas.{texts_of-found, texts_of-open}
 use Rattle.ud_passes.proofs.diff.line.first_line.Goals as goal
 use Rattle.ud_passes.proofs.diff.line.first_line.Goals.{in-Some, in-None}
 

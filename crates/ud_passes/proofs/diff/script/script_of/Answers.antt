@@ -1,6 +1,6 @@
 -- By the marks, and then the rests of both texts.
 use Rattle.ud_passes.specs.declared.diff.script.Script.{Script}
-use Rattle.ud_passes.proofs.diff.ScriptLemmas.{extends_twice, script_whole}
+use Rattle.ud_passes.proofs.ScriptLemmas.{extends_twice, script_whole}
 use Rattle.ud_passes.proofs.diff.script.script_of.Goals as goal
 
 pub returns : goal.returns

@@ -1,4 +1,4 @@
-use Rattle.std.proofs.Common.{map}
+use Rattle.std.proofs.Common.{[], map}
 use Rattle.ud_tree.specs.WalkMessages.{ReportsNames}
 use Rattle.ud_tree.specs.Walks.{Finds}
 use Rattle.ud_tree.specs.Catching.{Catches}
@@ -13,4 +13,4 @@ invariant-loop-name g l =
     (g.T.Directory.history l.tree) (map (λ d. string_bytes d) l.fn.self.directories.items)
     (map (λ d. string_bytes d) l.self.directories.items) l.fn.report l.report
     × ReportsNames l.directory (map (λ n. n.items) l.name-items) (g.T.Directory.history l.fn.tree) (g.T.Directory.history l.tree) l.fn.report l.report
-    × Catches (g.T.Directory.history l.fn.tree) (g.T.Directory.history l.tree) l.fn.self l.self
+    × Catches [] (g.T.Directory.history l.fn.tree) (g.T.Directory.history l.tree) l.fn.self l.self

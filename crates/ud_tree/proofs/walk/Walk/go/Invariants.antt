@@ -1,6 +1,6 @@
 use Rattle.ud_tree.specs.WalkMessages.{GoesOn}
 use Rattle.ud_tree.specs.Catching.{Catches}
-use Rattle.std.proofs.Common.{map}
+use Rattle.std.proofs.Common.{[], map}
 use Rattle.std.specs.Prelude.{string_bytes}
 use Rattle.ud_tree.proofs.CoverLemmas.{EntersSome}
 use Rattle.ud_tree.proofs.walk.Walk.go.Given as goal
@@ -11,4 +11,4 @@ invariant-directories g l =
     × EntersSome (map string_bytes l.fn.self.patterns.now) l._entered (g.T.Directory.history l.fn.tree) (g.T.Directory.history l.tree)
     (map (λ d. string_bytes d) l.fn.self.directories.items) (map (λ d. string_bytes d) l.self.directories.items) l.fn.report
     l.report
-    × Catches (g.T.Directory.history l.fn.tree) (g.T.Directory.history l.tree) l.fn.self l.self
+    × Catches [] (g.T.Directory.history l.fn.tree) (g.T.Directory.history l.tree) l.fn.self l.self

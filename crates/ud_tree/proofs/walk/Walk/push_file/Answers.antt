@@ -1,4 +1,4 @@
-use Rattle.std.proofs.Common.{refl}
+use Rattle.std.proofs.Common.{refl, arith, inl, sym}
 use Rattle.ud_tree.specs.Walks.{adds_one}
 use Rattle.ud_tree.proofs.CoverLemmas.{is_in_pushed}
 use Rattle.ud_tree.proofs.CatchLemmas.{grows_pushed}
@@ -14,3 +14,4 @@ returns-clause-is_in c =
 
 pub returns-clause-grows : goal.returns-clause-grows
 returns-clause-grows c = grows_pushed c.args.self.now _ (record { path = c.in_ok-path.path; id = c.args.id }) refl c.in_ok-push.ensures.items
+    (inl (0, omega arith, sym c.in_ok-path.ensures.ok))

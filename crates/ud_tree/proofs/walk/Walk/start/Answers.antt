@@ -7,7 +7,7 @@ use Rattle.ud_replace.specs.declared.node.Lookup.TheVariants.{Present, Absent, U
 use Rattle.ud_replace.specs.Calls.{Call, walked, met, followed}
 use Rattle.ud_tree.specs.Covering.{at_file, at_directory, at_link}
 use Rattle.ud_tree.proofs.CoverLemmas.{starts_bad, starts_good, met_none, followed_none, waits_same, waits_more, waits_due, on_ok_both}
-use Rattle.ud_tree.proofs.CatchLemmas.{grows_same, catches_met, catches_node, catches_followed, catches_then}
+use Rattle.ud_tree.proofs.CatchLemmas.{grows_same, grows_any, catches_met, catches_node, catches_followed, catches_then}
 use Rattle.ud_tree.proofs.walk.Walk.start.Goals as goal
 
 pub returns-in-Absent-clause-goes_on : goal.returns-in-Absent-clause-goes_on
@@ -99,12 +99,12 @@ returns-in-Unknown-clause-catches g c = catches_met c.args.path.now Unknown _ c.
 
 pub returns-in-Directory-clause-catches : goal.returns-in-Directory-clause-catches
 returns-in-Directory-clause-catches g c =
-    on_ok_weaker c.add_directory.result (λ h. catches_node c.args.path.now c.in-Present.node _ _ c.in-Present.ensures h (λ kind. let is = c.in-Directory.is in cc)) c.add_directory.ensures.grows
+    on_ok_weaker c.add_directory.result (λ h. catches_node c.args.path.now c.in-Present.node _ _ c.in-Present.ensures (grows_any _ _ h) (λ kind. let is = c.in-Directory.is in cc)) c.add_directory.ensures.grows
 
 pub returns-in-Link-clause-catches : goal.returns-in-Link-clause-catches
 returns-in-Link-clause-catches g c = on_ok_weaker c.add_directory-in-Link.result
     (λ h. catches_then (catches_node c.args.path.now c.in-Present.node c.args.self.now c.args.self.now c.in-Present.ensures (grows_same _ _ refl refl) (λ kind. let is = c.in-Link.is in cc))
-    (catches_followed c.args.path.now true _ _ c.if-leads_to_directory.ensures h))
+    (catches_followed c.args.path.now true _ _ c.if-leads_to_directory.ensures (grows_any _ _ h)))
     c.add_directory-in-Link.ensures.grows
 
 pub returns-in-Link-2-clause-catches : goal.returns-in-Link-2-clause-catches

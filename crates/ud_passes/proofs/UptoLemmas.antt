@@ -13,9 +13,9 @@ use Rattle.ud_passes.specs.diff.DiffTexts.{hunk_text}
 use Rattle.ud_passes.specs.diff.Contexts.{context, AreKept, IsContext, HasContext, BeginsTexts, EndsTexts, old_end, new_end, IsBefore}
 use Rattle.ud_passes.specs.diff.Patching.{Turns, nothing}
 use Rattle.ud_passes.specs.diff.Scripts.{signed_lines, hunk_of, AppendsHunks, between, gap, IsNextHunk}
-use Rattle.ud_passes.proofs.diff.ContextLemmas.{kept_at, kept_range, length-between, between_parts, changes_begin_at, change_far}
-use Rattle.ud_passes.proofs.diff.ScriptLemmas.{side}
-use Rattle.ud_passes.proofs.diff.HunkLemmas.{NextPlaces, next_places, turns_kept, turns_changed, kept_length, upto_later, taken_length, counted, side_few, count_is}
+use Rattle.ud_passes.proofs.ContextLemmas.{kept_at, kept_range, length-between, between_parts, changes_begin_at, change_far}
+use Rattle.ud_passes.proofs.ScriptLemmas.{side}
+use Rattle.ud_passes.proofs.HunkLemmas.{NextPlaces, next_places, turns_kept, turns_changed, kept_length, upto_later, taken_length, counted, side_few, count_is}
 
 -- `upto is_in ls i`: how many lines of one text are before the position `i` of the script.
 abbrev pub upto : (Sign → Bool) → List DiffLine → ℕ → ℕ

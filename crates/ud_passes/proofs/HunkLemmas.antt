@@ -16,8 +16,8 @@ use Rattle.ud_passes.specs.diff.DiffTexts.{ranges_text, signed_text, hunk_text}
 use Rattle.ud_passes.specs.diff.Patching.{Turns, stay, change}
 use Rattle.ud_passes.specs.diff.Contexts.{context, IsKept, AreKept, AreChanges}
 use Rattle.ud_passes.specs.diff.Scripts.{signed, signed_lines, hunk_of, between, gap, BeginsWithChange, IsNextHunk}
-use Rattle.ud_passes.proofs.diff.ContextLemmas.{kept_range, begins_at, between_drop, changes_begin_at}
-use Rattle.ud_passes.proofs.diff.ScriptLemmas.{side, side-append}
+use Rattle.ud_passes.proofs.ContextLemmas.{kept_range, begins_at, between_drop, changes_begin_at}
+use Rattle.ud_passes.proofs.ScriptLemmas.{side, side-append}
 
 -- Of a line and others that pass a test, as many pass as bytes are taken of.
 as_many : (b : Bool) (x : DiffLine) (y : SignedLine) (xs : List DiffLine) (ys : List SignedLine) →
