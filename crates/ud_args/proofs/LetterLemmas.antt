@@ -10,10 +10,6 @@ use Rattle.ud_args.specs.CommandLines.{Parsed, option, option_then}
 use Rattle.ud_args.specs.ParsedArgs.{ordinary_word, after_letters}
 use Rattle.ud_args.specs.declared.command_line.CommandLine.{CommandLine}
 
--- a text without bytes has no letters
-pub chars-empty : (bytes : List ℕ) → length bytes ≡ 0 → chars bytes ≡ []
-chars-empty bytes e = grind (arith, common_steps, chars-nil)
-
 option_then-cons : (c n : ℕ) (cs : List ℕ) (next rest : List Parsed) → 0 < length (encode_utf8_all cs)
     → option_then c n cs next rest ≡ option c n (encode_utf8_all cs) ∷ rest
 option_then-cons c n cs next rest e = grind arith

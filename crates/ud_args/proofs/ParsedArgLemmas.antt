@@ -5,16 +5,14 @@ use Rattle.ud_model.specs.declared.settings.ExitMode.{ExitMode}
 use Rattle.ud_model.specs.declared.settings.ExitMode.TheVariants.{Zero}
 use Rattle.ud_model.specs.answer.CommandLine.{ParsedArg, flag, option, operand, unknown, lacking, UsageFault, too_many_files, has_letter, first_fault, argument_fault, fault_or, has_flag, listing_by, mode_from, mode_or, parse_exit_mode, settings_in, operand_in, Operand}
 use Rattle.ud_args.specs.ParsedSettings.{with_flag, with_names}
-
-or_none : (a b : Option UsageFault) → fault_or a b ≡ None → (a ≡ None) × (b ≡ None)
-or_none a b h = grind arith
+use Rattle.ud_model.proofs.answer.WordLemmas.{both_none}
 
 -- after options without a fault and an operand, the first fault is that of the rest
 pub first_fault-append : (gs more : List ParsedArg) → first_fault gs ≡ None → operand_in gs ≡ None → first_fault (gs ++ more) ≡ first_fault more
 first_fault-append [] more h k = refl
 first_fault-append (flag c ∷ gs) more h k = first_fault-append gs more h k
 first_fault-append (option c n a ∷ gs) more h k =
-    let both = or_none (argument_fault c n a) (first_fault gs) h in
+    let both = both_none (argument_fault c n a) (first_fault gs) h in
     rw (both.0) (first_fault-append gs more both.1 k)
 first_fault-append (operand n w ∷ gs) more h k = cc
 first_fault-append (unknown c ∷ gs) more h k = cc
@@ -26,7 +24,7 @@ pub first_fault-behind_operand : (gs more : List ParsedArg) (g : ParsedArg) → 
 first_fault-behind_operand [] more g h k = cc
 first_fault-behind_operand (flag c ∷ gs) more g h k = first_fault-behind_operand gs more g h k
 first_fault-behind_operand (option c n a ∷ gs) more g h k =
-    let both = or_none (argument_fault c n a) (first_fault gs) h in
+    let both = both_none (argument_fault c n a) (first_fault gs) h in
     rw (both.0) (first_fault-behind_operand gs more g both.1 k)
 first_fault-behind_operand (operand n w ∷ []) more g h k = refl
 first_fault-behind_operand (operand n w ∷ (f ∷ gs)) more g h k = cc
@@ -112,7 +110,7 @@ pub first_fault-prefix : (gs more : List ParsedArg) → first_fault (gs ++ more)
 first_fault-prefix [] more h = refl
 first_fault-prefix (flag c ∷ gs) more h = first_fault-prefix gs more h
 first_fault-prefix (option c n a ∷ gs) more h =
-    let both = or_none (argument_fault c n a) (first_fault (gs ++ more)) h in
+    let both = both_none (argument_fault c n a) (first_fault (gs ++ more)) h in
     rw (both.0) (first_fault-prefix gs more both.1)
 first_fault-prefix (operand n w ∷ []) more h = refl
 first_fault-prefix (operand n w ∷ (g ∷ gs)) more h = cc

@@ -82,9 +82,6 @@ pub dropped_text : (ls : List Line) → concat (map (λ (l : Line). []) ls) ≡ 
 dropped_text [] = refl
 dropped_text (l ∷ ls) = dropped_text ls
 
-pub or_none : (b : Bool) → b ≡ (b || false)
-or_none b = grind arith
-
 pub or_some : (b : Bool) → true ≡ (b || true)
 or_some b = grind arith
 

@@ -1,7 +1,7 @@
 -- Finish: the course and the end of a run, since it began.
 use Rattle.std.proofs.Common.{ℕ, ◌≤◌, Bool, List, [], ◌++◌, length, Option, Result, Err, subst, append-nil, arith}
 use Rattle.std.specs.Io.KnownBytes.{Consumes, IsAtEnd}
-use Rattle.std.proofs.KnownBytes.{Appends-nil, Appends-trans, Consumes-nil, Consumes-trans}
+use Rattle.std.proofs.KnownBytes.{Appends-nil, Appends-trans, Consumes-nil, Consumes-trans, Consumes-whole}
 use Rattle.ud_model.specs.sections.Items.{Options}
 use Rattle.ud_sections.specs.printing.Printers.{printer_represents, printer_piece}
 use Rattle.ud_sections.specs.declared.printing.printer.Printer.{Printer}
@@ -10,7 +10,7 @@ use Rattle.ud_engine.specs.declared.pump.TheConstants.{CHUNK_BYTES}
 use Rattle.ud_engine.specs.Finishing.{Finishes, RunAnswers}
 use Rattle.ud_engine.specs.Feeding.{EngineState, EngineRepresents, FeedFails, Continues}
 use Rattle.ud_engine.specs.Runs.{InProgress, RunFinished}
-use Rattle.ud_engine.proofs.RunLemmas.{own_piece, own_session, input_is, input_begins, lag, ended_ran, ended_appended, feed_appended, ran_early, the_err}
+use Rattle.ud_engine.proofs.RunLemmas.{own_piece, own_session, input_begins, lag, ended_ran, ended_appended, feed_appended, ran_early, the_err}
 use Rattle.ud_engine.proofs.RunEndedLemmas.{fed_ends, end_ends}
 
 -- A run begins.
@@ -28,7 +28,7 @@ module _ (o : Options) (e : EngineState Printer) (r₀ r₁ w₀ w₁ : Option (
       let more = ended_appended o w₀ w₁ w₂ u.given u.printed writer u.appended result ends in
       record {
         ran = λ reads writes.
-            input_is r₀ r₂ u.given (λ input. RunAnswers o input w₀ w₂ result) all left
+            Consumes-whole r₀ r₂ u.given (λ input. RunAnswers o input w₀ w₂ result) all left
             (ended_ran o w₀ w₁ w₂ u.given u.printed writer u.appended result ends writes);
         lag = lag o printer_represents printer_piece e u.given u.printed u.fed.taken r₀ r₂ w₀ w₁ w₂ [] more.0 joined (omega arith) u.appended more.1;
         ended = record { given = u.given; consumed = all; ends = end_ends o r₂ w₀ w₁ w₂ u.printed u.appended writer u.given left result ends };

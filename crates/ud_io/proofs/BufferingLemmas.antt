@@ -37,13 +37,6 @@ appends_all_but_prefix a b c bytes part rest s (prefix, back, joined, p) = (
   Appends-trans a b c s.prefix prefix s.appended p,
 )
 
--- appended bytes stay appended while the contents stay
-pub appends_kept : (a b c : Option (List ℕ)) (x : List ℕ) → Appends a b x → Keeps b c → Appends a c x
-appends_kept None b c x p q = tt
-appends_kept (Some u) None c x p q = absurd p
-appends_kept (Some u) (Some v) None x p q = absurd q
-appends_kept (Some u) (Some v) (Some w) x p q = q ∙ p
-
 pub all_or_prefix_same : (failed : Bool) (a b : Option (List ℕ)) (x y : List ℕ) → x ≡ y → AppendsAllOrPrefix failed a b x → AppendsAllOrPrefix failed a b y
 all_or_prefix_same failed a b x y e h = subst (λ z. AppendsAllOrPrefix failed a b z) e h
 

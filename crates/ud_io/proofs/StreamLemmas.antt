@@ -2,31 +2,21 @@
 use Rattle.std.proofs.Common.{◌<◌, ◌+◌, length, take, get_or, ◌≡◌, ℕ, List, [], ◌∷◌, ◌++◌, Bool, true, false, Option, Some, None, refl, sym, ap, subst, ◌∙◌, true≢false, take_all, append_assoc, append-nil, arith}
 use Rattle.std.specs.List.{flat_map}
 use Rattle.std.specs.Io.KnownBytes.{Appends, Keeps}
-use Rattle.std.proofs.KnownBytes.{Appends-nil}
+use Rattle.std.proofs.KnownBytes.{Appends-nil, Keeps-refl, Keeps-trans, Appends-kept}
 use Rattle.std.proofs.lemmas.Grind.{flat_map-append}
 use Rattle.std.proofs.lemmas.List.{take_more}
 use Rattle.ud_io.specs.Watched.{AppendsPrefix, AppendsAllOrPrefix}
 use Rattle.ud_io.specs.Buffering.{AppendsAllBut}
 use Rattle.ud_io.specs.Streams.{Stream, TakesBy, TakesAllBut, Sends}
-use Rattle.ud_io.proofs.BufferingLemmas.{appends_all_but_none, appends_all_but_part, appends_all_but_then, appends_all_but_then_front, appends_kept, appends_all_but_all}
-
-keeps_same : (a : Option (List ℕ)) → Keeps a a
-keeps_same None = tt
-keeps_same (Some u) = refl
-
-keeps_trans : (a b c : Option (List ℕ)) → Keeps a b → Keeps b c → Keeps a c
-keeps_trans None b c p q = tt
-keeps_trans (Some u) None c p q = absurd p
-keeps_trans (Some u) (Some v) None p q = absurd q
-keeps_trans (Some u) (Some v) (Some w) p q = q ∙ p
+use Rattle.ud_io.proofs.BufferingLemmas.{appends_all_but_none, appends_all_but_part, appends_all_but_then, appends_all_but_then_front, appends_all_but_all}
 
 prefix_kept : (a b c : Option (List ℕ)) (bytes more : List ℕ) → AppendsPrefix a b bytes → Keeps b c → AppendsPrefix a c (bytes ++ more)
-prefix_kept a b c bytes more (prefix, back, joined, p) k = (prefix, back ++ more, ap (λ x. x ++ more) joined ∙ append_assoc prefix back more, appends_kept a b c prefix p k)
+prefix_kept a b c bytes more (prefix, back, joined, p) k = (prefix, back ++ more, ap (λ x. x ++ more) joined ∙ append_assoc prefix back more, Appends-kept a b c prefix p k)
 
 -- Nothing is written: the bytes are all left, or dropped after a failure.
 pub takes_buffered : (f : Bool) (a : Option (List ℕ)) (bytes : List ℕ) → TakesBy f f a a bytes bytes
 takes_buffered false a bytes = appends_all_but_none a bytes
-takes_buffered true a bytes = (refl, keeps_same a)
+takes_buffered true a bytes = (refl, Keeps-refl a)
 
 -- Bytes that follow are taken after those before them.
 pub takes_then : (f g h : Bool) (a b c : Option (List ℕ)) (bytes left more last : List ℕ) → TakesBy f g a b bytes left → TakesBy g h b c (left ++ more) last → TakesBy f h a c (bytes ++ more) last
@@ -34,7 +24,7 @@ takes_then false false false a b c bytes left more last s t = appends_all_but_th
 takes_then false false true a b c bytes left more last s t = appends_all_but_then_front a b c bytes left more s t
 takes_then false true true a b c bytes left more last s t = prefix_kept a b c bytes more s t.1
 takes_then false true false a b c bytes left more last s t = absurd (true≢false (sym t.0))
-takes_then true true h a b c bytes left more last s t = (t.0, keeps_trans a b c s.1 t.1)
+takes_then true true h a b c bytes left more last s t = (t.0, Keeps-trans a b c s.1 t.1)
 takes_then true false h a b c bytes left more last s t = absurd (true≢false (sym s.0))
 
 -- A write of all bytes, to a writer that hadn't failed, leaves none.
@@ -46,13 +36,13 @@ takes_written true g a b bytes e h = absurd (true≢false e)
 
 -- A writer that has failed takes nothing.
 takes_dropped : (f : Bool) (a : Option (List ℕ)) (bytes : List ℕ) → f ≡ true → TakesBy f f a a bytes []
-takes_dropped true a bytes e = (refl, keeps_same a)
+takes_dropped true a bytes e = (refl, Keeps-refl a)
 takes_dropped false a bytes e = absurd (true≢false (sym e))
 
 -- A flush takes no bytes, also if it fails.
 takes_kept : (f g : Bool) (a b : Option (List ℕ)) → f ≡ false → Keeps a b → TakesBy f g a b [] []
-takes_kept false false a b e k = record { prefix = []; joined = refl; appended = appends_kept a a b [] (Appends-nil a) k }
-takes_kept false true a b e k = ([], [], refl, appends_kept a a b [] (Appends-nil a) k)
+takes_kept false false a b e k = record { prefix = []; joined = refl; appended = Appends-kept a a b [] (Appends-nil a) k }
+takes_kept false true a b e k = ([], [], refl, Appends-kept a a b [] (Appends-nil a) k)
 takes_kept true g a b e k = absurd (true≢false e)
 
 -- All was appended, or a prefix if a write has failed now.

@@ -32,6 +32,8 @@ use Rattle.ud_passes.specs.declared.folding.logical.Last.{Last}
 use Rattle.ud_passes.specs.declared.folding.logical.LogicalLine.{LogicalLine}
 use Rattle.ud_passes.specs.declared.walk.Walk.{Walk}
 use Rattle.ud_passes.proofs.WalkLemmas.{walk_ends}
+use Rattle.ud_simplified.proofs.FoldedReadings.{not_foldable}
+use Rattle.ud_model.proofs.output.LeavesOff.{joins_none}
 
 -- 1. The line that lines form.
 
@@ -124,9 +126,6 @@ rest_first r rs f = grind (arith, rest_after, append_assoc, stays)
 rest_alone : (r : Reading) (rs : List Reading) → continued rs ≡ [] → r.scan.joins_before ≡ false → rest_from [] (r ∷ rs) ≡ text_of r.line ++ rest_from [] rs
 rest_alone r rs e j = grind (arith, no_newline-take, append-nil)
 
-text_stays : (r : Reading) (more : List Reading) → is_directive (content_of r.scan) ≡ false → is_foldable (r ∷ more) ≡ false
-text_stays r more e = grind arith
-
 -- 4. A line is taken.
 
 pub begins_parts : (b a d : Bool) → (not b && a && d) ≡ true → (b ≡ false) × (a ≡ true) × (d ≡ true)
@@ -139,7 +138,7 @@ module _ (r : Reading) (old : List ℕ) (l : LogicalLine) where
 
   -- No logical line of several lines begins on the line.
   pub takes_line : (new : List ℕ) → new ≡ old ++ text_of r.line → (not r.scan.joins_before && r.scan.joins_after && is_directive (content_of r.scan)) ≡ false → FoldsReading r [] old l None new
-  takes_line new e n = grind (arith, takes_none, rest_after, false≢true, rest_first, text_stays, rest_alone)
+  takes_line new e n = grind (arith, takes_none, rest_after, false≢true, rest_first, not_foldable, rest_alone)
 
   pub takes_begun : (b : Last) → IsLogical l b (r ∷ []) → r.scan.joins_before ≡ false → r.scan.joins_after ≡ true → FoldsReading r [] old l (Some b) old
   takes_begun b i j a = record {
@@ -268,13 +267,9 @@ follows done read (r ∷ rs) more e f = ap (λ (s : Scan). s.joins_before) (plac
 no_group : (l : LogicalLine) (b : Option Last) (group : List Reading) → is_some b ≡ false → IsGroup l b group → group ≡ []
 no_group l b group n g = grind arith
 
-plain_bytes : (rs : List Reading) → plain_lines rs ≡ concat (map (λ (r : Reading). text_of r.line) rs)
+pub plain_bytes : (rs : List Reading) → plain_lines rs ≡ concat (map (λ (r : Reading). text_of r.line) rs)
 plain_bytes [] = refl
 plain_bytes (r ∷ rs) = ap (λ (x : List ℕ). text_of r.line ++ x) (plain_bytes rs)
-
-joins_none : joins [] ≡ false
-unfolding joins kind_at_end lex lex_from lexeme_at
-joins_none = refl
 
 -- The first line is joined to none.
 first_lines : (rs : List Reading) → FollowsBy (joins (c_run_of [])) rs → folded_lines rs ≡ rest_from [] rs
@@ -283,7 +278,7 @@ first_lines rs f = grind (arith, joins_none)
 -- Text lines stay.
 texts_rest : (rs : List Reading) → AreTexts rs → (more : List Reading) → rest_from [] (rs ++ more) ≡ plain_lines rs ++ rest_from [] more
 texts_rest [] h more = refl
-texts_rest (r ∷ rs) h more = grind (arith, rest_first, text_stays, append_assoc, texts_rest rs h.1 more)
+texts_rest (r ∷ rs) h more = grind (arith, rest_first, not_foldable, append_assoc, texts_rest rs h.1 more)
 
 -- A line over the limit stays, and so do the lines before it.
 pub long_taken : (r : Reading) (old : List ℕ) (l : LogicalLine) (b : Option Last) (group : List Reading) (new : List ℕ) → fits r.line ≡ false → IsGroup l b group → IfSome b (λ _. r.scan.joins_before ≡ true) →

@@ -5,15 +5,7 @@ use Rattle.std.proofs.lemmas.List.{take_more, take_all, drop_all}
 use Rattle.memchr.specs.Find.{Nowhere, NoneBefore, Passes, is_byte}
 use Rattle.ud_model.specs.text.Lines.{NoNewline, IsWhole, SplitLines, split_lines, texts_of, last_line}
 use Rattle.ud_model.proofs.text.LinesLemmas.{split_lines-line-prefix, split_lines-open, last_line-some}
-
--- bytes have no newline, if a search finds none among them
-no_newline-take : (s : List ℕ) (n : ℕ) → Nowhere (Passes (is_byte 10) s) 0 n → NoNewline (take n s)
-no_newline-take s zero none = tt
-no_newline-take [] (suc n) none = tt
-no_newline-take (b ∷ bs) (suc n) none = (
-  λ e. none 0 (omega arith) (omega arith) (eq-eqb b 10 e),
-  no_newline-take bs n (λ k low high. none (suc k) (omega arith) (omega arith)),
-)
+use Rattle.ud_text.proofs.lemmas.lines.NewlineLemmas.{no_newline_front}
 
 -- a whole line that a text begins with is its first line
 texts_of-line : (line rest : List ℕ) → IsWhole line → texts_of (line ++ rest) ≡ line ∷ texts_of rest
@@ -25,7 +17,7 @@ pub texts_of-found : (s : List ℕ) (k : ℕ) → NoneBefore (Passes (is_byte 10
 texts_of-found s k first is =
     ap texts_of (sym (take-append-drop (k + 1) s)) ∙ texts_of-line (take (k + 1) s) (drop (k + 1) s) (
       take k s,
-      no_newline-take s k first.before,
+      no_newline_front s k first.before,
       take_more s k 0 first.high ∙ ap (λ (b : ℕ). take k s ++ b ∷ []) (eqb-true (get_or s k 0) 10 is),
     )
 
@@ -34,4 +26,4 @@ pub texts_of-open : (s : List ℕ) → s ≢ [] → Nowhere (Passes (is_byte 10)
     texts_of s ≡ take (length s) s ∷ texts_of (drop (length s) s)
 unfolding split_lines
 texts_of-open s some none =
-    grind (arith, take_all, split_lines-open, no_newline-take, last_line-some, drop_all)
+    grind (arith, take_all, split_lines-open, no_newline_front, last_line-some, drop_all)

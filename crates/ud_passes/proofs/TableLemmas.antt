@@ -20,9 +20,6 @@ use Rattle.std.proofs.lemmas.Slice.Eq.{bytes_eq-Decides}
 use Rattle.ud_passes.specs.names.NameTables.{NameCount, count_of, rows_with, row_cmp, IsTable}
 use Rattle.ud_passes.specs.names.RowViews.{AreCounts}
 
-same : (xs : List ℕ) → bytes_eq xs xs ≡ true
-same xs = (bytes_eq-Decides xs xs).1 refl
-
 flip : (xs ys : List ℕ) → bytes_eq xs ys ≡ false → bytes_eq ys xs ≡ false
 flip xs ys e = grind (arith, bytes_eq-Decides)
 
@@ -88,7 +85,7 @@ module _ (names : List (List ℕ)) (rows : List NameCount) (x : List ℕ) (k : �
 
       new : k ≡ count_of x (names ++ replicate k x)
       new =
-          let e : count_of x (names ++ replicate k x) ≡ 0 + k = all x ∙ ap₂ (λ (c : ℕ) (b : Bool). c + (if b then k else 0)) z (same x) in
+          let e : count_of x (names ++ replicate k x) ≡ 0 + k = all x ∙ ap₂ (λ (c : ℕ) (b : Bool). c + (if b then k else 0)) z ((bytes_eq-Decides x x).1 refl) in
           omega (arith, e)
 
       once : (n : List ℕ) → rows_with n (rows ++ row ∷ []) ≡ min 1 (count_of n (names ++ replicate k x))
@@ -160,7 +157,7 @@ module _ {X : Type 0} (f : X → List ℕ) (xs : List X) (up : IsSorted (λ x y.
               let first : bytes_eq (f (get_or (drop i xs) count d)) x ≡ false = other (omega (arith, long, l, z)) d in
               let at : f (get_or (drop i xs) count d) ≡ x =
               ap f (ap (λ (k : ℕ). get_or (drop i xs) k d) z ∙ get_or-drop i xs 0 d ∙ ap (λ (k : ℕ). get_or xs k d) (omega arith)) ∙ is d in
-              let no : true ≡ false = sym (same x) ∙ sym (ap (λ (a : List ℕ). bytes_eq a x) at) ∙ first in
+              let no : true ≡ false = sym ((bytes_eq-Decides x x).1 refl) ∙ sym (ap (λ (a : List ℕ). bytes_eq a x) at) ∙ first in
               absurd (cc)
           by (suc k) z = omega arith
 

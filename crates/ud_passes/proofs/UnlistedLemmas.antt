@@ -21,6 +21,7 @@ use Rattle.ud_passes.specs.declared.walk.Walk.{Walk}
 use Rattle.ud_passes.specs.names.UnlistedConditions.{is_unlisted_line, breaks, first_body, shown_body, listed_line, listed_from}
 use Rattle.ud_passes.specs.names.UnlistedLines.{listed_text, Listed}
 use Rattle.ud_passes.proofs.RestoreLemmas.{renumbered}
+use Rattle.ud_passes.proofs.FoldLemmas.{plain_bytes}
 
 text_listed : (r : Reading) → content_of r.scan ≡ text → is_unlisted_line r ≡ false
 text_listed r e = grind arith
@@ -40,11 +41,6 @@ lines-append before rs = flat_map-append (λ (r : Reading). text_of r.line) befo
 
 breaks-lines : (folded : Bool) (before rs : List Reading) → breaks folded (plain_lines (before ++ rs)) ≡ breaks folded (plain_lines before) + breaks folded (plain_lines rs)
 breaks-lines folded before rs = ap (λ (x : List ℕ). breaks folded x) (lines-append before rs) ∙ breaks-append folded (plain_lines before) (plain_lines rs)
-
--- The bytes of lines.
-bytes_of_lines : (rs : List Reading) → plain_lines rs ≡ concat (map (λ (r : Reading). text_of r.line) rs)
-bytes_of_lines [] = refl
-bytes_of_lines (r ∷ rs) = ap (λ (x : List ℕ). text_of r.line ++ x) (bytes_of_lines rs)
 
 -- The list of lines, and then of others.
 from-append : (file : List ℕ) (folded : Bool) (n : ℕ) (before rs : List Reading) →
@@ -103,7 +99,7 @@ module _ (file : File) (text start : List ℕ) (found : Found) (walk : Walk) (ou
   pub texts_more : (bytes : List ℕ) (rs : List Reading) → AreTexts rs → HaveBytes bytes rs → Walked file.mode text (l.read ++ rs) next.rest.now next.scanner → (n : ℕ) →
       (file.lists ≡ true → n ≡ breaks file.folded bytes) → Listed file text start (record { count = found.count; number = found.number + n }) next out
   texts_more bytes rs h b w n m = more_lines rs w (record { count = found.count; number = found.number + n }) (grind (arith, texts_unlisted rs h))
-      (λ t. grind (arith, m t, bytes_of_lines, b.bytes_are)) out (grind (arith, append-nil, texts_from file.name.now file.folded found.number rs h))
+      (λ t. grind (arith, m t, plain_bytes, b.bytes_are)) out (grind (arith, append-nil, texts_from file.name.now file.folded found.number rs h))
 
   module _ (k : Line) (w : Walked file.mode text (l.read ++ read_after file.mode l.read k ∷ []) next.rest.now next.scanner) (after : Found)
       (numbers : file.lists ≡ true → after.number ≡ found.number + breaks file.folded (text_of k)) where

@@ -27,6 +27,10 @@ use Rattle.ud_model.proofs.output.OutputPieces.{output_lines}
 use Rattle.ud_simplified.proofs.SimplifiedLineTexts.{own_line}
 use Rattle.ud_simplified.proofs.FoldedLines.{IsMeasured, measured, folded_shown, folded_has}
 
+-- A line without a directive begins no directive that is folded.
+pub not_foldable : (r : Reading) (rs : List Reading) → is_directive (content_of r.scan) ≡ false → is_foldable (r ∷ rs) ≡ false
+not_foldable r rs t = grind (arith, t)
+
 -- 1. Logical lines, each of which is read by itself.
 
 abbrev line_of : Reading → Line

@@ -13,6 +13,7 @@ use Rattle.ud_tree.specs.Reports.{ReportState, KeepsFinds}
 use Rattle.ud_tree.specs.Remainders.{mode_of, is_searched, Finds, AddsOutputs, FindsAll, has_condition, unnamed_in}
 use Rattle.ud_tree.specs.Unnamed.{FindsNames, RemovesNames}
 use Rattle.ud_tree.specs.Runs.{Output, made}
+use Rattle.unifdef.proofs.HeadlineLemmas.{false_before}
 
 -- 1. The names that no text has.
 
@@ -107,17 +108,14 @@ adds_both : {table : List Argument} {args : Arguments} {s t u : RemainingState} 
     AddsOutputs table args xs s t → AddsOutputs table args ys t u → AddsOutputs table args (xs ++ ys) s u
 adds_both xs ys h k = grind (arith, common_steps, flat_map-append, sum_by-append)
 
-pub not_lost : {a b : Bool} → (a ≡ true → b ≡ true) → b ≡ false → a ≡ false
-not_lost h e = grind arith
-
 -- The conditions of more outputs were added.
 pub finds_then : {args : Arguments} {a b c : ReportState} (ts us : List (List ℕ)) (xs ys : List Output) → FindsAll args ts xs a b → FindsAll args us ys b c → FindsAll args (ts ++ us) (xs ++ ys) a c
 finds_then {args = args} {a = a} ts us xs ys h k = record {
   kept = λ lost. k.kept (h.kept lost);
-  added = λ whole wanted calls r. adds_both xs ys (h.added (not_lost k.kept whole) wanted calls r) (k.added whole wanted calls r);
+  added = λ whole wanted calls r. adds_both xs ys (h.added (false_before k.kept whole) wanted calls r) (k.added whole wanted calls r);
   same = λ off. k.same off ∙ h.same off;
   unnamed = λ whole calls r.
-      k.unnamed whole calls r ∙ ap (unnamed_in calls args us) (h.unnamed (not_lost k.kept whole) calls r)
+      k.unnamed whole calls r ∙ ap (unnamed_in calls args us) (h.unnamed (false_before k.kept whole) calls r)
       ∙ unnamed_then calls args ts us a.unnamed;
 }
 

@@ -20,7 +20,7 @@ use Rattle.ud_tree.specs.Runs.{FileResult, Unshown, EachFile, no_file, then_file
 use Rattle.ud_tree.specs.Remainders.{FindsAll, listing_of, list_of, count_of, defined_of, unnamed_in}
 use Rattle.ud_tree.specs.Unnamed.{Seeks}
 use Rattle.ud_tree.specs.Others.{FindsOthers}
-use Rattle.ud_tree.proofs.RemainderLemmas.{finds_none, finds_kept, finds_then, finds_same, not_lost}
+use Rattle.ud_tree.proofs.RemainderLemmas.{finds_none, finds_kept, finds_then, finds_same}
 use Rattle.ud_tree.specs.Statuses.{tree_status}
 use Rattle.ud_tree.specs.Streams.{Source, ends_of}
 use Rattle.ud_io.specs.Streams.{Stream, Sends}
@@ -43,6 +43,7 @@ use Rattle.ud_tree.specs.Writing.{Moment, Stage, WritesOne, ProcessesOne, Writes
 use Rattle.ud_tree.specs.TreeRuns.{Ending, DoesBy, DoesOne, DoesFiles, Ends, EndsWriting, RunsTree}
 use Rattle.ud_tree.proofs.DoneLemmas.{still_failed, done_later}
 use Rattle.ud_io.proofs.StreamLemmas.{sends_none, sends_then, sends_same}
+use Rattle.unifdef.proofs.HeadlineLemmas.{false_before}
 
 -- One file more is counted, if its fate passes the test.
 pub count_push : (p : Fate → Bool) (results : List FileResult) (r : FileResult) →
@@ -330,7 +331,7 @@ ends job files {old = old} {new = new} {mid = mid} {sought_report = sought_repor
           none_defined = λ off. ap (λ (s : RemainingState). s.defined) (both.keeps.remaining ∙ finds.same off ∙ q.remaining);
           unnamed = λ whole calls represents.
               both.keeps.unnamed ∙ finds.unnamed (whole_report whole) calls represents
-              ∙ ap (unnamed_in calls args (texts_of h.results)) (q.names refl (not_lost finds.kept (whole_report whole)));
+              ∙ ap (unnamed_in calls args (texts_of h.results)) (q.names refl (false_before finds.kept (whole_report whole)));
         };
         has_status = record {
           faults_are = subst (λ (b : Bool). in_walk + length (output_messages lost b) + faulty_in h.results < 2 ^ 64 → faults ≡ in_walk + length (output_messages lost b) + faulty_in h.results) failed

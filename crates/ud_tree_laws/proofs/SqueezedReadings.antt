@@ -19,7 +19,7 @@ use Rattle.ud_model.proofs.text.Pushes.{by_push}
 use Rattle.ud_model.proofs.text.ScanLaws.{place_after, white_after}
 use Rattle.ud_model.proofs.sections.Soundness.{read_lines}
 use Rattle.ud_model.proofs.output.Each.{Each}
-use Rattle.ud_model.proofs.output.Formed.{whole_ending, ending_none, end_is_some}
+use Rattle.ud_model.proofs.output.Formed.{whole_ending, ending_none, end_is_some, formed_more}
 use Rattle.ud_model.proofs.output.Heeding.{ReadIn, are_read}
 use Rattle.ud_model.proofs.output.LeavesOff.{LeavesOff, HasEnd, nowhere, kept_scan, readings_last, leaves_next, leaves_anew}
 use Rattle.ud_model.proofs.output.OutputPieces.{output_lines}
@@ -167,10 +167,6 @@ module _ (o : Options) where
       ∙ append_assoc (map reading_of zs) (r ∷ []) (later (next zs (line_at n t)) (suc n) ts)
 
 -- 3. Texts.
-
-formed_more : (t : List ℕ) (ts : List (List ℕ)) → IsWhole t → AreFormed ts → AreFormed (t ∷ ts)
-formed_more t [] w f = inl w
-formed_more t (u ∷ ts) w f = (w, f)
 
 formed_kept : (fs : List Bool) (ts : List (List ℕ)) → AreFormed ts → AreFormed (kept_lines fs ts)
 formed_kept fs [] f = tt

@@ -7,8 +7,8 @@ use Rattle.ud_model.specs.sections.Faults.{Fault}
 use Rattle.ud_engine.specs.declared.fault.RunFault.{RunFault}
 use Rattle.ud_engine.specs.declared.fault.RunFault.TheVariants.{Text, Section, Read, Write}
 use Rattle.ud_engine.specs.Runs.{RunEnded, EndsWith, AppendsPrefixOfOutput, Truncated, StoppedAtFault, in_course, at_end}
-use Rattle.ud_io.proofs.BufferingLemmas.{appends_kept}
 use Rattle.unifdef.specs.ToolEnded.{is_read_error, is_write_error}
+use Rattle.std.proofs.KnownBytes.{Appends-kept}
 
 module _ (o : Options) (given : List ℕ) (left uo um un : Option (List ℕ)) (keeps : Keeps um un) where
   short_kept : (ls : List Line) → AppendsPrefixOfOutput o ls uo um → AppendsPrefixOfOutput o ls uo un
@@ -19,14 +19,14 @@ module _ (o : Options) (given : List ℕ) (left uo um un : Option (List ℕ)) (k
   cut_kept (at_end ended h) = at_end ended (short_kept _ h)
 
   found_kept : (f : Fault) → StoppedAtFault o given left uo um f → StoppedAtFault o given left uo un f
-  found_kept f h = record { outcome = h.outcome; runs = h.runs; fault = h.fault; appended = appends_kept uo um un h.outcome.output h.appended keeps }
+  found_kept f h = record { outcome = h.outcome; runs = h.runs; fault = h.fault; appended = Appends-kept uo um un h.outcome.output h.appended keeps }
 
   -- what was written stays written after a flush
   ends_kept : (r : Result Bool RunFault) → EndsWith o given left uo um r → EndsWith o given left uo un r
-  ends_kept (Ok differs) h = grind (arith, appends_kept)
+  ends_kept (Ok differs) h = grind (arith, Appends-kept)
   ends_kept (Err (Text f)) h = found_kept _ h
   ends_kept (Err (Section f)) h = found_kept _ h
-  ends_kept (Err Read) h = record { outcome = h.outcome; runs = h.runs; right = h.right; appended = appends_kept uo um un h.outcome.output h.appended keeps }
+  ends_kept (Err Read) h = record { outcome = h.outcome; runs = h.runs; right = h.right; appended = Appends-kept uo um un h.outcome.output h.appended keeps }
   ends_kept (Err Write) h = cut_kept h
 
 -- the end of a run is the same after a flush

@@ -3,7 +3,7 @@ use Rattle.std.proofs.Common.{◌≡◌, ℕ, List, [], Bool, true, false, not, 
 use Rattle.std.specs.Prelude.{IfSome}
 use Rattle.std.proofs.lemmas.Option.{IfSome_then}
 use Rattle.std.specs.Io.KnownBytes.{Keeps}
-use Rattle.std.proofs.KnownBytes.{Appends-nil}
+use Rattle.std.proofs.KnownBytes.{Appends-nil, Appends-kept}
 use Rattle.ud_model.specs.sections.Items.{Options}
 use Rattle.ud_model.specs.answer.CommandLine.{parsed_args, usage_fault, options_of, display_name}
 use Rattle.ud_model.specs.answer.Answer.{Answer, usage_answer, memory_answer, refused, ran, message_or_none, status_of}
@@ -12,7 +12,6 @@ use Rattle.ud_model.specs.declared.settings.Settings.{Settings}
 use Rattle.ud_args.specs.ParsedSettings.{IsUsageOf}
 use Rattle.ud_args.specs.SymbolStorage.{StoresSymbol}
 use Rattle.ud_args.specs.declared.usage.Usage.{Usage}
-use Rattle.ud_io.proofs.BufferingLemmas.{appends_kept}
 use Rattle.ud_engine.specs.Finishing.{RunAnswers, ResultIs}
 use Rattle.ud_engine.specs.Runs.{LagsOneRead}
 use Rattle.ud_io.specs.Watched.{AppendsAllOrPrefix}
@@ -38,10 +37,9 @@ flushed_well mid new true (Err f) after works stays = refl
 flushed_well mid new false (Ok differs) after works stays = let clash : true ≡ false = sym (after works) ∙ stays in cc
 flushed_well mid new false (Err f) after works stays = refl
 
--- if the stream hasn't failed after a flush, it hadn't failed before
-worked : (mid new : Bool) → (mid ≡ true → new ≡ true) → new ≡ false → mid ≡ false
-worked true new again stays = let clash : true ≡ false = sym (again refl) ∙ stays in cc
-worked false new again stays = refl
+-- a stream that hasn't failed after a flush hadn't failed before
+pub false_before : {mid new : Bool} → (mid ≡ true → new ≡ true) → new ≡ false → mid ≡ false
+false_before again stays = grind arith
 
 -- the output lags no more after a flush
 pub flushed_kept_up : (o : Options) (read_old read_new uo um un : Option (List ℕ)) → LagsOneRead o read_old read_new uo um → Keeps um un → LagsOneRead o read_old read_new uo un
@@ -58,7 +56,7 @@ module _ {R W : Type 0} (call : Call R W) where
         _,
         ran r.outcome right r.runs,
         record {
-          output = appends_kept call.old_output mid call.new_output r.outcome.output r.output keeps;
+          output = Appends-kept call.old_output mid call.new_output r.outcome.output r.output keeps;
           message = subst (λ (x : List ℕ). AppendsAllOrPrefix call.err_failed call.old_message call.new_message x) reported.message said;
           answered = status ∙ reported.status;
         },
@@ -73,7 +71,7 @@ module _ {R W : Type 0} (call : Call R W) where
       call.status ≡ result_status (options_of call.args).settings (final_result answer flushed) →
       IfSome call.input (λ input. AnswersSpec call input ⊎ FailsForMemory call)
   flushed_answers answer failed flushed mid right ran_so keeps after again stays said status =
-      let works : failed ≡ false = worked failed call.new_out.failed again stays in
+      let works : failed ≡ false = false_before again stays in
       let same : final_result answer flushed ≡ answer = flushed_well failed call.new_out.failed flushed answer after works stays in
       IfSome_then call.input (ran_so works) (λ input r.
       inl (run_answers input answer mid right r keeps

@@ -12,8 +12,8 @@ use Rattle.ud_model.specs.answer.CommandLine.{ParsedArg, flag, option, operand, 
 use Rattle.ud_model.specs.answer.SymbolArguments.{is_name, name_before_equals, value_after_equals, value_or_one}
 use Rattle.ud_laws.specs.answer.OptionArguments.{AreOptions, no_options, whole_word, two_words, IsSymbolOption, defines, defines_as, undefines, AddsSymbol}
 use Rattle.ud_model.specs.declared.settings.ExitMode.{ExitMode}
-use Rattle.ud_model.proofs.answer.WordLemmas.{options_given}
-use Rattle.ud_laws.proofs.answer.SameArguments.{Same, given_same, flag_same, mode_same, table_same, both_none, none_of_both, no_fault_same}
+use Rattle.ud_model.proofs.answer.WordLemmas.{options_given, both_none}
+use Rattle.ud_laws.proofs.answer.SameArguments.{Same, given_same, flag_same, mode_same, table_same, none_of_both, no_fault_same}
 
 word_small : (b : ℕ) → is_word_byte b ≡ true → (nat_lt b 128 ≡ true) × ((b == equals_sign) ≡ false)
 word_small b e = grind arith

@@ -3,6 +3,7 @@ use Rattle.std.proofs.Common.{◌≡◌, ℕ, suc, List, [], ◌∷◌, ◌++◌
 use Rattle.std.specs.List.{filter_map}
 use Rattle.ud_model.specs.answer.CommandLine.{ParsedArg, flag, option, operand, unknown, lacking, has_letter, is_flag, takes_argument, option_letters, operands_from, is_operand, WordGives, then_gives, option_gives, letters_give, given_next, parsed_from, mode_or, parse_exit_mode, parse_symbol, mode_from, has_flag, argument_in, UsageFault, unless_right, bad_symbol_in, bad_mode_in, argument_fault, fault_or, first_fault, operand_in, name_or_stdin}
 use Rattle.ud_model.specs.declared.settings.ExitMode.{ExitMode}
+use Rattle.ud_model.proofs.answer.WordLemmas.{both_none}
 
 -- the same is given, in other places
 pub data Same : List ParsedArg → List ParsedArg → Type 0 where
@@ -96,9 +97,6 @@ argument_right c n m a e = go (has_letter (codes "x") c) e
     go : (b : Bool) → (if b then unless_right (parse_exit_mode a) (bad_mode_in n) else unless_right (parse_symbol c a) (bad_symbol_in n)) ≡ None →
         (if b then unless_right (parse_exit_mode a) (bad_mode_in m) else unless_right (parse_symbol c a) (bad_symbol_in m)) ≡ None
     go b e = grind (arith, right)
-
-pub both_none : (x y : Option UsageFault) → fault_or x y ≡ None → (x ≡ None) × (y ≡ None)
-both_none x y e = grind arith
 
 pub none_of_both : (x y : Option UsageFault) → x ≡ None → y ≡ None → fault_or x y ≡ None
 none_of_both x y e f = ap (λ (z : Option UsageFault). fault_or z y) e ∙ f

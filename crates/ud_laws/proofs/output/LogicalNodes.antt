@@ -7,7 +7,7 @@ use Rattle.std.specs.List.{flat_map, list_any}
 use Rattle.ud_model.specs.aids.SpacedBytes.{spaced}
 use Rattle.ud_model.proofs.output.Each.{Each, each_parts}
 use Rattle.ud_model.proofs.output.EachLines.{IsOf, from_items}
-use Rattle.ud_simplified.proofs.FoldedReadings.{IsLogical, AreLogical, text_logical, all_there, has_directive, next_joined, logical_unnumbered, IsJoined}
+use Rattle.ud_simplified.proofs.FoldedReadings.{IsLogical, AreLogical, text_logical, all_there, has_directive, next_joined, logical_unnumbered, IsJoined, not_foldable}
 use Rattle.ud_laws.proofs.output.InsertedText.{items_are}
 use Rattle.ud_laws.proofs.output.LiveAnswers.{lines_with}
 use Rattle.ud_laws.proofs.output.NodesAlike.{nothing_alike, text_alike, section_alike, conditional_alike, otherwise_alike, first_alike, elif_alike}
@@ -304,9 +304,6 @@ plain rs = flat_map (λ (r : Reading). text_of r.line) rs
 
 no_directive_on : (r : Reading) → NotLong r → r.scan.joins_after ≡ true → is_directive (content_of r.scan) ≡ false
 no_directive_on r n j = grind (arith, n, j)
-
-not_foldable : (r : Reading) (rs : List Reading) → is_directive (content_of r.scan) ≡ false → is_foldable (r ∷ rs) ≡ false
-not_foldable r rs t = grind (arith, t)
 
 group_stays : (g : List Reading) → IsLogical g → Each NotLong g → folded_bytes g ≡ plain g
 group_stays [] i n = absurd i.one

@@ -1,7 +1,11 @@
 -- Arguments: each argument is parsed by itself, in order.
 use Rattle.std.proofs.Common.{◌≡◌, ℕ, suc, List, [], ◌∷◌, ◌++◌, false, Option, Some, None, bytes_eq, codes, refl, arith}
-use Rattle.ud_model.specs.answer.CommandLine.{ParsedArg, option_letters, operands_from, parsed_from, parsed_after_option, letters_give, given_next}
+use Rattle.ud_model.specs.answer.CommandLine.{ParsedArg, UsageFault, fault_or, option_letters, operands_from, parsed_from, parsed_after_option, letters_give, given_next}
 use Rattle.ud_model.specs.aids.LettersThen.{parsed_letters}
+
+-- If neither of two faults is there, there is none.
+pub both_none : (a b : Option UsageFault) → fault_or a b ≡ None → (a ≡ None) × (b ≡ None)
+both_none a b h = grind arith
 
 -- The rest after an argument: this, if an option waits, else that.
 abbrev waited : Option ℕ → (ℕ → List ParsedArg) → List ParsedArg → List ParsedArg

@@ -191,7 +191,7 @@ ending_feed b n = by_ends (b ++ 10 ∷ []) false true
     (test_false (b ++ 10 ∷ []) (13 ∷ 10 ∷ []) (λ f e. n (f, (same_from_push b (f ++ 13 ∷ []) 10 10 (e ∙ sym (append_assoc f (13 ∷ []) (10 ∷ [])))).0)))
     ((ends_is Decides-eqb (b ++ 10 ∷ []) (10 ∷ []) (ends_with nat_eq (b ++ 10 ∷ []) (10 ∷ [])) refl).1 b refl)
 
-feed_inside : (f : List ℕ) → NoNewline (f ++ 10 ∷ []) → ⊥
+pub feed_inside : (f : List ℕ) → NoNewline (f ++ 10 ∷ []) → ⊥
 feed_inside [] h = h.0 refl
 feed_inside (x ∷ f) h = feed_inside f h.1
 

@@ -14,9 +14,6 @@ use Rattle.ud_passes.proofs.FitLemmas.{fitting}
 use Rattle.ud_replace.specs.TextOutcomes.{TextOptions, pruned}
 use Rattle.ud_tree_laws.proofs.law_pruned_file.Goals as goal
 
-same_bytes : (x y : List ℕ) → bytes_eq x y ≡ true → x ≡ y
-same_bytes x y e = grind (arith, bytes_eq-Decides)
-
 -- The pruned output of a run is its simplified output.
 output_pruned : (o : TextOptions) (text : List ℕ) (a : Outcome) → HasOutcome o.run text a → a.fault ≡ None → LinesFit (lines_of a.output) → IsOutput o.run true text (pruned o.run a).output
 output_pruned o text a d n f = record {
@@ -41,7 +38,7 @@ rewritten o text final given a e g d n f m h =
 
 pub returns-clause-folded : goal.returns-clause-folded
 returns-clause-folded c = λ o text a h f m n.
-    rewritten o text (restored_text (pruned o.run a).output) (folded_text text) a refl (same_bytes (folded_text (restored_text (pruned o.run a).output)) (pruned o.run a).output h.comes) h.runs h.faultless f m n
+    rewritten o text (restored_text (pruned o.run a).output) (folded_text text) a refl ((bytes_eq-Decides (folded_text (restored_text (pruned o.run a).output)) (pruned o.run a).output).0 h.comes) h.runs h.faultless f m n
 
 pub returns-clause-unfolded : goal.returns-clause-unfolded
 returns-clause-unfolded c = λ o text a d n f m h.

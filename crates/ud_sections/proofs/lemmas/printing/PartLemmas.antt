@@ -6,6 +6,7 @@ use Rattle.std.proofs.lemmas.List.{take-append-le, length-take, append_cancel_ri
 use Rattle.std.proofs.lemmas.Slice.Eq.{bytes_eq-Decides}
 use Rattle.std.proofs.lemmas.Bool.Decides.{nat_tests}
 use Rattle.std.proofs.Math.Seq.{take-append_seam, drop-length}
+use Rattle.std.proofs.lemmas.Bool.{false_from_ne_true}
 
 same_byte : (b : ℕ) → nat_eq b b ≡ true
 same_byte b = grind (arith)
@@ -15,12 +16,9 @@ same_front : (x a b : List ℕ) → bytes_eq (x ++ a) (x ++ b) ≡ bytes_eq a b
 same_front [] a b = refl
 same_front (c ∷ x) a b = ap (λ (t : Bool). t && bytes_eq (x ++ a) (x ++ b)) (same_byte c) ∙ same_front x a b
 
-not_true : (r : Bool) → (r ≡ true → ⊥) → r ≡ false
-not_true r h = grind arith
-
 -- a text without a prefix doesn't equal one that begins with it
 other_front : (x more y : List ℕ) → bytes_eq (take (length x) y) x ≡ false → bytes_eq (x ++ more) y ≡ false
-other_front x more y h = grind (arith, not_true, bytes_eq, bytes_eq-Decides, take-append_seam)
+other_front x more y h = grind (arith, false_from_ne_true, bytes_eq, bytes_eq-Decides, take-append_seam)
 
 same_truth : (p q : Bool) → (p ≡ true → q ≡ true) → (q ≡ true → p ≡ true) → p ≡ q
 same_truth p q h k = grind arith

@@ -172,7 +172,7 @@ last_is (l ∷ ls) = let e : length (l ∷ ls) - 1 ≡ length ls = omega arith i
 pub innermost_level : (p : Bool) (t : Tree Reading) → innermost_of (open_sections_of true p t) ≡ section_at None true p t
 innermost_level p t = last_is (open_sections_of true p t) ∙ last_levels None true p t
 
-or_false : (b : Bool) → b ≡ (b || false)
+pub or_false : (b : Bool) → b ≡ (b || false)
 or_false b = grind arith
 
 or_assoc : (a b c : Bool) → ((a || b) || c) ≡ (a || (b || c))

@@ -1,6 +1,6 @@
 -- Lexemes: where a slash, a backslash, a `#`, a literal and a line comment lead.
 use Rattle.std.proofs.Common.{◌≡◌, ℕ, ◌==◌, List, [], ◌∷◌, ◌++◌, Bool, true, false, not, ◌&&◌, ◌||◌, if◌then◌else◌, ◌⊎◌, refl, sym, ◌∙◌, ap, subst, ne_eqb, suc, zero, length, get_or, arith}
-use Rattle.std.proofs.lemmas.Bool.{eqb-true}
+use Rattle.std.proofs.lemmas.Bool.{eqb-true, or_parts}
 use Rattle.ud_model.specs.text.Bytes.{is_quote, slash, number_sign, newline, carriage_return, star, backslash}
 use Rattle.ud_model.specs.aids.LexStates.{LexState, in_text, at_slash, in_line, in_literal, at_backslash, stays_white}
 use Rattle.ud_text.specs.bulk.BulkStates.{next_bulk_state, BulkState, code_state, stops_bulk, NoNewlineInBlock, bulk_state_after, spliced_after, is_other_word, HasNoStop}
@@ -157,9 +157,6 @@ last_return c (a ∷ b ∷ []) zero e f g h = grind arith
 last_return c (a ∷ b ∷ []) (suc n) e f g h = absurd (omega arith)
 last_return c (a ∷ b ∷ d ∷ bytes) zero e f g h = absurd (omega arith)
 last_return c (a ∷ b ∷ d ∷ bytes) (suc n) e f g h = last_return (spliced_after in_line c a) (b ∷ d ∷ bytes) n (omega arith) f g h
-
-or_parts : (a b : Bool) → (a || b) ≡ false → (a ≡ false) × (b ≡ false)
-or_parts a b h = grind arith
 
 -- no splice ends after bytes whose last two allow none
 pub unspliced : (bytes : List ℕ) (n : ℕ) → length bytes ≡ suc (suc n) → may_splice (get_or bytes n 0) (get_or bytes (suc n) 0) ≡ false → spliced_by false bytes ≡ false

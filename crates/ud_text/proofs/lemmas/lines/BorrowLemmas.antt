@@ -9,9 +9,10 @@ use Rattle.ud_model.specs.text.Lines.{NoNewline, IsWhole, Line, text_of, line_at
 use Rattle.ud_model.proofs.text.LinesLemmas.{text_of-line_at}
 use Rattle.ud_text.specs.lines.LinesState.{LinesState, LinesRepresent, UpToNewline, IsLineOf}
 use Rattle.ud_text.specs.lines.Borrowing.{CanBorrow, IsFirstLine}
-use Rattle.ud_text.proofs.lemmas.lines.NewlineLemmas.{up_to_newline-once, whole_newlineless, newline_at_end}
+use Rattle.ud_text.proofs.lemmas.lines.NewlineLemmas.{up_to_newline-once, whole_newlineless}
 use Rattle.ud_text.proofs.lemmas.scan.MaskLemmas.{no_newline-take}
 use Rattle.ud_text.proofs.lemmas.lines.LinesLemmas.{represent_take, represent_clear}
+use Rattle.ud_model.proofs.output.Formed.{feed_inside}
 
 -- there are no bytes, if their number is 0
 pub none_held : (bytes : List ℕ) (empty : Bool) → empty ≡ (length bytes == 0) → not empty ≡ false → bytes ≡ []
@@ -35,7 +36,7 @@ none_here rest size e none used to =
       | inl long ↦ long
       | inr short ↦
           let line : (prefix : List ℕ) × NoNewline prefix × (take used rest ≡ prefix ++ 10 ∷ []) = to.line refl in
-          absurd (newline_at_end line.0 (subst NoNewline (take-take used size rest (omega (arith, e, to.within)) ∙ line.2) (no_newline-take used (take size rest) none)))
+          absurd (feed_inside line.0 (subst NoNewline (take-take used size rest (omega (arith, e, to.within)) ∙ line.2) (no_newline-take used (take size rest) none)))
     ]
 
 -- no line comes at the beginning of nothing

@@ -10,6 +10,7 @@ use Rattle.memchr.specs.Find.{Nowhere, NoneBefore, Passes, is_byte}
 use Rattle.ud_model.specs.text.Lines.{NoNewline, IsWhole, line_at}
 use Rattle.ud_text.specs.lines.LinesState.{UpToNewline}
 use Rattle.ud_text.proofs.lemmas.scan.MaskLemmas.{no_newline-take}
+use Rattle.ud_model.proofs.output.Formed.{feed_inside}
 
 -- bytes have no newline, if a search finds none among them
 pub no_newline_front : (s : List ℕ) (n : ℕ) → Nowhere (Passes (is_byte 10) s) 0 n → NoNewline (take n s)
@@ -40,11 +41,6 @@ up_to_newline-none s none = record {
   line = λ e. cc;
 }
 
--- bytes that end with a newline have one
-pub newline_at_end : (prefix : List ℕ) → NoNewline (prefix ++ 10 ∷ []) → ⊥
-newline_at_end [] h = h.0 refl
-newline_at_end (b ∷ bs) h = newline_at_end bs h.1
-
 -- two prefixes of a text that end with their only newline are one
 same_front : (s f g : List ℕ) (m n : ℕ) → NoNewline f → NoNewline g → take m s ≡ f ++ 10 ∷ [] → take n s ≡ g ++ 10 ∷ [] → f ≡ g
 same_front s f g zero n nf ng d e = absurd (let k : length f + 1 ≡ 0 = sym (length-append f (10 ∷ [])) ∙ sym (ap length d) in omega arith)
@@ -68,8 +64,8 @@ front_len s f n h e =
 -- a chunk has one prefix up to its first newline
 pub up_to_newline-once : (chunk : List ℕ) (used other : ℕ) (whole ended : Bool) → UpToNewline chunk used whole → UpToNewline chunk other ended → (whole ≡ ended) × (used ≡ other)
 up_to_newline-once chunk used other false false a b = (refl, (a.all refl).0 ∙ sym (b.all refl).0)
-up_to_newline-once chunk used other true false a b = grind (arith, newline_at_end, no_newline-take)
-up_to_newline-once chunk used other false true a b = grind (arith, newline_at_end, no_newline-take)
+up_to_newline-once chunk used other true false a b = grind (arith, feed_inside, no_newline-take)
+up_to_newline-once chunk used other false true a b = grind (arith, feed_inside, no_newline-take)
 up_to_newline-once chunk used other true true a b =
     let same : (a.line refl).0 ≡ (b.line refl).0 = same_front chunk (a.line refl).0 (b.line refl).0 used other (a.line refl).1 (b.line refl).1 (a.line refl).2 (b.line refl).2 in
     (refl, front_len chunk (a.line refl).0 used a.within (a.line refl).2 ∙ ap (λ (f : List ℕ). length f + 1) same ∙ sym (front_len chunk (b.line refl).0 other b.within (b.line refl).2))

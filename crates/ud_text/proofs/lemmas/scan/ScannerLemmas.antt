@@ -1,5 +1,5 @@
 -- Scanner states: what is carried over a line, and the line's scan by it.
-use Rattle.std.proofs.Common.{arith, ◌≡◌, ℕ, List, [], ◌∷◌, ◌++◌, length, map, Bool, false, ◌||◌, refl, sym, ◌∙◌, ap}
+use Rattle.std.proofs.Common.{arith, ◌≡◌, ℕ, List, [], ◌∷◌, ◌++◌, length, map, Bool, false, ◌||◌, refl, sym, ◌∙◌, ap, true}
 use Rattle.ud_model.specs.text.Lines.{Line, NoNewline}
 use Rattle.ud_model.specs.text.Scans.{Scan, Reading}
 use Rattle.ud_model.specs.text.Splicing.{is_spliced, content, stays_open, spliced_part, spliced_text, c_run_of}
@@ -17,6 +17,11 @@ use Rattle.ud_model.proofs.text.ScanLaws.{scan_after_run-from}
 use Rattle.ud_model.proofs.text.ScanLemmas.{LexesTo-same, LexesTo-close, kind_at_place, joined_run_last, run_of_last, joins_last, scan_behind_is}
 use Rattle.ud_text.specs.scan.ScannerState.{ScannerState, ScannerRepresents, initial_scanner_state, ends_in_block}
 use Rattle.ud_text.proofs.lemmas.scan.MaskLemmas.{no_newline-take}
+
+-- A disjunction whose first part is false.
+pub or_false : (a b : Bool) → a ≡ false → b ≡ (a || b)
+or_false false b e = refl
+or_false true b e = cc
 
 -- readings with one more end in a block comment if and only if that one does
 pub ends_in_block_last : (before : List Reading) (r : Reading) → ends_in_block (before ++ r ∷ []) ≡ is_in_block r.scan.comment

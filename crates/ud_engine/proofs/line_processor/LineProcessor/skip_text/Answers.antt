@@ -7,8 +7,9 @@ use Rattle.ud_text.specs.bulk.BulkLexemes.{at_start}
 use Rattle.ud_text.proofs.lemmas.bulk.BulkPlainLemmas.{begins_ends}
 use Rattle.ud_engine.specs.DecidedLines.{DecidesBulk}
 use Rattle.ud_engine.proofs.SkipLemmas.{skips_none}
-use Rattle.ud_engine.proofs.BulkPrintLemmas.{prints_none, prints_run, lists_run, kept_same, kept_text, dropped_differ, dropped_text, no_lines, none_other, or_none, or_some}
+use Rattle.ud_engine.proofs.BulkPrintLemmas.{prints_none, prints_run, lists_run, kept_same, kept_text, dropped_differ, dropped_text, no_lines, none_other, or_some}
 use Rattle.ud_engine.proofs.line_processor.LineProcessor.skip_text.Goals as goal
+use Rattle.ud_sections.proofs.lemmas.sections.ActionLemmas.{or_false}
 
 pub returns-then-is_some-clause-printed : goal.returns-then-is_some-clause-printed
 returns-then-is_some-clause-printed g c = λ o piece xs t h.
@@ -31,7 +32,7 @@ returns-in-Whole-clause-printed g c = λ o piece xs t h.
     let bytes = take c.skip_text-in-Whole.result c.args.bytes.now in
     let verdict = text_verdict c.args.self.now.decider.machine in
     prints_run g.S.Show.represents g.S.Show.piece o piece xs t c.args.self.now h _ (numbered_from (suc c.args.lines.now.before) (whole_lines bytes)) verdict text_of false bytes
-    (search rules) refl refl (or_none c.args.self.now.differs) (c.skip_text-in-Whole.ensures.read o xs t h.has)
+    (search rules) refl refl (or_false c.args.self.now.differs) (c.skip_text-in-Whole.ensures.read o xs t h.has)
     (subst (λ v. PrintsOne (g.S.Show.represents c.args.self.now.printer) (g.S.Show.piece c.args.self.now.printer) v text_of) (ap (λ p. p.verdict) c.text_policy-policy.ensures.value) c.in-Whole.ensures.line_output)
     (kept_same verdict (numbered_from (suc c.args.lines.now.before) (whole_lines bytes)))
     (kept_text (suc c.args.lines.now.before) bytes c.skip_text-in-Whole.ensures.ends)
@@ -42,7 +43,7 @@ returns-then-count-eq0-clause-printed g c = λ o piece xs t h.
     let lines = numbered_from (suc c.args.lines.now.before) (whole_lines []) in
     let none = no_lines (suc c.args.lines.now.before) in
     prints_run g.S.Show.represents g.S.Show.piece o piece xs t c.args.self.now h _ lines verdict (λ l. []) false []
-    (search rules) refl refl (or_none c.args.self.now.differs)
+    (search rules) refl refl (or_false c.args.self.now.differs)
     (subst (λ n. DecidesBulk o c.skip_text-count.new.self xs t (numbered_from (suc c.args.lines.now.before) (whole_lines (take n c.args.bytes.now))) verdict)
     c.if-count-eq0.true (c.skip_text-count.ensures.read o xs t h.has))
     (subst (λ v. PrintsOne (g.S.Show.represents c.args.self.now.printer) (g.S.Show.piece c.args.self.now.printer) v (λ l. [])) (ap (λ p. p.verdict) c.text_policy-policy.ensures.value) c.in-Nothing.ensures.line_output)

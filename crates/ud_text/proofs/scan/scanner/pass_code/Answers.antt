@@ -5,7 +5,7 @@ use Rattle.ud_model.specs.aids.LexStates.{LexesTo}
 use Rattle.ud_model.specs.aids.LineViews.{as_line}
 use Rattle.ud_text.specs.scan.LexerViews.{lex_state_of}
 use Rattle.ud_text.specs.scan.ScannerState.{scanner_state_of}
-use Rattle.ud_text.proofs.lemmas.scan.ScannerLemmas.{no_newline-content}
+use Rattle.ud_text.proofs.lemmas.scan.ScannerLemmas.{no_newline-content, or_false}
 use Rattle.ud_text.proofs.lemmas.scan.PassLemmas.{represents_passed}
 use Rattle.ud_text.proofs.scan.scanner.pass_code.Goals as goal
 
@@ -15,10 +15,6 @@ pass_content-inside-requires c = record { one_line = subst NoNewline (sym c.cont
 or_true : (a b : Bool) → a ≡ true → true ≡ (a || b)
 or_true true b e = refl
 or_true false b e = cc
-
-or_false : (a b : Bool) → a ≡ false → b ≡ (a || b)
-or_false false b e = refl
-or_false true b e = cc
 
 pub returns-then-spliced : goal.returns-then-spliced
 returns-then-spliced c = λ before h.

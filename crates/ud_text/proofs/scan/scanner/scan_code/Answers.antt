@@ -8,7 +8,7 @@ use Rattle.ud_model.specs.aids.LexStates.{LexState, Masks, kind_in_state, fresh_
 use Rattle.ud_model.specs.aids.LineViews.{as_line}
 use Rattle.ud_text.specs.scan.LexerViews.{lex_state_of, shown_in}
 use Rattle.ud_text.specs.scan.ScannerState.{ScannerRepresents, scanner_state_of}
-use Rattle.ud_text.proofs.lemmas.scan.ScannerLemmas.{represents_code, scan_carried, same_parts, no_newline-content}
+use Rattle.ud_text.proofs.lemmas.scan.ScannerLemmas.{represents_code, scan_carried, same_parts, no_newline-content, or_false}
 use Rattle.ud_text.proofs.scan.scanner.scan_code.Given.{Over}
 use Rattle.ud_text.proofs.scan.scanner.scan_code.Goals as goal
 use Rattle.ud_text.proofs.scan.scanner.scan_code.Goals.{After-comment_at, then-spliced, else-spliced}
@@ -33,10 +33,6 @@ shown_content g c before h =
 or_true : (a b : Bool) → a ≡ true → a ≡ (a || b)
 or_true true b e = refl
 or_true false b e = cc
-
-or_false : (a b : Bool) → a ≡ false → b ≡ (a || b)
-or_false false b e = refl
-or_false true b e = cc
 
 joins_is : (g : Over) (c : After-comment_at g) → c.if-spliced.joins ≡ (is_spliced (as_line c.args.line.now) || is_block (kind_in_state (lex_state_of c.end_line-lexer.result.state)))
 joins_is g c =
