@@ -2,6 +2,7 @@
 use Rattle.std.proofs.Common.{◌≡◌, ◌∙◌, ◌++◌, ◌+◌, ℕ, suc, List, [], ◌∷◌, Bool, true, false, Option, Some, None, if◌then◌else◌, bytes_eq, codes, refl, sym, subst, arith}
 use Rattle.std.specs.List.{slice_get}
 use Rattle.ud_model.specs.answer.CommandLine.{ParsedArg, Operand, WordGives, operand_in, parsed_args, given_next, letters_give, operands_from, is_operand, option_letters, operand_of}
+use Rattle.std.proofs.lemmas.Grind.{common_steps}
 
 -- the letters of an argument give no operand
 past_letters : (n : ℕ) (cs : List ℕ) (gs : List ParsedArg) → operand_in ((letters_give n cs).given ++ gs) ≡ operand_in gs
@@ -23,16 +24,7 @@ there : (waits : Option ℕ) (n : ℕ) (args : List (List ℕ)) (o : Operand) �
 there None n [] o e = cc
 there (Some c) n [] o e = cc
 there (Some c) n (w ∷ ws) o e = behind w ws n o (there None (suc n) ws o e)
-there None n (w ∷ ws) o e = go (bytes_eq w (codes "--")) (is_operand w) (there (letters_give (suc n) (option_letters w)).waits (suc n) ws o) e
-  where
-    letters : WordGives
-    letters = letters_give (suc n) (option_letters w)
-
-    go : (b c : Bool) → (operand_in (given_next letters.waits (suc n) ws) ≡ Some o → IsThere ws (suc n) o) →
-        operand_in (if b then operands_from (suc n) ws else if c then operands_from n (w ∷ ws) else letters.given ++ given_next letters.waits (suc n) ws) ≡ Some o → IsThere (w ∷ ws) n o
-    go true c more f = behind w ws n o (first (suc n) ws o f)
-    go false true more f = first n (w ∷ ws) o f
-    go false false more f = behind w ws n o (more (sym (past_letters (suc n) (option_letters w) (given_next letters.waits (suc n) ws)) ∙ f))
+there None n (w ∷ ws) o e = grind (arith, common_steps, behind, first, past_letters, there (letters_give (suc n) (option_letters w)).waits (suc n) ws o)
 
 -- The operand of a command line has the bytes of the argument at its index.
 pub operand_there : (args : List (List ℕ)) (o : Operand) → operand_in (parsed_args args) ≡ Some o → slice_get args o.index ≡ Some o.name

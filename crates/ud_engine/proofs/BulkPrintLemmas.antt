@@ -27,6 +27,7 @@ use Rattle.ud_engine.specs.ProcessedLines.{text_by, differs_in, lister_of, Proce
 use Rattle.ud_engine.proofs.NameListingLemmas.{lists_none}
 use Rattle.ud_engine.proofs.ProcessorLemmas.{is_off, lists_same, not_off}
 use Rattle.ud_model.proofs.answer.Onward.{pieces_by-append}
+use Rattle.std.proofs.lemmas.Grind.{common_steps}
 
 judged_line-append : (xs ys : List (Item Reading)) (ms ns : List Mark) → length ms ≡ length xs →
     judged_lines (xs ++ ys) (ms ++ ns) ≡ judged_lines xs ms ++ judged_lines ys ns
@@ -40,12 +41,7 @@ judged_line-append (x ∷ xs) ys (m ∷ ms) ns e =
 differ-append : (piece : List Judged → Judged → List ℕ) (before js ks : List Judged) (ps : List (List ℕ)) →
     some_other (pieces_by piece before js ++ ps) (js ++ ks) ≡ (some_other (pieces_by piece before js) js || some_other ps ks)
 differ-append piece before [] ks ps = refl
-differ-append piece before (j ∷ js) ks ps =
-    ap (λ d. not (bytes_eq (piece before j) (text_of j.line)) || d) (differ-append piece (before ++ j ∷ []) js ks ps)
-    ∙ or_or (not (bytes_eq (piece before j) (text_of j.line))) (some_other (pieces_by piece (before ++ j ∷ []) js) js) (some_other ps ks)
-  where
-    or_or : (a b c : Bool) → (a || (b || c)) ≡ ((a || b) || c)
-    or_or a b c = grind arith
+differ-append piece before (j ∷ js) ks ps = grind (arith, common_steps, differ-append piece (before ++ j ∷ []) js ks ps)
 
 pieces_by-same : (f g : List Judged → Judged → List ℕ) → ((before : List Judged) (j : Judged) → f before j ≡ g before j) → (before js : List Judged) →
     pieces_by f before js ≡ pieces_by g before js
@@ -146,23 +142,7 @@ module _ {S : Type 0} (represents : S → List Judged → Type 0) (piece_of : S 
   -- Names are listed: text lines have none.
   pub lists_run : (q : LineProcessor S) (ls : List Line) (verdict : Verdict) → is_some p.lister ≡ true → q.lister ≡ p.lister →
       q.printer ≡ p.printer → q.differs ≡ p.differs → DecidesBulk o q.decider xs t ls verdict → PrintsBulk represents piece_of q o piece xs t ls []
-  lists_run q ls verdict e same_lister same_printer same_differs one =
-      let some : (depths : Bool) × (lister_of o.settings.listing ≡ Some depths) = depths_of o.settings.listing (ap is_some (sym h.lister) ∙ e) in
-      record {
-        items = one.items;
-        tree = one.tree;
-        has = record {
-          has = one.has;
-          lister = same_lister ∙ h.lister;
-          shown = λ off. absurd (not_off o.settings.listing some.0 some.1 off);
-          stays = λ bs j. ap (λ s. piece_of s bs j) same_printer ∙ h.stays bs j;
-          differs = same_differs ∙ h.differs ∙ lists_same o.settings.listing some.0 piece xs (xs ++ one.items) t one.tree some.1;
-        };
-        lines_are = one.lines_are;
-        is_more =
-            lists_no_text o piece xs one.items t one.tree some.0 some.1 (lists_none o some.0 xs one.items t one.tree h.has.read.sound one.has.read.sound one.texts)
-            ∙ sym (append-nil (text_by o.settings.listing piece xs t));
-      }
+  lists_run q ls verdict e same_lister same_printer same_differs one = grind (arith, common_steps, depths_of, not_off, lists_same, lists_no_text, lists_none)
 
 -- No bytes have no lines.
 pub no_lines : (n : ℕ) → numbered_from n (whole_lines []) ≡ []

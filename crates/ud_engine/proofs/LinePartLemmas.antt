@@ -20,6 +20,7 @@ use Rattle.ud_engine.specs.Feeding.{EngineState, IsOpen, EngineRepresentsBuffere
 use Rattle.ud_text.specs.lines.LimitFaults.{limit_of}
 use Rattle.ud_engine.specs.ProcessedLines.{ProcessorRepresents, PrintsMore}
 use Rattle.ud_model.proofs.sections.FaultStays.{line_of-next_item}
+use Rattle.std.proofs.lemmas.Grind.{common_steps}
 
 -- The split lines of a text with the prefix of a chunk up to its first newline, if `rest` is the
 -- text's partial line.
@@ -194,17 +195,8 @@ module _ {S : Type 0} (represents : S → List Judged → Type 0) (piece_of : S 
 
   -- The buffered bytes pass no limit.
   no_limit : (w : Case) → IsLimit w → 0 < length e.lines.held → Holds h.items (next_item o h.items h.tree (line_so_far text)) w → ⊥
-  no_limit _ by_lines some k = let b = before_is in
-      let n = h.begun some in
-      let past : TEXT_LINES < suc (length (whole_lines text)) =
-      subst (λ (l : Line). TEXT_LINES < l.number) (line_of-next_item o h.items h.tree (line_so_far text)) k in
-      omega (arith, b, n, past)
-  no_limit _ by_bytes some k = let r = ap length (rest_is) in
-      let s = h.opened.short in
-      let long : LINE_BYTES < length (partial_line text) =
-      subst (λ (x : List ℕ). LINE_BYTES < length x) (text_of-line_at (suc (length (whole_lines text))) (partial_line text))
-      (subst (λ (l : Line). LINE_BYTES < length (text_of l)) (line_of-next_item o h.items h.tree (line_so_far text)) k) in
-      omega (arith, r, s, long)
+  no_limit _ by_lines some k = grind (arith, common_steps, before_is, line_of-next_item)
+  no_limit _ by_bytes some k = grind (arith, common_steps, rest_is, text_of-line_at, line_of-next_item)
 
   some_held : (r : List ℕ) → (r ≡ [] → ⊥) → 0 < length r
   some_held [] n = absurd (n refl)

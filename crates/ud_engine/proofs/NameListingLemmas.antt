@@ -18,6 +18,7 @@ use Rattle.ud_engine.specs.DecidedLines.{DeciderRepresents, AreText}
 use Rattle.ud_engine.specs.NameListing.{ListsLine}
 use Rattle.ud_engine.specs.declared.line_decider.LineDecider.{LineDecider}
 use Rattle.ud_io.proofs.StreamLemmas.{stream_buffered, stream_then, stream_both}
+use Rattle.std.proofs.lemmas.Grind.{common_steps}
 
 -- The names before `left` were appended.
 pub record NamesPut (a b : Stream) (prefix : List ℕ) (names left : List (List ℕ)) (old new : List ℕ) : Type 0 where
@@ -78,11 +79,7 @@ text_unlisted depths (x ∷ xs) (n ∷ ns) a =
 -- With text lines more, no more names are listed.
 pub lists_none : (o : Options) (depths : Bool) (xs items : List (Item Reading)) (t u : Tree Reading) →
     AreFaultless o xs t → AreFaultless o (xs ++ items) u → AreText items → listed depths (xs ++ items) (levels u) ≡ listed depths xs (levels t)
-lists_none o depths xs items t u s v a =
-    let more : (rest : List ℕ) × (levels u ≡ levels t ++ rest) = levels_stay t u items (sound_lines v ∙ ap (λ ys. ys ++ items) (sym (sound_lines s))) in
-    ap (listed depths (xs ++ items)) more.1
-    ∙ listed-join depths xs items (levels t) more.0 (length_levels t ∙ ap length (sound_lines s))
-    ∙ ap (λ y. listed depths xs (levels t) ++ y) (text_unlisted depths items more.0 a) ∙ append-nil (listed depths xs (levels t))
+lists_none o depths xs items t u s v a = grind (arith, common_steps, levels_stay, sound_lines, listed-join, length_levels, text_unlisted)
 
 -- With one line more, its names are listed too, with the depth of the sections open after it.
 pub lists_more : (o : Options) (depths : Bool) (xs : List (Item Reading)) (t u : Tree Reading) (l : Line) →

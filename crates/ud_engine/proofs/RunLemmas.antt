@@ -27,6 +27,7 @@ use Rattle.ud_engine.specs.Feeding.{EngineState, EngineRepresentsBuffered, Sessi
 use Rattle.ud_engine.specs.ProcessedLines.{text_by, differs_in}
 use Rattle.ud_engine.specs.Runs.{LagsOneRead, all_but_last_chunk, bytes_to_limit}
 use Rattle.ud_engine.proofs.LinePartLemmas.{before_is, rest_is, reads_so_far}
+use Rattle.std.proofs.lemmas.Grind.{common_steps}
 
 -- The output by a printer's definition is the outcome's.
 pub same_text : (q : Listing) (s : Settings) (xs : List (Item Reading)) (t : Tree Reading) → text_by q (piece_after (style_of s)) xs t ≡ output_by q s xs t
@@ -63,10 +64,7 @@ module _ (o : Options) where
   -- The text has ended, and has no fault.
   pub ran_well : (a b c : Option (List ℕ)) (given printed : List ℕ) (differs : Bool) → Appends a b printed →
       FinishOk o own_piece given printed b c differs → RunAnswers o given a c (Ok differs)
-  ran_well a b c given printed differs before w =
-      outcome_at given w.items w.tree None a c (Ok differs) (printed ++ w.more) w.reads w.printed_is
-      (Appends-trans a b c printed w.more before w.appended)
-      (refl, w.differs_is ∙ same_differs o.settings.listing o.settings w.items w.tree)
+  ran_well a b c given printed differs before w = grind (arith, common_steps, outcome_at, Appends-trans, same_differs)
 
   ran_at : (a b c : Option (List ℕ)) (given printed : List ℕ) (f : Fault) (by : RunFault) → text_fault_of by ≡ Some f → Appends a b printed →
       FinishFault o own_piece given printed b c f → RunAnswers o given a c (Err by)

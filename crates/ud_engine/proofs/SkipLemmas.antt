@@ -27,6 +27,7 @@ use Rattle.ud_sections.specs.sections.MachineState.{AreTextLines, StepsText, Mac
 use Rattle.ud_sections.proofs.lemmas.sections.TransitionLemmas.{last_number_last}
 use Rattle.ud_engine.specs.declared.line_decider.LineDecider.{LineDecider}
 use Rattle.ud_engine.specs.DecidedLines.{DeciderRepresents, AreText, DecidesBulk, consumed}
+use Rattle.std.proofs.lemmas.Grind.{common_steps}
 
 -- The first of some lines that can be consumed can be consumed.
 pub can_skip_take : (lines : LinesState) (bytes : List ℕ) (n : ℕ) → passing.AreWholeLines (take n bytes) → CanConsume lines bytes → CanConsume lines (take n bytes)
@@ -72,10 +73,7 @@ module _ (mode : Mode) where
   readings_are : (xs : List (Item Reading)) (ls : List Line) →
       map reading_of (xs ++ map text_line (read_all xs ls)) ≡ readings_after (map reading_of xs) (map (line_in_mode mode) ls)
   readings_are xs [] = ap (map reading_of) (append-nil xs)
-  readings_are xs (l ∷ ls) =
-      ap (map reading_of) (sym (append_assoc xs (text_line (read_after xs mode l) ∷ []) (map text_line (read_all (xs ++ text_line (read_after xs mode l) ∷ []) ls))))
-      ∙ readings_are (xs ++ text_line (read_after xs mode l) ∷ []) ls
-      ∙ ap (λ before. readings_after before (map (line_in_mode mode) ls)) (one_reading xs (read_after xs mode l))
+  readings_are xs (l ∷ ls) = grind (arith, common_steps, one_reading, readings_are (xs ++ text_line (read_after xs mode l) ∷ []) ls)
 
   lines_are : (xs : List (Item Reading)) (ls : List Line) → map line_of (map text_line (read_all xs ls)) ≡ ls
   lines_are xs [] = refl
@@ -93,10 +91,7 @@ module _ (mode : Mode) where
   judged_are : (xs : List (Item Reading)) (ls : List Line) (mark : Mark) (verdict : Verdict) → verdict ≡ mark.verdict → passing.HaveNoDirective mode (map reading_of xs) ls →
       judged_lines (map text_line (read_all xs ls)) (map (λ r. mark) (read_all xs ls)) ≡ map (judged_text verdict) ls
   judged_are xs [] mark verdict e a = refl
-  judged_are xs (l ∷ ls) mark verdict e a = ap₂ (λ j js. j ∷ js)
-      (ap₂ (λ v c. record { line = l; verdict = v; keyword = keyword_in c }) (sym e) a.0)
-      (judged_are (xs ++ text_line (read_after xs mode l) ∷ []) ls mark verdict e
-      (subst (λ before. passing.HaveNoDirective mode before ls) (sym (one_reading xs (read_after xs mode l))) a.1))
+  judged_are xs (l ∷ ls) mark verdict e a = grind (arith, common_steps, one_reading, judged_are (xs ++ text_line (read_after xs mode l) ∷ []) ls mark verdict e)
 
   last_is : (xs : List (Item Reading)) (n : ℕ) (l : List ℕ) (ls : List (List ℕ)) →
       last_number (xs ++ map text_line (read_all xs (numbered_from n (l ∷ ls)))) ≡ n + length ls

@@ -30,6 +30,7 @@ use Rattle.ud_engine.proofs.LinePartLemmas.{before_is, rest_is, open_taken}
 use Rattle.ud_engine.proofs.RunLemmas.{own_piece, lag, fed_room}
 use Rattle.ud_engine.proofs.RunEndedLemmas.{printed_so_far}
 use Rattle.ud_engine.proofs.FinishLemmas.{stopped, fed_more}
+use Rattle.std.proofs.lemmas.Grind.{common_steps}
 
 -- A reader before its first bytes were read, which are `a` and then `b`.
 read_front : (a b : List ℕ) (r : Option (List ℕ)) → Consumes (prepend_known (a ++ b) r)
@@ -66,45 +67,15 @@ read_joined buffer piece after waiting count h k = grind (arith, length-take, ta
 
 pub waiting_stay : (buffer piece : List ℕ) (waiting : ℕ) → waiting ≤ length buffer → take waiting
     (take waiting buffer ++ piece) ≡ take waiting buffer
-waiting_stay buffer piece waiting within =
-    let n : length (take waiting buffer) ≡ waiting = let m = length-take waiting buffer in omega
-    (arith, m, within) in
-    ap (λ k. take k (take waiting buffer ++ piece)) (sym n) ∙ take-append_seam (take waiting buffer)
-    piece
+waiting_stay buffer piece waiting within = grind (arith, common_steps, length-take, take-append_seam)
 
 -- A fault of some bytes is that of more bytes.
 fault_longer : (o : Options) (piece : List Judged → Judged → List ℕ) (failed : Bool)
     (a b : Option (List ℕ)) (longer printed later : List ℕ) (f : RunFault) →
     FeedFails o piece failed a b longer printed f → FeedFails o piece failed a b (longer ++ later)
     printed f
-fault_longer o piece failed a b longer printed later (Text f) w =
-    let s = w.1.1 in (
-      w.0,
-      (
-        w.1.0,
-        record {
-          items = s.items;
-          tree = s.tree;
-          reads = (reads_stay later s.reads).0;
-          printed_is = s.printed_is;
-        },
-        w.1.2,
-      ),
-    )
-fault_longer o piece failed a b longer printed later (Section f) w =
-    let s = w.1.1 in (
-      w.0,
-      (
-        w.1.0,
-        record {
-          items = s.items;
-          tree = s.tree;
-          reads = (reads_stay later s.reads).0;
-          printed_is = s.printed_is;
-        },
-        w.1.2,
-      ),
-    )
+fault_longer o piece failed a b longer printed later (Text f) w = grind (arith, common_steps, reads_stay)
+fault_longer o piece failed a b longer printed later (Section f) w = grind (arith, common_steps, reads_stay)
 fault_longer o piece failed a b longer printed later Read w = absurd w
 fault_longer o piece failed a b longer printed later Write w = let s = w.1.1 in
     let more = lines_so_far-append longer later in
@@ -152,12 +123,7 @@ module _ (buffer : List ℕ) (end at : ℕ) (last : LastLineStarts (take end buf
   pub cut_waits : (lines : LinesState) → end ≤ length buffer → end ≤ CHUNK_BYTES → (lines.held ≡ [])
       × (lines.before < TEXT_LINES) →
       IsWaiting lines (take (end - at) (copy_within buffer at end 0))
-  cut_waits lines fits few begins = subst (IsWaiting lines) (sym (cut_moved fits))
-      (record {
-        no_newline = subst NoNewline rest_is_last last.one_line;
-        short = let n = length-take (end - at) (drop at buffer) in omega (arith, n, few);
-        begins = λ some. begins;
-      })
+  cut_waits lines fits few begins = grind (arith, common_steps, cut_moved, rest_is_last, length-take)
 
 -- The bytes that are fed first end a line; the others are left.
 module _ (o : Options) (e : EngineState Printer) (r₀ r w₀ w₁ : Option (List ℕ))
@@ -218,44 +184,7 @@ module _ (o : Options) (piece : List Judged → Judged → List ℕ) (e : Engine
   could_take : (bytes : List ℕ) → IsWaiting e.lines bytes →
       EngineRepresentsBuffered printer_represents printer_piece (with_bytes e bytes) o piece
       (text ++ bytes) (printed ++ [])
-  could_take bytes w = let parts = split_lines-append-open text bytes w.no_newline in
-      let f = with_bytes e bytes in
-      open_taken printer_represents printer_piece o piece e text printed h f bytes
-      (ap (λ (q : SplitLines). q.whole) parts) refl refl
-      (record {
-        part = h.opened.part;
-        goes_on = h.opened.goes_on;
-        limit = h.opened.limit;
-        short = short bytes w;
-        no_newline = no_newline-append e.lines.held bytes h.opened.no_newline w.no_newline;
-      })
-      (record {
-        consumed = h.took.consumed;
-        cut = subst (λ (b : Bool). split_lines (text ++ bytes) ≡ (if b then record {
-          whole = h.took.consumed ++ (e.lines.held ++ bytes) ∷ [];
-          rest = [];
-        } else record
-            { whole = h.took.consumed; rest = e.lines.held ++ bytes })) (sym h.opened.part)
-            (parts ∙ ap (λ (q : SplitLines). record { whole = q.whole; rest = q.rest ++ bytes })
-            (represent_part e.lines text h.opened.part h.took));
-        count = h.took.count;
-      })
-      h.no_fault (begun bytes w) h.count
-    where
-      short : (bytes : List ℕ) → IsWaiting e.lines bytes → length (e.lines.held ++ bytes) ≤
-          LINE_BYTES
-      short [] w = let s = h.opened.short in let n = ap length (append-nil e.lines.held) in omega
-          (arith, s, n)
-      short (x ∷ xs) w = let none = ap length (w.begins (omega arith)).0 in
-          let n = length-append e.lines.held (x ∷ xs) in
-          let s = w.short in
-          omega (arith, none, n, s)
-
-      begun : (bytes : List ℕ) → IsWaiting e.lines bytes → 0 < length (e.lines.held ++ bytes) →
-          e.lines.before < TEXT_LINES
-      begun [] w some = h.begun
-          (let n = ap length (append-nil e.lines.held) in omega (arith, n, some))
-      begun (x ∷ xs) w some = (w.begins (omega arith)).1
+  could_take bytes w = grind (arith, common_steps, split_lines-append-open, open_taken, no_newline-append, represent_part)
 
 -- A read failed while bytes wait.
 pub unread_waiting : (o : Options) (e : EngineState Printer) (r₀ r₁ r₂ w₀ w₁ : Option (List ℕ))
@@ -296,17 +225,10 @@ module _ (o : Options) (e f : EngineState Printer) (text printed later front : L
     (k : EngineRepresentsBuffered printer_represents printer_piece f o (own_piece o) (text ++ front)
     later) where
   held_after : IsLineStart front → (front ≡ []) ⊎ (f.lines.held ≡ [])
-  held_after starts = by_end (ends_after text front starts)
-    where
-      by_end : (front ≡ []) ⊎ (partial_line (text ++ front) ≡ []) → (front ≡ []) ⊎
-          (f.lines.held ≡ [])
-      by_end h = grind arith
+  held_after starts = grind (arith, common_steps, ends_after)
 
   same_held : front ≡ [] → f.lines.held ≡ e.lines.held
-  same_held none =
-      sym (rest_is printer_represents printer_piece o (own_piece o) f (text ++ front) later k)
-      ∙ ap (λ x. partial_line (text ++ x)) none ∙ ap partial_line (append-nil text) ∙ rest_is
-      printer_represents printer_piece o (own_piece o) e text printed h
+  same_held none = grind (arith, common_steps, rest_is, own_piece)
 
   pub room_after : (room n : ℕ) → IsLineStart front → HasCapacity room e.lines CHUNK_BYTES → n ≤
       CHUNK_BYTES → HasCapacity room f.lines n

@@ -35,7 +35,7 @@ use Rattle.ud_model.proofs.text.Pushes.{by_push}
 use Rattle.ud_model.proofs.output.Changed.{lines_join}
 use Rattle.ud_simplified.proofs.SimplifiedLineTexts.{read_back_by}
 use Rattle.std.specs.List.{concat}
-use Rattle.std.proofs.lemmas.Grind.{flat_map-append}
+use Rattle.std.proofs.lemmas.Grind.{flat_map-append, common_steps}
 
 -- 1. Trees of which no condition is known.
 
@@ -137,10 +137,7 @@ unnumbered_texts (r ∷ rs) h = (h.0, unnumbered_texts rs h.1)
 
 alone : (r : Reading) (rs : List Reading) (d : Directive) → content_of r.scan ≡ directive d → IsLogical (r ∷ rs) → NotLong r → line_items (c_line (map unnumbered (r ∷ rs))) ≡ map c_item (r ∷ rs)
 alone r [] d e i n = one_directive r d e
-alone r (s ∷ rs) d e i n = let j = next_joined r s rs i ∙ i.one.1.0 in absurd (joined e n j)
-  where
-    joined : content_of r.scan ≡ directive d → NotLong r → r.scan.joins_after ≡ true → ⊥
-    joined p n j = grind (arith, p, n, j)
+alone r (s ∷ rs) d e i n = grind (arith, common_steps, next_joined)
 
 group_items : (g : List Reading) → IsLogical g → Each NotLong g → line_items (c_line (map unnumbered g)) ≡ map c_item g
 group_items [] i n = absurd i.one

@@ -22,6 +22,7 @@ use Rattle.ud_model.proofs.output.Formed.{IsEnd, EndsIn, ending_both, ending_fee
 use Rattle.ud_model.proofs.output.LeavesOff.{LeavesOff}
 use Rattle.ud_model.proofs.text.LinesLemmas.{no_newline-append}
 use Rattle.ud_model.proofs.text.ScanLaws.{place_after, masked_after, scan_from, scan_after_run-from}
+use Rattle.std.proofs.lemmas.Grind.{common_steps}
 
 -- A byte that begins nothing and ends nothing.
 pub record Quiet (b : ℕ) : Type 0 where
@@ -94,13 +95,7 @@ pub record IsQuiet (l : Line) : Type 0 where
 
 spliced_not : (l : Line) → IsQuiet l → is_spliced l ≡ false
 unfolding EndsIn
-spliced_not l q = go (ends_with nat_eq l.body (backslash ∷ [])) refl
-  where
-    go : (s : Bool) → ends_with nat_eq l.body (backslash ∷ []) ≡ s → is_spliced l ≡ false
-    go false e = ap (λ (s : Bool). s && not (is_empty l.ending)) e
-    go true e =
-        absurd (ends_quiet backslash (λ k. let p : true ≡ false = k.no_backslash in cc) l.body q.quiet
-        (take (length l.body - 1) l.body, (ends_is Decides-eqb l.body (backslash ∷ []) (ends_with nat_eq l.body (backslash ∷ [])) refl).0 e))
+spliced_not l q = grind (arith, common_steps, ends_quiet, ends_is, Decides-eqb)
 
 module _ (l : Line) (q : IsQuiet l) where
   all_content : content l ≡ l.body

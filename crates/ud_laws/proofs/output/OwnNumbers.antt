@@ -10,6 +10,7 @@ use Rattle.ud_model.specs.declared.kind.Mode.{Mode}
 use Rattle.ud_model.proofs.text.Pushes.{ByPush, none, push, by_push, push_not_nil}
 use Rattle.ud_laws.proofs.output.CountedText.{InOrder, numbered_in_order, order_last}
 use Rattle.ud_laws.proofs.output.PresumedNumbers.{LastLine, last_by, none_last}
+use Rattle.std.proofs.lemmas.Grind.{common_steps}
 
 abbrev line_of : Reading → Line
 line_of r = r.line
@@ -36,13 +37,7 @@ own_both [] p h k = (k, tt)
 own_both (q ∷ ps) p h k = (h.0, own_both ps p h.1 k)
 
 own_line : (ls : List Reading) (d : Reading) → line_operand d.scan ≡ None → d.line.number ≡ suc (length ls) → Own ls → Own (ls ++ d ∷ [])
-own_line ls d nil at h ps sure m p = by_last (last_by p ls d refl)
-  where
-    longer : suc (suc (length ls)) ≡ suc (length (ls ++ d ∷ []))
-    longer = let e = length-append ls (d ∷ []) in omega (arith, e)
-
-    by_last : {qs : List Presumed} {b : Bool} {k : ℕ} → LastLine ls d qs b k → (b ≡ true) × (k ≡ suc (length (ls ++ d ∷ []))) × HaveOwnNumbers qs
-    by_last q = grind (arith, longer, own_both)
+own_line ls d nil at h ps sure m p = grind (arith, common_steps, last_by, LastLine, own_both)
 
 own_first : Own []
 own_first ps sure m p = grind (arith, push_not_nil)

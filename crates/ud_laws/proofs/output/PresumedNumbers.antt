@@ -10,6 +10,7 @@ use Rattle.ud_laws.specs.output.InsertedNodes.{IsInserted}
 use Rattle.ud_laws.specs.output.PresumedLines.{line_operand, HaveNoLineDirective, GivesNumber, Presumed, Presumes, no_lines, passes, processes, obeys, IsLineFor, HasInputNumber, HaveInputNumbers}
 use Rattle.ud_model.proofs.text.Pushes.{push_not_nil}
 use Rattle.ud_model.proofs.output.Each.{Each, each_both, each_parts}
+use Rattle.std.proofs.lemmas.Grind.{common_steps}
 
 -- 1. The operand of an inserted line.
 
@@ -104,18 +105,7 @@ right_line js ss d n none h is ps sure m p = by_last (last_by p ss d refl)
 
 -- An inserted `#line`.
 right_number : (js : List Judged) (ss : List Reading) (d : Reading) (n k : ℕ) → k ≤ 2147483647 → IsNumberLine k d → Right js ss n → Right js (ss ++ d ∷ []) k
-right_number js ss d n k small is h ps sure m p = by_last (last_by p ss d refl)
-  where
-    some : line_operand d.scan ≡ Some (decimal k)
-    some = inserted_operand k d (omega (arith, small)) is
-
-    unsure : (b : Bool) (o : Option (List ℕ)) → o ≡ Some (decimal k) → (b && not (is_some o)) ≡ true → ⊥
-    unsure b o e f = grind arith
-
-    by_last : {qs : List Presumed} {b : Bool} {i : ℕ} → LastLine ss d qs b i → (b ≡ true → i ≡ k) × HaveInputNumbers js qs
-    by_last (passed {ps = qs} {sure = b} {n = i} q) = let r = h qs b i q in (λ e. absurd (unsure b (line_operand d.scan) some e), r.1)
-    by_last (processed {ps = qs} {sure = b} {n = i} q e) = let f : None ≡ Some (decimal k) = sym e ∙ some in cc
-    by_last (obeyed {ps = qs} {sure = b} {n = i} q l g) = grind (arith, some, decimal_injective, have_both)
+right_number js ss d n k small is h ps sure m p = grind (arith, common_steps, last_by, inserted_operand, decimal_injective, have_both)
 
 -- 3. Counted lines.
 

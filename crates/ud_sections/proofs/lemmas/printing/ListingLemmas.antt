@@ -5,6 +5,7 @@ use Rattle.ud_model.specs.text.Scans.{Reading}
 use Rattle.ud_model.specs.sections.Tree.{Item, Nodes, Head, Tree, text_line, if_line, elif_line, else_line, endif_line, depth}
 use Rattle.ud_model.specs.answer.Listing.{levels_of_nodes, levels_of_groups, levels_of_head, levels_from}
 use Rattle.ud_model.proofs.sections.Growth.{Adds, adds_text, adds_if, elif_after_if, elif_after_elif, else_after_if, else_after_elif, adds_endif, adds_under, complete}
+use Rattle.std.proofs.lemmas.Grind.{common_steps}
 
 -- a directive with a condition: other lines have no names
 abbrev pub has_condition : Item Reading → Bool
@@ -37,10 +38,4 @@ levels_grow n (adds_endif {ns = ns} {b = b} {h = h}) = record {
   levels_are = rw (groups_complete n h b) simp append_assoc;
   within = λ e. cc;
 }
-levels_grow n (adds_under {ns = ns} {h = h} {t = t} {u = u} {x = x} a) =
-    let g : LevelsGrow (suc n) t u x = levels_grow (suc n) a in
-    record {
-      level = g.level;
-      levels_are = rw g.levels_are simp append_assoc;
-      within = λ e. let k : suc g.level ≡ suc n + depth u = g.within e in omega (arith, k);
-    }
+levels_grow n (adds_under {ns = ns} {h = h} {t = t} {u = u} {x = x} a) = grind (arith, common_steps, levels_grow (suc n) a)

@@ -7,6 +7,7 @@ use Rattle.std.proofs.lemmas.Slice.Eq.{bytes_eq-Decides}
 use Rattle.std.proofs.lemmas.Bool.Decides.{nat_tests}
 use Rattle.std.proofs.Math.Seq.{take-append_seam, drop-length}
 use Rattle.std.proofs.lemmas.Bool.{false_from_ne_true}
+use Rattle.std.proofs.lemmas.Grind.{common_steps}
 
 same_byte : (b : ℕ) → nat_eq b b ≡ true
 same_byte b = grind (arith)
@@ -140,10 +141,7 @@ firsts (suc k) (p ∷ ps) = p ∷ firsts k ps
 take_firsts : (k n : ℕ) (ps : List (Bor (List ℕ))) → n ≤ k → bytes_of (take n (firsts k ps)) ≡ bytes_of (take n ps)
 take_firsts k zero ps h = refl
 take_firsts zero (suc n) ps h = absurd (omega (arith, h))
-take_firsts (suc k) (suc n) [] h = take_firsts k n [] (omega (arith, h)) ∙ none n
-  where
-    none : (m : ℕ) → bytes_of (take m []) ≡ []
-    none m = grind arith
+take_firsts (suc k) (suc n) [] h = grind (arith, common_steps, take_firsts k n [] (omega (arith, h)))
 take_firsts (suc k) (suc n) (p ∷ ps) h = ap (λ (t : List ℕ). p.now ++ t) (take_firsts k n ps (omega (arith, h)))
 
 four_firsts : (ps : List (Bor (List ℕ))) → firsts 4 ps ≡ get_or ps 0 no_part ∷ get_or ps 1 no_part ∷ get_or ps 2 no_part ∷ get_or ps 3 no_part ∷ []

@@ -13,6 +13,7 @@ use Rattle.ud_text.specs.bulk.Blocks.{significant_bits}
 use Rattle.ud_text.specs.bulk.BulkLexemes.{is_significant}
 use Rattle.ud_text.proofs.lemmas.searching.SimdLemmas.{search_take, search_drop, search_bound}
 use Rattle.ud_text.proofs.lemmas.bulk.StepLemmas.{drop_both}
+use Rattle.std.proofs.lemmas.Grind.{common_steps}
 
 half : (b : Bool) (n : ℕ) → (cond b 1 0 + 2 * n) / 2 ≡ n
 half b n = grind arith
@@ -85,12 +86,7 @@ module _ (bytes : List ℕ) (begin at bits : ℕ) (is : bits ≡ significant_bit
 
   none_at_all : bits / 2 ^ (at - begin) ≡ 0 → length bytes < begin + 64 → (end : ℕ) → end ≡ length bytes →
       end + position_or_len is_significant (drop end bytes) ≡ at + position_or_len is_significant (drop at bytes)
-  none_at_all none short end e =
-      let all : take (begin + 64 - at) (drop at bytes) ≡ drop at bytes = take_all (begin + 64 - at) (drop at bytes) (omega (arith, length-drop at bytes)) in
-      let zero_bits : significant_bits (drop at bytes) ≡ 0 = ap significant_bits (sym all) ∙ sym left ∙ none in
-      let here : position_or_len is_significant (drop at bytes) ≡ length (drop at bytes) = leading_from_mask_l is_significant (drop at bytes) zero_bits in
-      let last : position_or_len is_significant (drop end bytes) ≤ length (drop end bytes) = search_bound is_significant (drop end bytes) (position_or_len is_significant (drop end bytes)) refl in
-      omega (arith, here, last, length-drop at bytes, length-drop end bytes)
+  none_at_all none short end e = grind (arith, common_steps, take_all, length-drop, left, leading_from_mask_l, search_bound)
 
   -- what comes next lies after the block, if no bit remains
   pub left_empty : bits / 2 ^ (at - begin) ≡ 0 → (end : ℕ) → end ≡ min (begin + 64) (length bytes) →

@@ -3,6 +3,7 @@ use Rattle.std.proofs.Common.{arith, ◌≡◌, ℕ, List, [], ◌∷◌, ◌++�
 use Rattle.ud_model.specs.text.Bytes.{is_white, skip_white, newline}
 use Rattle.ud_text.specs.bulk.BulkStates.{next_bulk_state, stops_bulk, NoNewlineInBlock, bulk_state_after, BulkState, HasNoStop, is_other_word, starts_with_no_keyword}
 use Rattle.ud_model.proofs.text.ScanLaws.{place_after, white_after}
+use Rattle.std.proofs.lemmas.Grind.{common_steps}
 
 -- bytes lead on from the state to which the bytes before them lead
 pub bulk_state_after-append : (s : BulkState) (p q : List ℕ) → bulk_state_after s (p ++ q) ≡ bulk_state_after (bulk_state_after s p) q
@@ -22,10 +23,7 @@ bulk_state_after-white s (b ∷ p) = bulk_state_after-white (next_bulk_state s b
 -- a word that is no keyword stays one with further bytes
 pub other-append : (p q : List ℕ) → is_other_word p ≡ true → is_other_word (p ++ q) ≡ true
 other-append [] q e = cc
-other-append (a ∷ p) q e = by_white (other-append p q) (is_white a) e
-  where
-    by_white : (is_other_word p ≡ true → is_other_word (p ++ q) ≡ true) → (t : Bool) → starts_with_no_keyword (if t then skip_white p else a ∷ p) ≡ true → starts_with_no_keyword (if t then skip_white (p ++ q) else a ∷ (p ++ q)) ≡ true
-    by_white h t k = grind arith
+other-append (a ∷ p) q e = grind (arith, common_steps, other-append p q)
 
 stops_bulk-append : (s : BulkState) (b : ℕ) (p q : List ℕ) → stops_bulk s b p ≡ false → stops_bulk s b (p ++ q) ≡ false
 stops_bulk-append s b p q h = grind (arith, other-append)

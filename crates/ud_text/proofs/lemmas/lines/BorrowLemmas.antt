@@ -13,6 +13,7 @@ use Rattle.ud_text.proofs.lemmas.lines.NewlineLemmas.{up_to_newline-once, whole_
 use Rattle.ud_text.proofs.lemmas.scan.MaskLemmas.{no_newline-take}
 use Rattle.ud_text.proofs.lemmas.lines.LinesLemmas.{represent_take, represent_clear}
 use Rattle.ud_model.proofs.output.Formed.{feed_inside}
+use Rattle.std.proofs.lemmas.Grind.{common_steps}
 
 -- there are no bytes, if their number is 0
 pub none_held : (bytes : List ℕ) (empty : Bool) → empty ≡ (length bytes == 0) → not empty ≡ false → bytes ≡ []
@@ -74,14 +75,7 @@ borrowed_no_newline chunk body ending line n f e =
 -- the line can be borrowed
 pub can_borrow : (lines : LinesState) (chunk body ending line : List ℕ) (n : ℕ) → lines.held ≡ [] → lines.fault ≡ None → lines.before < lines.last_line →
     IsFirstLine chunk line → IsLineOf body ending n (line_at n line) → CanBorrow lines chunk (length (body ++ ending))
-can_borrow lines chunk body ending line n unheld no_fault numbered f e =
-    subst (λ (l : List ℕ). CanBorrow lines chunk (length l)) (sym (joined_is body ending line n e)) (record {
-      unheld = unheld;
-      no_fault = no_fault;
-      prefix = f.prefix;
-      fits = f.fits;
-      numbered = numbered;
-    })
+can_borrow lines chunk body ending line n unheld no_fault numbered f e = grind (arith, common_steps, joined_is)
 
 -- after a line that is taken and consumed nothing is buffered, as before
 consumed_line : (lines : LinesState) (text chunk : List ℕ) (used : ℕ) → lines.held ≡ [] → lines.whole ≡ false → UpToNewline chunk used true → LinesRepresent lines text →

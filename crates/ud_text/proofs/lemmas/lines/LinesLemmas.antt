@@ -6,6 +6,7 @@ use Rattle.ud_model.proofs.text.LinesLemmas.{are_whole, partial_line-open, split
 use Rattle.ud_text.specs.lines.LinesState.{LinesState, LinesRepresent, UpToNewline, IsLastLine}
 use Rattle.ud_text.proofs.lemmas.lines.NewlineLemmas.{whole_newlineless}
 use Rattle.ud_text.proofs.lemmas.scan.MaskLemmas.{no_newline-take}
+use Rattle.std.proofs.lemmas.Grind.{common_steps}
 
 -- nothing is buffered of a text without bytes
 pub represent_nothing : (l : LinesState) → l.held ≡ [] → l.whole ≡ false → l.before ≡ 0 → LinesRepresent l []
@@ -36,13 +37,7 @@ last_whole (k ∷ ls) m w = last_whole ls m w.1
 
 -- the body of the buffered line has no newline
 pub represent_body : (n : ℕ) (l : LinesState) (text : List ℕ) → LinesRepresent l text → NoNewline (line_at n l.held).body
-represent_body n l text h = by_end l.whole refl
-  where
-    by_end : (whole : Bool) → l.whole ≡ whole → NoNewline (line_at n l.held).body
-    by_end true w = whole_newlineless n l.held (last_whole h.consumed l.held
-        (subst AreWhole (ap (λ (q : SplitLines). q.whole) (represent_whole l text w h)) (are_whole text)))
-    by_end false w = no_newline-take (length l.held - length (ending_of l.held)) l.held
-        (subst NoNewline (ap (λ (q : SplitLines). q.rest) (represent_part l text w h)) (partial_line-open text))
+represent_body n l text h = grind (arith, common_steps, whole_newlineless, last_whole, represent_whole, are_whole, no_newline-take, represent_part, partial_line-open)
 
 -- the consumed lines and the buffered one are the lines of the text
 pub texts_of-represented : (l : LinesState) (text : List ℕ) → 0 < length l.held → (h : LinesRepresent l text) → texts_of text ≡ h.consumed ++ l.held ∷ []

@@ -11,6 +11,7 @@ use Rattle.ud_model.specs.text.Lines.{NoNewline, IsWhole, line_at}
 use Rattle.ud_text.specs.lines.LinesState.{UpToNewline}
 use Rattle.ud_text.proofs.lemmas.scan.MaskLemmas.{no_newline-take}
 use Rattle.ud_model.proofs.output.Formed.{feed_inside}
+use Rattle.std.proofs.lemmas.Grind.{common_steps}
 
 -- bytes have no newline, if a search finds none among them
 pub no_newline_front : (s : List ℕ) (n : ℕ) → Nowhere (Passes (is_byte 10) s) 0 n → NoNewline (take n s)
@@ -79,15 +80,4 @@ up_to_newline-some chunk used true a some =
 
 -- a line that ends in its newline has none in its body
 pub whole_newlineless : (n : ℕ) (l : List ℕ) → IsWhole l → NoNewline (line_at n l).body
-whole_newlineless n l w =
-    by_tests (ends_with nat_eq l (13 ∷ 10 ∷ [])) (ends_with nat_eq l (10 ∷ []))
-    ((ends_is Decides-eqb l (10 ∷ []) (ends_with nat_eq l (10 ∷ [])) refl).1 w.0 w.2)
-  where
-    len : length l ≡ length w.0 + 1
-    len = ap length w.2 ∙ length-append w.0 (10 ∷ [])
-
-    front_of : (k : ℕ) → k ≤ length w.0 → NoNewline (take k l)
-    front_of k h = grind (arith, take-append-le, no_newline-take)
-
-    by_tests : (a b : Bool) → b ≡ true → NoNewline (take (length l - length {A = ℕ} (if a then 13 ∷ 10 ∷ [] else if b then 10 ∷ [] else [])) l)
-    by_tests a b h = grind (arith, front_of, len)
+whole_newlineless n l w = grind (arith, common_steps, ends_is, Decides-eqb, length-append, take-append-le, no_newline-take)

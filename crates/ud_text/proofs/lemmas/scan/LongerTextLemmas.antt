@@ -17,6 +17,7 @@ use Rattle.ud_text.specs.lines.LinesState.{UpToNewline}
 use Rattle.ud_text.proofs.lemmas.scan.ScannerLemmas.{ends_in_block_last}
 use Rattle.ud_text.proofs.lemmas.lines.NewlineLemmas.{up_to_newline-some}
 use Rattle.ud_text.proofs.lemmas.lines.ConsumeLemmas.{lines_counted}
+use Rattle.std.proofs.lemmas.Grind.{common_steps}
 
 -- 1. The lines of a longer text.
 
@@ -91,10 +92,7 @@ module _ (rest : List ℕ) (used : ℕ) (w : Bool) (to : UpToNewline rest used w
   open_by h = grind (arith, take_all, split_lines-open)
 
   not_none : take used rest ≢ []
-  not_none e = let l : 0 < used = up_to_newline-some rest used w to some in
-      let n : length (take used rest) ≡ used = length-take-le used rest to.within in
-      let z : length (take used rest) ≡ 0 = ap (λ (x : List ℕ). length x) e in
-      absurd (omega arith)
+  not_none e = grind (arith, common_steps, up_to_newline-some, length-take-le)
 
   pub one_text : texts_of (take used rest) ≡ take used rest ∷ []
   one_text = grind (arith, whole_by, open_by, last_line-some, not_none)

@@ -1,4 +1,4 @@
-use Rattle.std.proofs.Common.{◌≡◌, ◌∙◌, ◌∷◌, false, true, if◌then◌else◌, sym, ap}
+use Rattle.std.proofs.Common.{◌≡◌, ◌∙◌, ◌∷◌, false, true, if◌then◌else◌, sym, ap, arith}
 use Rattle.ud_model.specs.conditions.Expressions.{is_prefix}
 use Rattle.ud_model.specs.conditions.Parsing.{reads, step, needs, has, before, paren, stuck}
 use Rattle.ud_cond.specs.CondViews.{as_token}
@@ -6,6 +6,7 @@ use Rattle.ud_cond.specs.expressions.Keepings.{flags_in}
 use Rattle.ud_cond.proofs.lemmas.expressions.ReadingLemmas.{reads-stuck}
 use Rattle.ud_cond.proofs.lemmas.expressions.DefinedLemmas.{asked, asked_none}
 use Rattle.ud_cond.proofs.expressions.reader.read_operand.Goals as goal
+use Rattle.std.proofs.lemmas.Grind.{common_steps}
 
 pub returns-in_err-name-in-Defined-clause-none : goal.returns-in_err-name-in-Defined-clause-none
 returns-in_err-name-in-Defined-clause-none g c = let m = g.K.Keeper.meaning c.args.keeper.now in
@@ -13,12 +14,7 @@ returns-in_err-name-in-Defined-clause-none g c = let m = g.K.Keeper.meaning c.ar
     (λ s. ap (λ t. reads m (step m (needs s) (as_token t)) c.args.rest.now) c.in-Defined.is ∙ asked_none m s c.args.rest.now (sym c.in_err-name-in-Defined.ensures.name))
 
 pub returns-then-not-is_prefix-clause-none : goal.returns-then-not-is_prefix-clause-none
-returns-then-not-is_prefix-clause-none g c = λ s.
-    let m = g.K.Keeper.meaning c.args.keeper.now in
-    let between : is_prefix c.in-Operator.operator ≡ false = sym c.is_prefix.ensures ∙ c.if-not-is_prefix.true in
-    ap (λ t. reads m (step m (needs s) (as_token t)) c.args.rest.now) c.in-Operator.is
-    ∙ ap (λ b. reads m (if b then needs (before c.in-Operator.operator ∷ s) else stuck) c.args.rest.now) between
-    ∙ reads-stuck m c.args.rest.now
+returns-then-not-is_prefix-clause-none g c = grind (arith, common_steps, reads-stuck)
 
 pub returns-in-Number-clause-some : goal.returns-in-Number-clause-some
 returns-in-Number-clause-some g c = λ s h.

@@ -4,6 +4,7 @@ use Rattle.ud_cond.specs.expressions.Stacks.{weight, popped, BindsAsTightly, IsS
 use Rattle.ud_cond.specs.expressions.Keepings.{IsAt}
 use Rattle.ud_cond.proofs.lemmas.expressions.KeepingLemmas.{next_binary, next_prefix, settled_is}
 use Rattle.ud_cond.proofs.expressions.reader.reduce.Goals as goal
+use Rattle.std.proofs.lemmas.Grind.{common_steps}
 
 pub waiting-preserved-in-Some-operand : goal.waiting-preserved-in-Some-operand
 waiting-preserved-in-Some-operand g c = let K = g.K.Keeper.keeping in
@@ -35,10 +36,4 @@ waiting-preserved g c = let K = g.K.Keeper.keeping in
     )
 
 pub returns-clause-kept : goal.returns-clause-kept
-returns-clause-kept g c = λ s k e.
-    let K = g.K.Keeper.keeping in
-    let i = c.waiting.invariant.0 s k e in
-    let h = subst (λ (ps : List (Frame g.row.K-Part.Denot)). IsSettled c.args.least ps) i.2.0 c.in_default.ensures.none.1 in
-    subst (λ (q : g.K.Keeper.Meant × List (Frame g.K.Keeper.Meant)). IsAt K c.pop_operator.new.self c.waiting.part
-    c.waiting.notes q) (sym (i.3 ∙ settled_is K (g.K.Keeper.meaning c.args.keeper.now) c.args.least i.1 i.0 h))
-    (c.in_default.ensures.none.0 ∙ i.2.0, i.2.1)
+returns-clause-kept g c = grind (arith, common_steps, settled_is)

@@ -1,4 +1,4 @@
-use Rattle.std.proofs.Common.{Some, None, ◌≡◌, ◌∙◌, sym, ap, subst}
+use Rattle.std.proofs.Common.{Some, None, ◌≡◌, ◌∙◌, sym, ap, subst, arith}
 use Rattle.std.proofs.lemmas.List.{get_or_read}
 use Rattle.ud_model.specs.conditions.Table.{entry_in}
 use Rattle.ud_cond.specs.symbols.SymbolTable.{no_row, IsRowOf}
@@ -9,6 +9,7 @@ use Rattle.ud_cond.proofs.lemmas.symbols.FilterLemmas.{none-unmarked}
 use Rattle.ud_cond.proofs.lemmas.symbols.SortedLemmas.{last-row, none-at_all}
 use Rattle.ud_cond.proofs.symbols.Symbols.find.Goals as goal
 use Rattle.ud_cond.proofs.symbols.Symbols.find.Goals.{After-entry, In-Err, Then-not-may_contain}
+use Rattle.std.proofs.lemmas.Grind.{common_steps}
 
 -- the entry of the row is the table's entry
 found : (c : After-entry) → Some (as_entry c.entry.result) ≡ entry_in c.args.self.now c.args.name.now
@@ -25,11 +26,7 @@ missed c = sym (entry_from-none None c.args.self.now c.args.name.now (none-at_al
 
 -- a name whose slot isn't set has no row
 unmarked : (c : Then-not-may_contain) → None ≡ entry_in c.args.self.now c.args.name.now
-unmarked c =
-    let none = none-unmarked (has_slot c.self.inside.filter.words) c.self.inside.rows.items c.args.name.now
-    c.self.invariant.1 (ap (slot_is_set c.self.inside.filter.words) (sym c.key_of-key.ensures)
-    ∙ sym c.may_contain.ensures ∙ c.if-not-may_contain.true) in
-    sym (entry_from-none None c.self.inside.rows.items c.args.name.now none) ∙ ap (λ rows. entry_in rows c.args.name.now) c.self.view_is
+unmarked c = grind (arith, common_steps, none-unmarked, entry_from-none)
 
 pub returns-then-not-may_contain-clause-value : goal.returns-then-not-may_contain-clause-value
 returns-then-not-may_contain-clause-value c = unmarked c

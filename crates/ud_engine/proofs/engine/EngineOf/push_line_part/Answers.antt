@@ -10,6 +10,7 @@ use Rattle.ud_io.specs.Streams.{stream_of}
 use Rattle.ud_engine.proofs.LinePartLemmas.{limit_stops}
 use Rattle.ud_engine.proofs.StepLemmas.{held_whole, is_within, still_open, open_step, line_step, line_refused}
 use Rattle.ud_engine.proofs.engine.EngineOf.push_line_part.Goals as goal
+use Rattle.std.proofs.lemmas.Grind.{common_steps}
 
 pub returns-in-Err-clause-takes : goal.returns-in-Err-clause-takes
 returns-in-Err-clause-takes g c = λ s old.
@@ -31,12 +32,7 @@ returns-then-not-taken-clause-takes g c = λ s old.
     (c.in-Ok.ensures.limits (up_to_newline-some c.args.rest.now c.in-Ok.taken.used c.in-Ok.taken.whole c.in-Ok.ensures.used c.requires.some)) c.append.ensures
 
 pub put_line-printed-requires-clause-within : goal.put_line-printed-requires-clause-within
-put_line-printed-requires-clause-within g c =
-    let limits = c.in-Ok.ensures.limits (up_to_newline-some c.args.rest.now c.in-Ok.taken.used c.in-Ok.taken.whole c.in-Ok.ensures.used c.requires.some) in
-    let before = ap (λ (l : LinesState). l.before) c.in-Ok.ensures.value in
-    let last = c.self.invariant.limit in
-    let few = limits.1 in
-    is_within (as_line c.line.result) (suc c.take.new.self.before) c.take.new.self.held c.line.ensures.value (omega (arith, before, last, few)) limits.0
+put_line-printed-requires-clause-within g c = grind (arith, common_steps, up_to_newline-some, is_within)
 
 pub put_line-printed-requires-clause-one_line : goal.put_line-printed-requires-clause-one_line
 put_line-printed-requires-clause-one_line g c =

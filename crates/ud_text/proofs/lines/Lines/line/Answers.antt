@@ -1,9 +1,10 @@
-use Rattle.std.proofs.Common.{◌≡◌, true, suc, ◌+◌, ◌<◌, length, inl, inr, sym, subst, ap, add-one}
+use Rattle.std.proofs.Common.{◌≡◌, true, suc, ◌+◌, ◌<◌, length, inl, inr, sym, subst, ap, add-one, arith}
 use Rattle.ud_model.specs.text.Lines.{NoNewline, Line, SplitLines, line_at}
 use Rattle.ud_text.specs.lines.LinesState.{LinesState, IsLineOf, IsComplete}
 use Rattle.ud_text.specs.contracts.lines.Lines.{the_view}
 use Rattle.ud_text.proofs.lemmas.lines.LinesLemmas.{represent_body, represent_last, represent_whole, represent_rest}
 use Rattle.ud_text.proofs.lines.Lines.line.Goals as goal
+use Rattle.std.proofs.lemmas.Grind.{common_steps}
 
 -- a line that can be read has bytes
 some_held : (lines : LinesState) → (lines.whole ≡ true → 0 < length lines.held) → IsComplete lines → 0 < length lines.held
@@ -20,11 +21,7 @@ returns-clause-one_line g c = λ text took.
     subst (λ (l : Line). NoNewline l.body) (sym (returns-clause-value g c)) (represent_body (suc c.args.self.now.before) c.args.self.now text took)
 
 pub returns-clause-represents : goal.returns-clause-represents
-returns-clause-represents g c = λ text took.
-    represent_last c.args.self.now text
-    (subst (λ (l : LinesState). 0 < length l.held) c.self.view_is
-    (some_held (the_view g.row.H g.H.LineBuffer c.self.inside) c.self.invariant.3 (subst IsComplete (sym c.self.view_is) c.requires.complete)))
-    took
+returns-clause-represents g c = grind (arith, common_steps, represent_last, some_held)
 
 pub returns-clause-whole : goal.returns-clause-whole
 returns-clause-whole g c = λ whole text took. (took.consumed, ap (λ (q : SplitLines). q.whole) (represent_whole c.args.self.now text whole took))

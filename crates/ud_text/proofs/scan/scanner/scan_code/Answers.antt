@@ -1,5 +1,5 @@
 -- The state carried over the line, and the line's scan, by the lexer's state after its content.
-use Rattle.std.proofs.Common.{rules, ◌≡◌, ◌∙◌, sym, ap, ap₂, refl, subst, List, ℕ, Bool, true, false, ◌||◌, ◌++◌, length}
+use Rattle.std.proofs.Common.{rules, ◌≡◌, ◌∙◌, sym, ap, ap₂, refl, subst, List, ℕ, Bool, true, false, ◌||◌, ◌++◌, length, arith}
 use Rattle.ud_model.specs.text.Lines.{NoNewline}
 use Rattle.ud_model.specs.text.Scans.{Reading}
 use Rattle.ud_model.specs.text.Splicing.{is_spliced, content, spliced_text, c_run_of}
@@ -12,6 +12,7 @@ use Rattle.ud_text.proofs.lemmas.scan.ScannerLemmas.{represents_code, scan_carri
 use Rattle.ud_text.proofs.scan.scanner.scan_code.Given.{Over}
 use Rattle.ud_text.proofs.scan.scanner.scan_code.Goals as goal
 use Rattle.ud_text.proofs.scan.scanner.scan_code.Goals.{After-comment_at, then-spliced, else-spliced}
+use Rattle.std.proofs.lemmas.Grind.{common_steps}
 
 pub mask_or_borrow-requires : goal.mask_or_borrow-requires
 mask_or_borrow-requires g c =
@@ -25,10 +26,7 @@ mask_or_borrow-requires g c =
 shown_content : (g : Over) (c : After-comment_at g) (before : List Reading) → ScannerRepresents (scanner_state_of c.args.scan_state) before →
     Masks (length (spliced_text (c_run_of before))) (spliced_text (c_run_of before) ++ content (as_line c.args.line.now)) (lex_state_of c.mask_or_borrow.result.0.state)
     c.mask_or_borrow.result.0.white (shown_in c.mask_or_borrow.result.1 (g.H.LineBuffer.items c.mask_or_borrow.new.masked))
-shown_content g c before h =
-    subst (λ (l : List ℕ). Masks (length (spliced_text (c_run_of before))) (spliced_text (c_run_of before) ++ l) (lex_state_of c.mask_or_borrow.result.0.state)
-    c.mask_or_borrow.result.0.white (shown_in c.mask_or_borrow.result.1 (g.H.LineBuffer.items c.mask_or_borrow.new.masked))) c.content-bytes.ensures
-    (c.mask_or_borrow.ensures.masks (spliced_text (c_run_of before)) h.reads)
+shown_content g c before h = grind (arith, common_steps)
 
 or_true : (a b : Bool) → a ≡ true → a ≡ (a || b)
 or_true true b e = refl

@@ -7,13 +7,10 @@ use Rattle.ud_cond.specs.expressions.Evaluation.{binary_value_of}
 use Rattle.ud_cond.specs.expressions.ResidualReading.{Kept, part_of}
 use Rattle.ud_cond.proofs.lemmas.expressions.ResidualLemmas.{other_binary, joining_binary, leaf_same, to_end, all_kept-replicate, none_lost, both_kept, length_with_operator}
 use Rattle.ud_cond.proofs.expressions.residuals.ResidualsKeeper.binary.Goals as goal
+use Rattle.std.proofs.lemmas.Grind.{common_steps}
 
 pub returns-then-is_joining-clause-kept : goal.returns-then-is_joining-clause-kept
-returns-then-is_joining-clause-kept c = λ k j front e g f.
-    let r = as_rules c.args.self.now.rules in
-    let h = joining_binary r c.args.operator k j (sym c.is_joining.ensures ∙ c.if-is_joining.true) in
-    let w = c.join.ensures.kept k j front e g f in
-    (w.0 ∙ ap (λ (x : Kept). part_of x (length front)) (sym h), w.1 ∙ ap (λ (x : Kept). front ++ x.flags) (sym h))
+returns-then-is_joining-clause-kept c = grind (arith, common_steps, joining_binary)
 
 pub returns-clause-kept : goal.returns-clause-kept
 returns-clause-kept c = λ k j front e g f.

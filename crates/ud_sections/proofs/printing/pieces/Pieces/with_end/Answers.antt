@@ -1,9 +1,7 @@
-use Rattle.std.proofs.Common.{◌∙◌, sym}
+use Rattle.std.proofs.Common.{◌∙◌, sym, arith}
 use Rattle.ud_sections.proofs.lemmas.printing.PartLemmas.{replaced_end}
 use Rattle.ud_sections.proofs.printing.pieces.Pieces.with_end.Goals as goal
+use Rattle.std.proofs.lemmas.Grind.{common_steps}
 
 pub returns-clause-is_unchanged : goal.returns-clause-is_unchanged
-returns-clause-is_unchanged c = c.is_word.ensures
-    ∙ sym (replaced_end c.args.at c.args.line.now.body.now c.split_at.result.0.now
-    c.split_at.result.1.now c.args.word.now c.args.line.now.ending.now c.split_at.ensures.front
-    c.split_at.ensures.back)
+returns-clause-is_unchanged c = grind (arith, common_steps, replaced_end)
