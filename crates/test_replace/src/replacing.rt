@@ -5,8 +5,8 @@ use std::process::Abort;
 use std::test::Fail;
 use ud_args::plan;
 use ud_engine::RunFault;
-use ud_sections::SectionFault;
 use ud_replace::{FileId, ReplaceError, Target, TextPlan, Update, replace};
+use ud_sections::SectionFault;
 
 /// A text for which the output is `OUTPUT`.
 const TEXT: &[u8] = b"#ifdef A\nx\n#endif\n";

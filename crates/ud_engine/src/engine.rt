@@ -26,6 +26,7 @@ ghost use Rattle.ud_engine.specs.Feeding.{IsOpen, WriterMatches};
 ghost use Rattle.ud_engine.specs.Finishing.{PrintsRest, without_fault};
 ghost use Rattle.ud_engine.specs.Advancing.{IsCursor};
 
+use crate::fault::RunFault;
 use crate::line_decider::LineRoom;
 use crate::line_processor::LineProcessor;
 use crate::output::Output;
@@ -35,7 +36,6 @@ use std::marker::Model;
 use std::mem;
 use ud_args::Plan;
 use ud_cond::Symbols;
-use crate::fault::RunFault;
 use ud_io::Watched;
 use ud_model::TEXT_LINES;
 use ud_sections::Show;

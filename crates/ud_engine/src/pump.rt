@@ -15,9 +15,9 @@ ghost use Rattle.ud_engine.specs.Waiting.{IsWaiting, IsFurther, FeedsAllBut, Sto
 ghost use Rattle.ud_model.specs.declared.limits.TheConstants.{LINE_BYTES};
 
 use crate::engine::{Engine, EngineOf};
+use crate::fault::RunFault;
 use std::io::{Read, Write};
 use ud_args::Plan;
-use crate::fault::RunFault;
 use ud_io::Watched;
 use ud_sections::Printer;
 use ud_text::{LineBuffer, LongLineBuffer, ShortLineBuffer, last_line_start};

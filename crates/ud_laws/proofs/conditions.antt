@@ -16,7 +16,5 @@ pub mod ChoiceValues
 pub mod ResidualTruth
 pub mod ResidualOperands
 pub mod ResidualAgain
-pub mod ResidualUnknown
-pub mod ReducedTrees
 pub mod StayedChoices
 pub mod OneValue

@@ -19,7 +19,6 @@
 pub mod SelectedAgain
 pub mod PrunedGroups
 pub mod SelectedSomewhere
-pub mod LiveWorlds
 pub mod OnlyDead
 pub mod LiveAnswers
 pub mod ProcessedPruned
@@ -35,7 +34,6 @@ pub mod ListComplete
 pub mod SymbolsGone
 pub mod BlankedLineLemmas
 pub mod SharedLineLemmas
-pub mod StrictTrees
 pub mod StrictRuns
 pub mod LoneLines
 pub mod Inserting
@@ -52,9 +50,7 @@ pub mod PresumedSelected
 pub mod FlagArguments
 pub mod OptionAnswers
 pub mod ReachedPruned
-pub mod ReachedAlike
 pub mod SimplifiedConditions
-pub mod SimplifiedItems
 pub mod SimplifiedTree
 pub mod SimplifiedAgain
 pub mod SimplifiedRuns

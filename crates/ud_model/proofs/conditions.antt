@@ -2,7 +2,7 @@
 --
 --   TokenLemmas.tokens_of_are           the computed tokens of a text are its tokens;
 --                                       `tokens_of_only`: no others are
---   ParsingSound.sound                  tokens that are parsed as a tree are those of the tree
+--   OneExpression.sound                 tokens that are parsed as a tree are those of the tree
 --   ParsingComplete.complete            and the tokens of a tree are parsed as it
 --   OneExpression.one_expression        a text has one tree at most
 --   OneExpression.expression_is         and it is the computed one
@@ -17,14 +17,11 @@
 pub mod Readings
 pub mod SymbolLemmas
 pub mod ConditionLemmas
-pub mod KnownNumbers
 pub mod KnownStays
 pub mod ParsingComplete
-pub mod ParsingSound
 pub mod TokenLemmas
 pub mod OneExpression
 pub mod DecidedConditions
 pub mod SpreadTexts
-pub mod SpacesInFront
 pub mod KeptTokens
 pub mod ResidualSame

@@ -22,10 +22,8 @@ pub mod PrunedHeights
 pub mod Formed
 pub mod RereadLaws
 pub mod Heeding
-pub mod ExchangedContent
 pub mod ExchangedScan
 pub mod DirectiveFront
-pub mod TreeAlong
 pub mod Undecided
 pub mod KeywordPlace
 pub mod EditedScan

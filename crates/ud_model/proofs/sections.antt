@@ -10,7 +10,6 @@
 pub mod Growth
 pub mod Unique
 pub mod Stays
-pub mod Heights
 pub mod Soundness
 pub mod FaultStays
 pub mod Keywords

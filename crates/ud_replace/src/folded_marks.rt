@@ -18,8 +18,7 @@ use crate::line_marks::marks_of;
 use crate::marked::REMOVED;
 use crate::text_plan::TextPlan;
 use std::alloc::{AllocError, Global};
-use ud_passes::{EDITED, SAME};
-use ud_passes::fold;
+use ud_passes::{EDITED, SAME, fold};
 use ud_text::line_in;
 
 /// The vertical tab, which represents a newline that continues a directive.

@@ -3,8 +3,8 @@
 //! The marks only say where a diff looks, and which blank lines a squeezed output loses. Whatever
 //! they are, the hunks turn the text into the output, and back, and no other line is lost.
 
-use ud_passes::EDITED;
 use ud_model::{Settings, Verdict};
+use ud_passes::EDITED;
 use ud_sections::{LineOutput, Pieces, Show, Step};
 use ud_text::Line;
 

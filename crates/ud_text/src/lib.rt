@@ -12,8 +12,9 @@ mod scan;
 mod searching;
 
 pub use bulk::hash_sign::is_other_word;
-pub use lines::{LineBuffer, Lines, LongLineBuffer, ShortLineBuffer, Taken, TextFault};
-pub use lines::{count_lines, line_in};
+pub use lines::{
+    LineBuffer, Lines, LongLineBuffer, ShortLineBuffer, Taken, TextFault, count_lines, line_in,
+};
 pub use scan::{GrowingBuffer, Scanner, first_mark, law_same_scans};
 pub use searching::last_line_start;
 pub use ud_model::{CommentAt, Line, Scan};

@@ -37,8 +37,8 @@ pub record Grows (paths : List (List ℕ)) (w v : Walk) : Type 0 where
   pub stay : All (Contains v.found.items) w.found.items
   pub allowed : AddsAllowed (map string_bytes w.patterns.now) paths w.found.items v.found.items
 
--- `Catches paths old new w v`: since `old`, only calls of a walk were made. The walk has gone on from
--- `w` to `v`, and each regular file that one of these calls met is taken.
+-- `Catches paths old new w v`: since `old`, only calls of a walk were made. The walk has gone on
+-- from `w` to `v`, and each regular file that one of these calls met is taken.
 pub record Catches (paths : List (List ℕ)) (old new : List Call) (w v : Walk) : Type 0 where
   pub calls : List WalkCall
   pub are : new ≡ map walked calls ++ old

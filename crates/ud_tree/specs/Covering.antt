@@ -17,8 +17,8 @@
 --   MissesNone args text old new has found told   a whole walk from the arguments' paths
 --
 -- `calls` are the calls of a walk, the newest first. `due path` says that a directory was listed or
--- is waiting, `has path id` (`has found path id`) that a file was found, and `told` that the walk has
--- a message.
+-- is waiting, `has path id` (`has found path id`) that a file was found, and `told` that the walk
+-- has a message.
 use Rattle.std.specs.Prelude.{◌≡◌, ◌⊎◌, ℕ, List, [], ◌∷◌, ◌++◌, Bool, true, false, IsUtf8, codes}
 use Rattle.std.specs.Prelude.{string_bytes, map, length, ◌+◌, ◌<◌, ◌^◌, ◌==◌, if◌then◌else◌}
 use Rattle.std.specs.List.{All, Contains}

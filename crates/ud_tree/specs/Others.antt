@@ -100,8 +100,8 @@ pub record WalksOthers (args : Arguments) (old new : List Call) (all : List Foun
       (any_name (map string_bytes args.patterns.items)) old new StandsIn all
       (0 < length messages)
 
--- `ReadsOthers args files all old new others`: the files of `all` that aren't among `files` were read
--- in turn, and `others` are those that name a symbol.
+-- `ReadsOthers args files all old new others`: the files of `all` that aren't among `files` were
+-- read in turn, and `others` are those that name a symbol.
 pub record ReadsOthers (args : Arguments) (files all : List Found) (old new : List Call)
     (others : List Found) : Type 0 where
   pub looks : List Look

@@ -185,8 +185,8 @@ pub record StopsWalk (from_input : Bool) (left : Source) (calls calls' : List Ca
   pub stops : Stops from_input left messages told
   pub tells : Tells old new (joined messages ++ told)
 
--- `TakesEach given left calls calls' found told`: the input was read whole, and each of its paths was
--- given.
+-- `TakesEach given left calls calls' found told`: the input was read whole, and each of its paths
+-- was given.
 pub record TakesEach (given left : Source) (calls calls' : List Call) (found : List Found)
     (told : Type 0) : Type 0 where
   pub text : List ℕ

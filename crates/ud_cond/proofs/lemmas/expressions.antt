@@ -7,7 +7,6 @@
 --   ResidualLemmas.leaf_same     the part of an operand
 --   StackLemmas.settled-top      a looser operator on top isn't popped
 pub mod ReadingLemmas
-pub mod DefinedLemmas
 pub mod StackLemmas
 pub mod NamedLemmas
 pub mod EvaluationLemmas

@@ -1,6 +1,6 @@
 -- Simplified again: a simplified text stays as it is, and each of its conditions is reduced, or may
 -- stay.
-use Rattle.std.proofs.Common.{◌≡◌, ℕ, ◌-◌, List, [], ◌∷◌, ◌++◌, length, map, take, drop, Bool, false, Some, None, if◌then◌else◌, refl, sym, ◌∙◌, ap, ap₂, subst, ◌⊎◌, inl, inr, arith, ◌≤◌, true, not, Option, length-append}
+use Rattle.std.proofs.Common.{◌≡◌, ℕ, ◌-◌, List, [], ◌∷◌, ◌++◌, length, map, take, drop, Bool, false, Some, None, if◌then◌else◌, refl, sym, ◌∙◌, ap, ap₂, subst, ◌⊎◌, inl, inr, arith, ◌≤◌, true, not, Option, length-append, ◌&&◌}
 use Rattle.std.proofs.lemmas.List.{drop-map, take-append-drop, length-map}
 use Rattle.std.proofs.lemmas.Bool.{or_parts, cases_Bool, and_from, not_from_false, and_parts, not-true}
 use Rattle.ud_model.specs.text.Lines.{Line, text_of}
@@ -10,9 +10,9 @@ use Rattle.ud_model.specs.text.Lexemes.{Cell, shown}
 use Rattle.ud_model.specs.text.Scanning.{content_cells, scan_after_run, scan_after}
 use Rattle.ud_model.specs.sections.Directives.{Content, directive, Directive, content_of}
 use Rattle.ud_model.specs.conditions.Table.{Argument}
-use Rattle.ud_model.specs.conditions.Expressions.{Expression}
+use Rattle.ud_model.specs.conditions.Expressions.{Expression, unary, binary, parens}
 use Rattle.ud_model.specs.conditions.Conditions.{Rules, tree_cond}
-use Rattle.ud_model.specs.aids.Residuals.{residual, is_unknown, is_undecided, keeps}
+use Rattle.ud_model.specs.aids.Residuals.{residual, is_unknown, is_undecided, keeps, is_unit, stands_alone, joined_flags}
 use Rattle.ud_simplified.specs.ResidualTexts.{simplified_cells, left_cells, is_literal, may_go, is_read, simplified_by}
 use Rattle.ud_model.specs.conditions.Parsing.{expression_of}
 use Rattle.ud_simplified.specs.SimplifiedTexts.{keyword_end, condition_cells, left_line, may_change, line_by, simplified_line, simplified_text, is_lone, left_cells_of, is_read_alone}
@@ -25,11 +25,40 @@ use Rattle.ud_simplified.proofs.SimplifiedReadings.{IsLeft, ReadingSimplified, r
 use Rattle.std.specs.List.{list_any}
 use Rattle.ud_simplified.specs.Sublists.{IsSublist, nothing, without, with_same}
 use Rattle.ud_model.specs.aids.ReadAs.{read_in, read_as}
-use Rattle.ud_laws.specs.output.LeftOperands.{IsReduced, IsSimplified, joins_line, not_understood, has_quote, decided, rest_decided, rest_misread}
+use Rattle.ud_laws.specs.output.LeftOperands.{IsReduced, IsSimplified, joins_line, not_understood, has_quote, decided, rest_decided, rest_misread, HasNoUnit}
 use Rattle.ud_model.specs.declared.kind.Mode.TheVariants.{C}
-use Rattle.ud_laws.proofs.conditions.ReducedTrees.{fixed_reduced}
 use Rattle.ud_model.proofs.text.ScanLaws.{unspliced}
-use Rattle.ud_laws.proofs.conditions.ResidualAgain.{residual_stays}
+use Rattle.ud_laws.proofs.conditions.ResidualAgain.{residual_stays, AreTrue, fixed_true}
+use Rattle.ud_model.specs.declared.operator.Operator.TheVariants.{Or, And, Not}
+use Rattle.ud_laws.proofs.conditions.ResidualOperands.{operands_undecided}
+
+-- A tree that is its own residual has no operand that can be removed.
+
+true_parts : (xs ys : List Bool) → AreTrue (xs ++ ys) → AreTrue xs × AreTrue ys
+true_parts [] ys h = (tt, h)
+true_parts (x ∷ xs) ys h = let r : AreTrue xs × AreTrue ys = true_parts xs ys h.1 in ((h.0, r.0), r.1)
+
+-- If all tokens of an operator stay, neither operand is a unit.
+no_unit_by : (b d : Bool) (e f : Expression) (xs ys : List Bool) → AreTrue (joined_flags b d e f xs ys) → (b ≡ false) × (d ≡ false) × AreTrue xs × AreTrue ys
+no_unit_by b d e f xs ys h = grind (arith, true_parts)
+
+module _ (table : List Argument) (rules : Rules) where
+  no_unit : (e : Expression) → AreTrue (keeps table rules e) → HasNoUnit table rules e
+  no_unit (unary Not a) h = no_unit a h.1
+  no_unit (binary And a b) h =
+      let p = no_unit_by (is_unit And (residual table rules a).cond) (is_unit And (residual table rules b).cond) a b (keeps table rules a) (keeps table rules b) h in
+      (p.0, p.1, no_unit a p.2, no_unit b p.3)
+  no_unit (binary Or a b) h =
+      let p = no_unit_by (is_unit Or (residual table rules a).cond) (is_unit Or (residual table rules b).cond) a b (keeps table rules a) (keeps table rules b) h in
+      (p.0, p.1, no_unit a p.2, no_unit b p.3)
+  no_unit (parens a) h =
+      let f : Bool = not ((residual table rules a).lost && stands_alone (residual table rules a).tree) in
+      no_unit a (true_parts (keeps table rules a) (f ∷ []) h.1).0
+  no_unit _ _ = tt
+
+  -- A tree that is its own unknown residual is reduced.
+  pub fixed_reduced : (e : Expression) → (residual table rules e).tree ≡ e → is_unknown (residual table rules e).cond ≡ true → IsReduced table rules e
+  fixed_reduced e p u = grind (arith, no_unit, fixed_true, operands_undecided)
 
 abbrev TrueOrFalse : Bool → Type 0
 TrueOrFalse b = (b ≡ true) ⊎ (b ≡ false)

@@ -1,15 +1,15 @@
 -- Simplified runs: a run over the simplified output copies it.
-use Rattle.std.proofs.Common.{◌≡◌, ◌≢◌, ℕ, suc, ◌≤◌, max, List, [], ◌++◌, length, Bool, false, not, ◌&&◌, None, if◌then◌else◌, refl, sym, ◌∙◌, ap, ap₂, subst, arith}
+use Rattle.std.proofs.Common.{◌≡◌, ◌≢◌, ℕ, suc, ◌≤◌, max, List, [], ◌++◌, length, Bool, false, not, ◌&&◌, None, if◌then◌else◌, refl, sym, ◌∙◌, ap, ap₂, subst, arith, map, Option, Some}
 use Rattle.std.proofs.lemmas.Bool.{or_parts}
 use Rattle.ud_model.specs.text.Lines.{Line, text_of, lines_of}
 use Rattle.ud_model.specs.text.Scans.{Scan, Reading}
 use Rattle.ud_model.specs.text.Splicing.{is_spliced, spliced_text, spliced_part}
-use Rattle.ud_model.specs.text.Lexemes.{LexemeKind, kind_at_end}
+use Rattle.ud_model.specs.text.Lexemes.{LexemeKind, kind_at_end, Cell, shown}
 use Rattle.ud_model.specs.text.Scanning.{is_block, comment_at, scan_after_run}
 use Rattle.ud_model.specs.sections.Directives.{Directive, content_of, is_outside}
 use Rattle.ud_model.specs.aids.DirectiveParts.{HasDirective}
 use Rattle.ud_model.specs.conditions.Table.{Argument}
-use Rattle.ud_model.specs.conditions.Conditions.{Rules, Decision, undecided, decision_on, condition_of, expression_cond}
+use Rattle.ud_model.specs.conditions.Conditions.{Rules, Decision, undecided, decision_on, condition_of, expression_cond, tree_cond_if}
 use Rattle.ud_model.specs.sections.Tree.{Tree, Item, Nodes, Groups, Elifs, closed}
 use Rattle.ud_model.specs.sections.Items.{Options, reading_of, item_of, rules_of}
 use Rattle.ud_model.specs.sections.Faults.{is_cut, is_in_block, ends_in_comment, end_by, last_number}
@@ -32,7 +32,6 @@ use Rattle.ud_model.proofs.text.ScanLaws.{joins_after-code}
 use Rattle.ud_model.proofs.text.ScanLemmas.{joins_last}
 use Rattle.ud_model.proofs.sections.Soundness.{reading_of-item_of, read_lines}
 use Rattle.ud_model.proofs.sections.SplitLines.{directive_is}
-use Rattle.ud_laws.proofs.conditions.ResidualUnknown.{left_unknown}
 use Rattle.ud_model.proofs.output.Each.{Each, Pairs, no_pair, pair}
 use Rattle.ud_model.proofs.output.RereadMore.{IsUncut}
 use Rattle.ud_model.proofs.output.SoundAgain.{IsFew, IsShort, fit_short, sound_again}
@@ -46,6 +45,28 @@ use Rattle.ud_laws.proofs.output.InsertedTree.{items}
 use Rattle.ud_simplified.proofs.SimplifiedLines.{SameIf, becomes, after_is}
 use Rattle.ud_simplified.proofs.SimplifiedReadings.{IsLeft, ReadingSimplified, readings_simplified}
 use Rattle.ud_laws.proofs.output.SimplifiedAgain.{lone, sub_fewer}
+use Rattle.ud_model.specs.conditions.Expressions.{Expression}
+use Rattle.ud_model.specs.conditions.Parsing.{expression_of}
+use Rattle.ud_model.specs.aids.Residuals.{keeps}
+use Rattle.ud_simplified.specs.ResidualTexts.{left_cells, may_go, is_read, simplified_by, simplified_cells}
+use Rattle.ud_simplified.proofs.ResidualRead.{written_left}
+
+-- The simplified text of an unknown condition is unknown.
+
+module _ (table : List Argument) (rules : Rules) where
+  -- The simplified text is unknown.
+  pub left_unknown : (cells : List Cell) → expression_cond (map shown cells) table rules ≡ Unknown → expression_cond (map shown (simplified_cells table rules cells)) table rules ≡ Unknown
+  unfolding simplified_cells expression_cond
+  left_unknown cells h = by (expression_of (map shown cells)) refl
+    where
+      go : (e : Expression) → expression_of (map shown cells) ≡ Some e → (b : Bool) → (may_go table rules e cells && is_read table rules e (left_cells (keeps table rules e) cells)) ≡ b →
+          tree_cond_if (expression_of (map shown (if b then left_cells (keeps table rules e) cells else cells))) table rules ≡ Unknown
+      go e p b q = grind (arith, written_left)
+
+      by : (o : Option Expression) → expression_of (map shown cells) ≡ o →
+          tree_cond_if (expression_of (map shown (simplified_by table rules (expression_of (map shown cells)) cells)))
+          table rules ≡ Unknown
+      by o p = grind (arith, go)
 
 -- 1. Items with an unknown condition.
 

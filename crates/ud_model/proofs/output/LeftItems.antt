@@ -1,29 +1,161 @@
 -- The output for a line, read again, is the item of the output for it. By the line's verdict, its
 -- keyword isn't cut, and it ends in a comment only if the line does.
-use Rattle.std.proofs.Common.{◌≡◌, ℕ, List, [], ◌∷◌, map, Option, ◌⊎◌, sym, ◌∙◌, ap, ap₂, arith, rules, false, codes, refl}
+use Rattle.std.proofs.Common.{◌≡◌, ℕ, List, [], ◌∷◌, map, Option, ◌⊎◌, sym, ◌∙◌, ap, ap₂, arith, rules, false, codes, refl, true, ◌-◌, ◌++◌, length, take, Bool, Some, if◌then◌else◌, append_assoc, length-append, inl, inr}
 use Rattle.ud_model.specs.text.Scans.{Scan, Reading}
-use Rattle.ud_model.specs.sections.Directives.{Content, Directive, directive, content_of, role_of, test_of}
+use Rattle.ud_model.specs.sections.Directives.{Content, Directive, directive, content_of, role_of, test_of, may_split_keyword, kind_of, is_continued_outside_comment}
 use Rattle.ud_model.specs.conditions.Table.{Argument}
-use Rattle.ud_model.specs.conditions.Conditions.{Decision, Rules, decision_on}
+use Rattle.ud_model.specs.conditions.Conditions.{Decision, Rules, decision_on, expression_cond, tree_cond_if, decision_by_test}
 use Rattle.ud_model.specs.sections.Tree.{Item, if_line, item_with}
 use Rattle.ud_model.specs.sections.Items.{Options, rules_of, directive_item, item_by, item_of}
 use Rattle.ud_model.specs.laws.Pruned.{edited, kept_line}
 use Rattle.ud_model.specs.conditions.Expressions.{Expression}
 use Rattle.ud_model.specs.laws.Rereading.{line_bytes, edited_bytes}
-use Rattle.ud_model.specs.laws.WrittenConditions.{condition_in, Condition, condition_on}
+use Rattle.ud_model.specs.laws.WrittenConditions.{condition_in, Condition, condition_on, condition_by_test}
 use Rattle.ud_model.specs.declared.cond.Cond.TheVariants.{Unknown}
 use Rattle.ud_model.specs.declared.kind.Kind.{Kind}
-use Rattle.ud_model.specs.declared.kind.Kind.TheVariants.{Else, Endif}
+use Rattle.ud_model.specs.declared.kind.Kind.TheVariants.{Else, Endif, If, Ifdef, Ifndef}
 use Rattle.ud_model.specs.declared.kind.Role.{Role}
 use Rattle.ud_model.specs.declared.kind.Role.TheVariants.{IfGroup, ElifGroup, ElseGroup}
 use Rattle.ud_model.specs.declared.verdict.Verdict.{Verdict}
 use Rattle.ud_model.specs.declared.verdict.Verdict.TheVariants.{ToIf, ToElse, ToEndif, Keep}
 use Rattle.ud_model.proofs.output.Suited.{Suits}
-use Rattle.ud_model.proofs.conditions.SpacesInFront.{condition_past, decided_past}
-use Rattle.ud_model.proofs.output.ExchangedContent.{spaced, if_kind, if_len, if_begins, to_if_test, to_if_content, cut_content}
 use Rattle.ud_model.proofs.output.SeenLines.{Seen, scanned, left_seen}
 use Rattle.ud_model.specs.sections.Faults.{is_cut, is_in_block}
 use Rattle.ud_model.proofs.output.LeftScans.{SeenAsIf, SeenCut}
+use Rattle.ud_model.specs.text.Bytes.{is_white, skip_white, leading_word, skip_word}
+use Rattle.ud_model.specs.conditions.Tokens.{Token}
+use Rattle.ud_model.specs.conditions.Parsing.{tokens_of, reads, parse_all_tokens, itself, needs, expression_of}
+use Rattle.ud_model.specs.declared.kind.Test.{Test}
+use Rattle.ud_model.proofs.conditions.SpreadTexts.{behind, unspread, spread_tokens}
+use Rattle.std.proofs.Math.Bool.{and-false}
+use Rattle.std.proofs.lemmas.List.{take_at}
+use Rattle.ud_model.specs.answer.Printing.{by_length, opener_keyword}
+use Rattle.ud_model.proofs.sections.Keywords.{keyword_holds}
+use Rattle.ud_model.proofs.output.ByLength.{each_length}
+use Rattle.ud_model.proofs.output.Each.{Each}
+use Rattle.ud_model.proofs.output.DirectiveFront.{IsWhite, Front, directive_front, StartsDark}
+
+-- The content of a masked line that was made from one with a directive.
+
+past_all : (ws t : List ℕ) → Each IsWhite ws → StartsDark t → skip_white (ws ++ t) ≡ t
+past_all [] t h d = grind arith
+past_all (b ∷ ws) t h d = ap (λ (w : Bool). if w then skip_white (ws ++ t) else b ∷ (ws ++ t)) h.0 ∙ past_all ws t h.1 d
+
+-- The keyword isn't cut: the line joins no next one, or the bytes after the sign settle the
+-- keyword.
+abbrev pub Settled : Scan → List ℕ → Type 0
+Settled now tail = (now.joins_after ≡ false) ⊎ (may_split_keyword now tail ≡ false)
+
+module _ (now : Scan) (ws gs tail : List ℕ) (k : Kind) (w : Each IsWhite ws) (g : Each IsWhite gs) (d : StartsDark tail) (m : now.masked ≡ (ws ++ 35 ∷ gs) ++ tail)
+    (f : now.fresh ≡ true) (s : Settled now tail) (kind : kind_of (leading_word tail) ≡ Some k) where
+  tail_is : skip_white (gs ++ tail) ≡ tail
+  tail_is = past_all gs tail g d
+
+  at_is : length now.masked - length tail ≡ length (ws ++ 35 ∷ gs)
+  at_is = grind (arith, length-append)
+
+  -- A line with this masked text has this directive.
+  pub carries : content_of now ≡ directive (record {
+    kind = k;
+    keyword = record { at = length (ws ++ 35 ∷ gs); len = length (leading_word tail) };
+    after = skip_word tail;
+    broken = is_continued_outside_comment now;
+  })
+  carries = grind (arith, append_assoc, past_all, tail_is, at_is)
+
+-- A directive with another keyword, and two spaces more after it.
+abbrev pub spaced : Directive → Kind → ℕ → Directive
+spaced d k n = record { kind = k; keyword = record { at = d.keyword.at; len = n }; after = 32 ∷ 32 ∷ d.after; broken = d.broken }
+
+-- The kind of a directive that becomes the first one of its section, by the length of the keyword
+-- that it had.
+abbrev pub if_kind : ℕ → Kind
+if_kind n = by_length n Ifdef Ifndef If
+
+-- The condition is tested as before.
+pub tested_alike : (w : List ℕ) (k : Kind) → kind_of w ≡ Some k → role_of k ≡ ElifGroup → test_of (if_kind (length w)) ≡ test_of k
+tested_alike w k e = search (rules, keyword_holds)
+
+-- The directive begins its section.
+pub if_begins : (n : ℕ) → role_of (if_kind n) ≡ IfGroup
+if_begins n = each_length (λ (k : Kind). role_of k ≡ IfGroup) refl refl refl n
+
+-- The length of the new keyword.
+abbrev pub if_len : ℕ → ℕ
+if_len n = by_length n 5 6 2
+
+-- The condition is tested as before.
+pub to_if_test : (scan : Scan) (d : Directive) → content_of scan ≡ directive d → role_of d.kind ≡ ElifGroup → test_of (if_kind d.keyword.len) ≡ test_of d.kind
+to_if_test scan d e h = let p : Front scan d = directive_front scan d e in cc (p.len_is, tested_alike p.word d.kind p.kind_is h)
+
+module _ (scan now : Scan) (d : Directive) (e : content_of scan ≡ directive d) (f : now.fresh ≡ scan.fresh) (c : is_continued_outside_comment now ≡ is_continued_outside_comment scan) where
+  with_tail : (tail : List ℕ) (k : Kind) (n : ℕ) → now.masked ≡ take d.keyword.at scan.masked ++ tail → StartsDark tail → Settled now tail →
+      kind_of (leading_word tail) ≡ Some k → length (leading_word tail) ≡ n → skip_word tail ≡ 32 ∷ 32 ∷ d.after → content_of now ≡ directive (spaced d k n)
+  with_tail tail k n m dark settled kind long rest =
+      let p : Front scan d = directive_front scan d e in
+      let head : take d.keyword.at scan.masked ≡ p.white ++ 35 ∷ p.gap = simp (take_at, p.at_is, p.masked_is) in
+      carries now p.white p.gap tail k p.whites p.gaps dark (m ∙ ap (λ (t : List ℕ). t ++ tail) head) (f ∙ p.fresh_is) settled kind
+      ∙ ap₂ (λ (q : ℕ) (b : Bool). directive (record { kind = k; keyword = record { at = q; len = length (leading_word tail) }; after = skip_word tail; broken = b }))
+      (sym p.at_is) (c ∙ sym p.broken_is)
+      ∙ ap₂ (λ (u : ℕ) (t : List ℕ). directive (record { kind = k; keyword = record { at = d.keyword.at; len = u }; after = t; broken = d.broken })) long rest
+
+  -- The bytes are this keyword and two spaces more.
+  record IsWord (word : List ℕ) (k : Kind) (n : ℕ) : Type 0 where
+    dark : StartsDark (word ++ d.after)
+    settled : may_split_keyword now (word ++ d.after) ≡ false
+    kind : kind_of (leading_word (word ++ d.after)) ≡ Some k
+    long : length (leading_word (word ++ d.after)) ≡ n
+    rest : skip_word (word ++ d.after) ≡ 32 ∷ 32 ∷ d.after
+
+  with_word : (word : List ℕ) (k : Kind) (n : ℕ) → IsWord word k n → now.masked ≡ take d.keyword.at scan.masked ++ (word ++ d.after) → content_of now ≡ directive (spaced d k n)
+  with_word word k n w m = with_tail (word ++ d.after) k n m w.dark (inr w.settled) w.kind w.long w.rest
+
+  by_words : {a b c : List ℕ} {i j k : Kind} {l m n : ℕ} → IsWord a i l → IsWord b j m → IsWord c k n → (t u : Bool) →
+      now.masked ≡ take d.keyword.at scan.masked ++ ((if t then a else if u then b else c) ++ d.after) →
+      content_of now ≡ directive (spaced d (if t then i else if u then j else k) (if t then l else if u then m else n))
+  by_words {a} {b} {c} {i} {j} {k} {l} {m} {n} x y z true u e = with_word a i l x e
+  by_words {a} {b} {c} {i} {j} {k} {l} {m} {n} x y z false true e = with_word b j m y e
+  by_words {a} {b} {c} {i} {j} {k} {l} {m} {n} x y z false false e = with_word c k n z e
+
+  -- With the keyword of a first directive in place of its own, the line has a first directive, with
+  -- the same text after two spaces.
+  pub to_if_content : now.masked ≡ take d.keyword.at scan.masked ++ (opener_keyword d.keyword.len ++ d.after) →
+      content_of now ≡ directive (spaced d (if_kind d.keyword.len) (if_len d.keyword.len))
+  to_if_content m = search (rules, by_words, and-false)
+
+-- A line that ends after `else` or `endif` in place of its keyword, and joins no other.
+pub cut_content : (scan now : Scan) (d : Directive) (word : List ℕ) (k : Kind) → content_of scan ≡ directive d → now.masked ≡ take d.keyword.at scan.masked ++ word →
+    now.fresh ≡ scan.fresh → now.joins_after ≡ false → is_continued_outside_comment now ≡ false → StartsDark word → leading_word word ≡ word → skip_word word ≡ [] → kind_of word ≡ Some k →
+    content_of now ≡ directive (record { kind = k; keyword = record { at = d.keyword.at; len = length word }; after = []; broken = false })
+cut_content scan now d word k e m f j c dark prefix rest kind =
+    let p : Front scan d = directive_front scan d e in
+    let head : take d.keyword.at scan.masked ≡ p.white ++ 35 ∷ p.gap = simp (take_at, p.at_is, p.masked_is) in
+    carries now p.white p.gap word k p.whites p.gaps dark (m ∙ ap (λ (t : List ℕ). t ++ word) head) (f ∙ p.fresh_is) (inl j) (ap kind_of prefix ∙ kind)
+    ∙ ap₂ (λ (n : ℕ) (b : Bool). directive (record { kind = k; keyword = record { at = n; len = length (leading_word word) }; after = skip_word word; broken = b })) (sym p.at_is) c
+    ∙ ap₂ (λ (u t : List ℕ). directive (record { kind = k; keyword = record { at = d.keyword.at; len = length u }; after = t; broken = false })) prefix rest
+
+-- Leading white space of a condition means nothing.
+
+-- The tokens of a text are those with leading white space.
+tokens_same : (b : ℕ) (t : List ℕ) → is_white b ≡ true → tokens_of (b ∷ t) ≡ tokens_of t
+tokens_same b t e = spread_tokens (b ∷ t) t (true, behind b e (unspread true t))
+
+-- The expression of a text is the one with leading white space.
+expression_past : (b : ℕ) (t : List ℕ) → is_white b ≡ true → expression_of (b ∷ t) ≡ expression_of t
+unfolding expression_of reads
+expression_past b t e = ap (λ (ts : Option (List Token)). parse_all_tokens itself (needs []) ts) (tokens_same b t e)
+
+cond_past : (b : ℕ) (t : List ℕ) (table : List Argument) (rules : Rules) → is_white b ≡ true → expression_cond (b ∷ t) table rules ≡ expression_cond t table rules
+unfolding expression_cond
+cond_past b t table rules e = ap (λ (o : Option Expression). tree_cond_if o table rules) (expression_past b t e)
+
+-- The expression that a condition is is the same with leading white space.
+pub condition_past : (p : Test) (b : ℕ) (t : List ℕ) → is_white b ≡ true → condition_by_test p (b ∷ t) ≡ condition_by_test p t
+condition_past p b t e = grind (arith, expression_past)
+
+-- The decision is the same with leading white space.
+pub decided_past : (p : Test) (b : ℕ) (t : List ℕ) (table : List Argument) (rules : Rules) → is_white b ≡ true → decision_by_test p (b ∷ t) table rules ≡ decision_by_test p t table rules
+decided_past p b t table rules e = grind (arith, cond_past)
 
 -- The second item is the output for the first one with this verdict.
 abbrev pub IsLeftOf : Verdict → Item Reading → Item Reading → Type 0

@@ -4,7 +4,7 @@ use Rattle.std.proofs.Common.{◌≡◌, ℕ, suc, ◌+◌, ◌<◌, ◌≤◌, 
 use Rattle.std.proofs.lemmas.List.{map-append, length-map}
 use Rattle.ud_model.specs.text.Lines.{Line, text_of, line_at, numbered_from}
 use Rattle.ud_model.specs.text.Scans.{Reading}
-use Rattle.ud_model.specs.sections.Tree.{Item, Tree, depth, lines}
+use Rattle.ud_model.specs.sections.Tree.{Item, Tree, depth, lines, closed, open_section}
 use Rattle.ud_model.specs.aids.Height.{height}
 use Rattle.ud_model.specs.sections.Items.{Options, line_of, next_item}
 use Rattle.ud_model.specs.sections.Faults.{AreFaultless, no_lines, one_more, NoneHolds, cases, ends_removed, is_obfuscated_after}
@@ -12,17 +12,29 @@ use Rattle.ud_model.specs.laws.Rereading.{LinesFit, AreRead, no_items, one_item}
 use Rattle.ud_model.specs.declared.kind.Mode.{Mode}
 use Rattle.ud_model.specs.declared.limits.TheConstants.{LINE_BYTES, TEXT_LINES, OPEN_SECTIONS}
 use Rattle.ud_model.proofs.output.Each.{Each, each_parts}
-use Rattle.ud_model.proofs.sections.Growth.{Adds}
+use Rattle.ud_model.proofs.sections.Growth.{Adds, adds_under}
 use Rattle.ud_model.proofs.output.PrunedHeights.{grows_most}
 use Rattle.ud_model.proofs.output.OutputPieces.{printed_most}
 use Rattle.ud_model.proofs.output.RereadMore.{Again, IsUncut}
 use Rattle.ud_model.proofs.sections.Soundness.{sound_lines, read_lines}
 use Rattle.ud_model.specs.sections.Pruning.{Mark, marked, marks}
 use Rattle.ud_model.specs.declared.verdict.Verdict.TheVariants.{Keep}
-use Rattle.ud_model.proofs.sections.Heights.{depth_height, height_add}
 use Rattle.ud_model.proofs.sections.Stays.{marks_more}
 use Rattle.ud_model.proofs.output.Undecided.{Stays}
 use Rattle.ud_model.proofs.sections.Unique as Trees
+
+-- No prefix of a text is higher than the text, and no text is deeper than it is high.
+
+module _ {L : Type 0} where
+  -- A text is at least as high as it is deep.
+  pub depth_height : (t : Tree L) → depth t ≤ height t
+  depth_height (closed ns) = omega arith
+  depth_height (open_section ns h t) = let d : depth t ≤ height t = depth_height t in omega arith
+
+  -- One more line makes no text lower.
+  pub height_add : {t u : Tree L} {x : Item L} → Adds t x u → height t ≤ height u
+  height_add (adds_under {t = t} {u = u} a) = let c : height t ≤ height u = height_add a in omega arith
+  height_add h = grind arith
 
 -- The line's number is one that a line of a text may have.
 abbrev pub IsFew : Item Reading → Type 0

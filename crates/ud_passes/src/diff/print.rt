@@ -2,9 +2,9 @@
 
 ghost use Rattle.std.specs.Prelude.{◌≡◌, ◌+◌, ◌<◌, ◌^◌, ◌++◌, OnOk, decimal};
 ghost use Rattle.ud_passes.specs.diff.DiffTexts.{range_text, ranges_text, sign_byte, ended_text};
-ghost use Rattle.ud_passes.specs.diff.DiffTexts.{signed_text, is_special, escaped, path_text, quoted_text};
-ghost use Rattle.ud_passes.specs.diff.DiffTexts.{is_quoted, tab_after, is_dropped, after_dots};
-ghost use Rattle.ud_passes.specs.diff.DiffTexts.{without_dots, name_text, names_text};
+ghost use Rattle.ud_passes.specs.diff.DiffTexts.{signed_text, is_special, escaped, path_text};
+ghost use Rattle.ud_passes.specs.diff.DiffTexts.{quoted_text, is_quoted, tab_after, is_dropped};
+ghost use Rattle.ud_passes.specs.diff.DiffTexts.{after_dots, without_dots, name_text, names_text};
 ghost use Rattle.std.specs.List.{flat_map, list_any};
 ghost use Rattle.ud_passes.specs.diff.Scripts.{signed};
 

@@ -4,8 +4,8 @@ ghost use Rattle.std.specs.Prelude.{◌≡◌, IfOk};
 ghost use Rattle.ud_passes.specs.squeezing.SqueezedTexts as spec;
 ghost use Rattle.ud_passes.specs.squeezing.SqueezedTexts.{marks_with, first_flag, later_flags};
 
-use std::alloc::{AllocError, Global};
 use crate::diff::{EDITED, SAME};
+use std::alloc::{AllocError, Global};
 
 /// The mark of a line that stayed in an output, and is left out of the squeezed one.
 pub(crate) const SQUEEZED: u8 = b'-';

@@ -6,8 +6,10 @@ use Rattle.ud_sections.specs.declared.sections.fault.SectionFault.{SectionFault}
 use Rattle.ud_sections.specs.declared.sections.fault.SectionFault.TheVariants.{InappropriateElif}
 use Rattle.ud_sections.specs.declared.sections.fault.SectionFault.TheVariants.{InappropriateElse}
 use Rattle.ud_sections.specs.declared.sections.fault.SectionFault.TheVariants.{InappropriateEndif}
-use Rattle.ud_sections.specs.declared.sections.fault.SectionFault.TheVariants.{TooManyLevels, Obfuscated}
-use Rattle.ud_sections.specs.declared.sections.fault.SectionFault.TheVariants.{PrematureEof, EofInComment}
+use Rattle.ud_sections.specs.declared.sections.fault.SectionFault.TheVariants.{TooManyLevels}
+use Rattle.ud_sections.specs.declared.sections.fault.SectionFault.TheVariants.{Obfuscated}
+use Rattle.ud_sections.specs.declared.sections.fault.SectionFault.TheVariants.{PrematureEof}
+use Rattle.ud_sections.specs.declared.sections.fault.SectionFault.TheVariants.{EofInComment}
 
 -- `fault_of f`: the fault of the definitions for a fault of the sections.
 abbrev pub fault_of : SectionFault → Fault

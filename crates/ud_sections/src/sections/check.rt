@@ -6,10 +6,10 @@ ghost use Rattle.ud_sections.specs.sections.Checking.{is_directive_kind, opens_s
 ghost use Rattle.ud_sections.specs.sections.Checking.{is_obfuscated_by, misplaced_fault_by};
 ghost use Rattle.ud_sections.specs.sections.Checking.{checked_by};
 
+use crate::sections::SectionFault;
 use crate::sections::classify_line::ClassifiedLine;
 use crate::sections::line_kind::LineKind;
 use crate::sections::open_section::{Action, Enclosing, StackOp};
-use crate::sections::SectionFault;
 use ud_model::{OPEN_SECTIONS, Verdict};
 
 /// The context of a line: what the lines before it decide.

@@ -25,6 +25,7 @@ ghost use Rattle.ud_sections.specs.sections.Checking.{opens_section};
 
 use crate::directives::parse_directive::directive;
 use crate::directives::{Cut, Directive};
+use crate::sections::SectionFault;
 use crate::sections::check::{LineContext, check_line};
 use crate::sections::classify_line::{ClassifiedLine, classify, line_kind_of};
 use crate::sections::line_kind::LineKind;
@@ -33,7 +34,6 @@ use crate::sections::step::{Span, Step};
 use crate::sections::text_policy::TextPolicy;
 use arrayvec::ArrayVec;
 use ud_cond::Symbols;
-use crate::sections::SectionFault;
 use ud_model::{Line, Mode, OPEN_SECTIONS, Scan, Settings, Verdict};
 
 /// The step of a line, and its change of the open sections.

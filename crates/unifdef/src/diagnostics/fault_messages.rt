@@ -11,9 +11,9 @@ ghost use Rattle.unifdef.specs.RunMessages.{fault_message};
 use itoa::Buffer;
 use std::io::Write;
 use ud_engine::RunFault;
+use ud_io::{Watched, send_parts};
 use ud_sections::SectionFault;
 use ud_text::TextFault;
-use ud_io::{Watched, send_parts};
 
 /// Reports why a run ended. If a write fails, only a prefix of the message was written.
 pub(crate) fn report_fault<E: Write>(err: &mut Watched<E>, name: &[u8], fault: RunFault)

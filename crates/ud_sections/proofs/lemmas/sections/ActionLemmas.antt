@@ -1,12 +1,12 @@
 -- ActionLemmas: how a line changes the open sections of a text, and which mark it has.
-use Rattle.std.proofs.Common.{◌≡◌, ◌≤◌, ℕ, suc, ◌+◌, ◌-◌, List, [], ◌∷◌, ◌++◌, length, slice_get, Bool, true, false, not, ◌&&◌, ◌||◌, Option, Some, None, refl, sym, ◌∙◌, ap, ap₂, append_assoc, append-nil, length-append, arith, take}
+use Rattle.std.proofs.Common.{◌≡◌, ◌≤◌, ℕ, suc, ◌+◌, ◌-◌, List, [], ◌∷◌, ◌++◌, length, slice_get, Bool, true, false, not, ◌&&◌, ◌||◌, Option, Some, None, refl, sym, ◌∙◌, ap, ap₂, append_assoc, append-nil, length-append, arith, take, if◌then◌else◌}
 use Rattle.std.proofs.Math.Seq.{take-append_seam}
 use Rattle.ud_model.specs.declared.cond.Cond.{Cond}
-use Rattle.ud_model.specs.declared.cond.Cond.TheVariants.{Yes}
+use Rattle.ud_model.specs.declared.cond.Cond.TheVariants.{Yes, No, Unknown}
 use Rattle.ud_model.specs.text.Scans.{Reading}
 use Rattle.ud_model.specs.sections.Tree.{Item, Opener, Nodes, Head, Tree, text_line, if_line, elif_line, else_line, endif_line, nothing, first, elif, if_head, elif_head, else_head, closed, open_section, opener_of_head, is_ignoring, innermost, depth}
 use Rattle.ud_model.specs.sections.Faults.{Fault, eof_in_comment, premature_eof, end_by}
-use Rattle.ud_model.specs.sections.Pruning.{Part, an_if, an_elif, an_else, Mark, marked, is_inside_kept, endif_verdict, conds_of_elifs, conds_of_head}
+use Rattle.ud_model.specs.sections.Pruning.{Part, an_if, an_elif, an_else, Mark, marked, is_inside_kept, endif_verdict, conds_of_elifs, conds_of_head, any_true, all_false, gives_way, ends_with_first_true, is_false, is_kept, first_kept_verdict, later_verdict}
 use Rattle.ud_model.specs.aids.SoFar.{verdict_so_far, nodes_so_far, groups_so_far, head_so_far, marks_so_far}
 use Rattle.ud_model.specs.sections.Items.{line_of}
 use Rattle.ud_model.proofs.sections.Growth.{Adds, adds_text, adds_if, elif_after_if, elif_after_elif, else_after_if, else_after_elif, adds_endif, adds_under, complete, conds-complete}
@@ -14,7 +14,7 @@ use Rattle.ud_sections.specs.declared.sections.open_section.OpenSection.{OpenSec
 use Rattle.ud_sections.specs.declared.sections.open_section.StackOp.{StackOp}
 use Rattle.ud_sections.specs.declared.sections.open_section.StackOp.TheVariants.{Stay, Push, Replace, Pop}
 use Rattle.ud_sections.specs.declared.sections.open_section.Action.{Action}
-use Rattle.ud_sections.specs.sections.SectionStates.{new_state, section_state_after, opener_verdict_in, is_kept_in, is_in_removed}
+use Rattle.ud_sections.specs.sections.SectionStates.{new_state, section_state_after, opener_verdict_in, is_kept_in, is_in_removed, next_section_state, endif_verdict_in}
 use Rattle.ud_sections.specs.sections.OpenSections.{section_of, section_with_group, open_sections_of, section_at, last_or, is_else_part}
 use Rattle.ud_sections.specs.sections.Actions.{act, Applies, kept_at, plain_at, text_action, if_action, opener_action, endif_action}
 use Rattle.ud_sections.specs.sections.StackOps.{applied, innermost_of}
@@ -22,7 +22,97 @@ use Rattle.ud_sections.specs.sections.EndFaults.{end_in}
 use Rattle.ud_sections.specs.sections.Checking.{opens_section}
 use Rattle.ud_sections.specs.sections.MachineState.{end_fault_of}
 use Rattle.ud_sections.specs.sections.ClassifiedLines.{item_kind}
-use Rattle.ud_sections.proofs.lemmas.sections.SectionStateLemmas.{phase-last, opener_mark, endif_mark, kept_last}
+use Rattle.ud_model.specs.declared.verdict.Verdict.TheVariants.{Keep, Remove, ToEndif}
+use Rattle.ud_sections.specs.declared.sections.section_state.SectionState.{SectionState}
+use Rattle.ud_sections.specs.declared.sections.section_state.SectionState.TheVariants.{InRemoved, NoneKept, LastUnknown, LastFalse, AfterTrue}
+
+-- The table by states is the table of verdicts by the groups so far.
+
+-- the state follows the groups, one after another
+pub phase-last : (p : SectionState) (cs : List Cond) (c : Cond) → section_state_after p (cs ++ c ∷ []) ≡ next_section_state (section_state_after p cs) c
+phase-last p [] c = refl
+phase-last p (d ∷ cs) c = phase-last (next_section_state p d) cs c
+
+-- A state gives the verdicts that the table gives by five facts. They are whether the section gives
+-- way with a group of this condition, and whether it gives way without one. The others are whether
+-- no group is kept, whether some is true, and whether the last one is the first true one.
+pub record Agrees (p : SectionState) (goes_with : Cond → Bool) (goes none some ends : Bool) : Type 0 where
+  pub lives : is_in_removed p ≡ false
+  pub opener : (part : Part) (c : Cond) → opener_verdict_in p part c ≡ (
+      if goes_with c then Remove
+      else if none && not (is_false c) then first_kept_verdict part
+      else if not some then later_verdict part c
+      else if ends then ToEndif
+      else Remove)
+  pub endif : endif_verdict_in p ≡ (if goes then Remove else if not some then Keep else if ends then Keep else Remove)
+  pub kept : (c : Cond) → is_kept_in (next_section_state p c) ≡ (not (is_false c) && not some)
+
+kept_live : (c : Cond) → is_kept_in (next_section_state LastUnknown c) ≡ (not (is_false c) && true)
+kept_live c = grind arith
+
+kept_skip : (c : Cond) → is_kept_in (next_section_state LastFalse c) ≡ (not (is_false c) && true)
+kept_skip c = grind arith
+
+kept_seek : (c : Cond) → is_kept_in (next_section_state NoneKept c) ≡ (not (is_false c) && true)
+kept_seek c = grind arith
+
+kept_never : (c : Cond) → false ≡ (not (is_false c) && false)
+kept_never c = grind arith
+
+-- after the first true group
+over-stays : (cs : List Cond) → section_state_after AfterTrue cs ≡ AfterTrue
+over-stays [] = refl
+over-stays (c ∷ cs) = over-stays cs
+
+over_agrees : (goes_with : Cond → Bool) (goes : Bool) → ((c : Cond) → goes_with c ≡ goes) → Agrees AfterTrue goes_with goes false true false
+over_agrees goes_with goes h = grind arith
+
+mutual
+  live_agrees : (cs : List Cond) → Agrees (section_state_after LastUnknown cs) (λ c. false) false false (any_true cs) (ends_with_first_true cs)
+  live_agrees [] = record { lives = refl; opener = λ part c. refl; endif = refl; kept = kept_live }
+  live_agrees (No ∷ cs) = skip_agrees cs
+  live_agrees (Unknown ∷ cs) = live_agrees cs
+  live_agrees (Yes ∷ []) = record { lives = refl; opener = λ part c. refl; endif = refl; kept = kept_never }
+  live_agrees (Yes ∷ d ∷ cs) = rw (over-stays cs) (over_agrees (λ c. false) false (λ c. refl))
+
+  skip_agrees : (cs : List Cond) → Agrees (section_state_after LastFalse cs) (λ c. false) false false (any_true cs) (ends_with_first_true cs)
+  skip_agrees [] = record { lives = refl; opener = λ part c. refl; endif = refl; kept = kept_skip }
+  skip_agrees (No ∷ cs) = skip_agrees cs
+  skip_agrees (Unknown ∷ cs) = live_agrees cs
+  skip_agrees (Yes ∷ []) = record { lives = refl; opener = λ part c. refl; endif = refl; kept = kept_never }
+  skip_agrees (Yes ∷ d ∷ cs) = rw (over-stays cs) (over_agrees (λ c. false) false (λ c. refl))
+
+seek_opener : (part : Part) (c : Cond) → opener_verdict_in NoneKept part c ≡ verdict_so_far [] part c
+seek_opener part c = grind arith
+
+-- the state of a section in a kept place agrees with the conditions of its groups
+pub agrees : (cs : List Cond) →
+    Agrees (section_state_after NoneKept cs) (λ c. gives_way (cs ++ c ∷ [])) (gives_way cs) (all_false cs) (any_true cs) (ends_with_first_true cs)
+agrees [] = record { lives = refl; opener = seek_opener; endif = refl; kept = kept_seek }
+agrees (No ∷ cs) = agrees cs
+agrees (Unknown ∷ cs) = live_agrees cs
+agrees (Yes ∷ []) = record { lives = refl; opener = λ part c. refl; endif = refl; kept = kept_never }
+agrees (Yes ∷ d ∷ cs) = rw (over-stays cs) (over_agrees (λ c. true) true (λ c. refl))
+
+-- a section in a removed place stays there
+dead-stays : (cs : List Cond) → section_state_after InRemoved cs ≡ InRemoved
+dead-stays [] = refl
+dead-stays (c ∷ cs) = dead-stays cs
+
+pub opener_mark : (kept : Bool) (cs : List Cond) (part : Part) (c : Cond) →
+    marked kept (verdict_so_far cs part c)
+    ≡ record { kept = not (is_in_removed (section_state_after (new_state kept) cs)); verdict = opener_verdict_in (section_state_after (new_state kept) cs) part c }
+opener_mark true cs part c = rw ((agrees cs).lives, (agrees cs).opener part c) refl
+opener_mark false cs part c = rw (dead-stays cs) refl
+
+pub endif_mark : (kept : Bool) (cs : List Cond) → marked kept (endif_verdict cs)
+    ≡ record { kept = not (is_in_removed (section_state_after (new_state kept) cs)); verdict = endif_verdict_in (section_state_after (new_state kept) cs) }
+endif_mark kept cs = grind (arith, agrees, dead-stays)
+
+-- the state gives whether the last group is kept
+pub kept_last : (kept : Bool) (cs : List Cond) (c : Cond) → is_kept_in (section_state_after (new_state kept) (cs ++ c ∷ [])) ≡ (kept && is_kept cs c)
+kept_last true cs c = ap is_kept_in (phase-last NoneKept cs c) ∙ (agrees cs).kept c
+kept_last false cs c = ap is_kept_in (dead-stays (cs ++ c ∷ []))
 
 -- an action's mark
 abbrev pub mark_of : Action → Mark

@@ -1,12 +1,24 @@
-use Rattle.std.proofs.Common.{◌≡◌, ◌∙◌, ◌∷◌, false, true, if◌then◌else◌, sym, ap, arith}
+use Rattle.std.proofs.Common.{◌≡◌, ◌∙◌, ◌∷◌, false, true, if◌then◌else◌, sym, ap, arith, ℕ, List, Bool, Some, None}
 use Rattle.ud_model.specs.conditions.Expressions.{is_prefix}
-use Rattle.ud_model.specs.conditions.Parsing.{reads, step, needs, has, before, paren, stuck}
+use Rattle.ud_model.specs.conditions.Parsing.{reads, step, needs, has, before, paren, stuck, Meaning, Frame, asks}
 use Rattle.ud_cond.specs.CondViews.{as_token}
 use Rattle.ud_cond.specs.expressions.Keepings.{flags_in}
-use Rattle.ud_cond.proofs.lemmas.expressions.ReadingLemmas.{reads-stuck}
-use Rattle.ud_cond.proofs.lemmas.expressions.DefinedLemmas.{asked, asked_none}
-use Rattle.ud_cond.proofs.expressions.reader.read_operand.Goals as goal
+use Rattle.ud_cond.proofs.lemmas.expressions.ReadingLemmas.{reads-stuck, reads-on}
 use Rattle.std.proofs.lemmas.Grind.{common_steps}
+use Rattle.ud_model.specs.conditions.Tokens.{next_token}
+use Rattle.ud_cond.specs.expressions.DefinedOperands.{asked_name}
+use Rattle.ud_cond.proofs.expressions.reader.read_operand.Goals as goal
+
+-- The text after `defined`, case by case: what it means in a state that asks for a name.
+
+module _ {A : Type 0} (m : Meaning A) (s : List (Frame A)) where
+  -- the name that a `defined` asks for
+  pub asked : (text n : List ℕ) (p : Bool) (rest : List ℕ) → asked_name (next_token text) ≡ Some (n, p, rest) → reads m (asks s) text ≡ reads m (has (m.is_defined n p) s) rest
+  asked text n p rest e = grind (arith, reads-on, reads-stuck)
+
+  -- no name
+  pub asked_none : (text : List ℕ) → asked_name (next_token text) ≡ None → reads m (asks s) text ≡ None
+  asked_none text e = grind (arith, reads-on, reads-stuck)
 
 pub returns-in_err-name-in-Defined-clause-none : goal.returns-in_err-name-in-Defined-clause-none
 returns-in_err-name-in-Defined-clause-none g c = let m = g.K.Keeper.meaning c.args.keeper.now in
