@@ -52,9 +52,6 @@ pub expression_spaced : (t : List ℕ) → expression_of (spaced true t) ≡ exp
 unfolding expression_of reads
 expression_spaced t = ap (λ (ts : Option (List Token)). parse_all_tokens itself (needs []) ts) (tokens_spaced t)
 
-white_if : (w v x y : Bool) → w ≡ v → x ≡ y → (w && x) ≡ (v && y)
-white_if w v x y e f = ap₂ (λ (a b : Bool). a && b) e f
-
 spread_white : {w : Bool} {u t : List ℕ} → IsSpread w u t → are_white u ≡ are_white t
 spread_white nothing = refl
 spread_white (kept b s) = ap (λ (x : Bool). is_white b && x) (spread_white s)

@@ -80,9 +80,6 @@ item_as (directive d) l = role_item (role_of d.kind) l
 item_as cut_keyword l = text_line l
 item_as text_content l = text_line l
 
-role_with : {L M : Type 0} (f : L → M) (p : Role) (l : L) → item_with f (role_item p l) ≡ role_item p (f l)
-role_with f p l = grind arith
-
 abbrev IsTextLine : Reading → Type 0
 IsTextLine r = is_directive (content_of r.scan) ≡ false
 

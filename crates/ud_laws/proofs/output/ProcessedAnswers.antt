@@ -38,9 +38,6 @@ use Rattle.ud_laws.proofs.output.SelectedAgain.{clear_run}
 abbrev Own : Options → Item Reading → Type 0
 Own o x = x ≡ item_of o (reading_of x)
 
-text_own : (o : Options) (r : Reading) (c : Content) → text_line r ≡ item_by o r c → text_scan_by r.scan c ≡ Some r.scan
-text_own o r c e = grind arith
-
 item_own : (o : Options) (x : Item Reading) → Own o x → IsOf IsText AnyOpener x
 item_own o x h = grind arith
 
