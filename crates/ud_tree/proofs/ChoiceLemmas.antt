@@ -45,14 +45,7 @@ leaves_at {below = below} text rule there is leaves fits = record {
 -- No rule does, and one more doesn't.
 pub leaves_none : {below : List ℕ} {texts more : List (List ℕ)} (text : List ℕ) (rule : Rule) → more ≡ texts ++ text ∷ [] → rule ≡ rule_of text →
     ¬ ((rule.effect ≡ Leave) × Fits rule below) → ¬ (LeavesDirectory texts below) → ¬ (LeavesDirectory more below)
-leaves_none {below = below} {texts = texts} text rule grown is other none h =
-    by_case (Contains-push_cases texts text h.text (subst (λ (ts : List (List ℕ)). Contains ts h.text) grown h.given))
-  where
-    by_case : Contains texts h.text ⊎ (text ≡ h.text) → ⊥
-    by_case (inl there) = none (record { text = h.text; given = there; leaves = h.leaves; fits = h.fits })
-    by_case (inr same) =
-        let r : rule ≡ rule_of h.text = is ∙ ap rule_of same in
-        other (ap (λ (s : Rule). s.effect) r ∙ h.leaves, subst (λ (s : Rule). Fits s below) (sym r) h.fits)
+leaves_none {below = below} {texts = texts} text rule grown is other none h = grind (arith, common_steps, Contains-push_cases)
 
 -- The bytes that follow a slash.
 pub after_slash : (path : List ℕ) (len : ℕ) → 0 < len → len ≤ length path → get_or path (len - 1) 0 ≡ 47 → IsBelow path (take (length path - len) (drop len path))

@@ -7,6 +7,7 @@ use Rattle.ud_tree.specs.declared.arguments.Arguments.{Arguments}
 use Rattle.ud_tree.specs.declared.walk.Found.{Found}
 use Rattle.ud_tree.specs.TreeRuns.{IsDone, all_done, stopped}
 use Rattle.ud_tree.specs.Walks.{IsBefore}
+use Rattle.std.proofs.lemmas.Grind.{common_steps}
 
 -- A stream that has failed still has after more was sent.
 pub still_failed : {a b : Stream} {bytes : List ℕ} → Sends a b bytes → a.failed ≡ true →
@@ -28,13 +29,7 @@ all_unfailed (stopped n shows is) off = absurd cc
 -- The first ones of some files are in their order.
 first_before : (n : ℕ) (files : List Found) → AllPairs IsBefore files →
     AllPairs IsBefore (take n files)
-first_before n files h i j d below within =
-    let within_n : j < n = omega (arith, within, length-take n files) in
-    let within_files : j < length files = omega (arith, within, length-take n files) in
-    subst (λ (f : Found). IsBefore f (get_or (take n files) j d))
-    (sym (get_or-take n files i d (omega arith)))
-    (subst (λ (f : Found). IsBefore (get_or files i d) f) (sym (get_or-take n files j d within_n))
-    (h i j d below within_files))
+first_before n files h i j d below within = grind (arith, common_steps, length-take, get_or-take)
 
 -- The files that were processed are in their order.
 pub done_before : {args : Arguments} {failed : Bool} {files done : List Found} →

@@ -12,6 +12,7 @@ use Rattle.std.specs.declared.cmp.Ordering.{Ordering}
 use Rattle.std.specs.declared.cmp.Ordering.TheVariants.{Less, Equal, Greater}
 use Rattle.ud_tree.specs.declared.walk.Found.{Found}
 use Rattle.ud_tree.specs.Walks.{IsBefore, IsKept, ArePicked, key_cmp, Key, key_of}
+use Rattle.std.proofs.lemmas.Grind.{common_steps}
 
 less_is_none : Less ≡ Equal → ⊥
 less_is_none e = absurd cc
@@ -36,21 +37,11 @@ same_lists (x ∷ xs) (y ∷ ys) e = let both = both_equal (nat_cmp x y) (slice_
 
 -- If a file isn't before another one, which isn't before a third, it isn't before that.
 not_before_then : (f g h : Found) → ¬ (IsBefore g f) → ¬ (IsBefore h g) → ¬ (IsBefore h f)
-not_before_then f g h a b c = by_order (slice_cmp nat_cmp (string_bytes g.path) (string_bytes h.path)) refl
-  where
-    by_order : (r : Ordering) → slice_cmp nat_cmp (string_bytes g.path) (string_bytes h.path) ≡ r → ⊥
-    by_order Less e = a (nat_list_cmp_total.trans (string_bytes g.path) (string_bytes h.path) (string_bytes f.path) e c)
-    by_order Equal e = a (nat_list_cmp_total.congr (string_bytes g.path) (string_bytes h.path) (string_bytes f.path) e ∙ c)
-    by_order Greater e = b (nat_list_cmp_total.antisymm (string_bytes h.path) (string_bytes g.path) ∙ ap ordering_reverse e)
+not_before_then f g h a b c = grind (arith, common_steps, nat_list_cmp_total)
 
 -- If neither of two files is before the other, they have the same path.
 same_path : (f g : Found) → ¬ (IsBefore f g) → ¬ (IsBefore g f) → string_bytes f.path ≡ string_bytes g.path
-same_path f g a b = by_order (slice_cmp nat_cmp (string_bytes f.path) (string_bytes g.path)) refl
-  where
-    by_order : (r : Ordering) → slice_cmp nat_cmp (string_bytes f.path) (string_bytes g.path) ≡ r → string_bytes f.path ≡ string_bytes g.path
-    by_order Less e = absurd (a e)
-    by_order Equal e = same_lists (string_bytes f.path) (string_bytes g.path) e
-    by_order Greater e = absurd (b (nat_list_cmp_total.antisymm (string_bytes g.path) (string_bytes f.path) ∙ ap ordering_reverse e))
+same_path f g a b = grind (arith, common_steps, same_lists, nat_list_cmp_total)
 
 -- A file of a sorted list is before none of the earlier ones.
 sorted_before : (cmp : Found → Found → Ordering) (all : List Found) →

@@ -114,11 +114,7 @@ module _ {args : Arguments} {files : List Found} where
 -- The list of a text's conditions is empty if none is counted.
 pub texts_count : (table : List Argument) (ms : List Mention) → (length (lines_for table Texts [] ms) == 0) ≡ (named_count table ms == 0)
 texts_count table [] = refl
-texts_count table (m ∷ ms) = by_case (names_listed table m) refl (texts_count table ms)
-  where
-    by_case : (b : Bool) → names_listed table m ≡ b → (length (lines_for table Texts [] ms) == 0) ≡ (named_count table ms == 0) →
-        (length (lines_for table Texts [] (m ∷ ms)) == 0) ≡ (named_count table (m ∷ ms) == 0)
-    by_case b e more = grind (arith, common_steps, e, more)
+texts_count table (m ∷ ms) = grind (arith, common_steps, common_steps, texts_count table ms)
 
 -- 3. The walk over files of all names.
 

@@ -29,14 +29,7 @@ item_shorter rest = grind arith
 within_shorter : (n : ℕ) (first f : Bool) (text : List ℕ) (b : ℕ) (t : SetTest) → set_within n first f text b ≡ Some t → length t.after ≤ length text
 within_shorter zero first f text b t e = absurd cc
 within_shorter (suc n) first f [] b t e = absurd cc
-within_shorter (suc n) first f (d ∷ rest) b t e =
-    by_end (ends_set first d) e (within_shorter n false (f || within d (item_high d rest) b) (item_after rest) b t) (item_shorter rest)
-  where
-    by_end : (e : Bool) → cond e (Some (record { has = f; after = rest })) (set_within n false (f || within d (item_high d rest) b) (item_after rest) b) ≡ Some t →
-        (set_within n false (f || within d (item_high d rest) b) (item_after rest) b ≡ Some t → length t.after ≤ length (item_after rest)) →
-        length (item_after rest) ≤ length rest → length t.after ≤ length (d ∷ rest)
-    by_end true is later few = let same : rest ≡ t.after = cc in subst (λ (r : List ℕ). length r ≤ length (d ∷ rest)) same (omega arith)
-    by_end false is later few = let short : length t.after ≤ length (item_after rest) = later is in omega arith
+within_shorter (suc n) first f (d ∷ rest) b t e = grind (arith, common_steps, item_shorter, within_shorter n false (f || within d (item_high d rest) b) (item_after rest) b t)
 
 opposite_shorter : (k : ℕ) (o : Option SetTest) → ((t : SetTest) → o ≡ Some t → length t.after ≤ k) → (t : SetTest) → opposite o ≡ Some t → length t.after ≤ k
 opposite_shorter k o h t e = grind arith

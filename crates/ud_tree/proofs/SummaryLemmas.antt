@@ -54,16 +54,7 @@ remaining_listed listed count text on p = grind (arith, common_steps, and_false)
 -- The line of conditions that aren't listed, of which there are some.
 pub remaining_told : (listed : Bool) (count : ℕ) (text : List ℕ) → listed ≡ false → ¬ (count ≡ 0) → text ≡ remaining_text count →
     line_of ((decimal count ++ text) ++ codes "; -r lists them") ≡ remaining_line listed count
-remaining_told listed count text off some p =
-    subst (λ (b : Bool). line_of ((decimal count ++ text) ++ codes "; -r lists them") ≡ remaining_line b count) (sym off)
-    (ap (λ x. line_of ((decimal count ++ x) ++ codes "; -r lists them")) p ∙ by_test (count == 0) refl)
-  where
-    line : List ℕ
-    line = line_of (decimal count ++ remaining_text count ++ codes "; -r lists them")
-
-    by_test : (b : Bool) → (count == 0) ≡ b → line ≡ cond ((count == 0) && true) [] line
-    by_test true is = absurd (some (eqb-true count 0 is))
-    by_test false is = sym (ap (λ (b : Bool). cond (b && true) [] line) is)
+remaining_told listed count text off some p = grind (arith, common_steps)
 
 -- No line was removed.
 pub removed_none : (count : ℕ) → count ≡ 0 → removed_line count ≡ []
@@ -109,11 +100,7 @@ others_none (f ∷ fs) e = absurd cc
 pub others_told : (others : List Found) (f : Found) (text path : List ℕ) → Some f ≡ slice_get others 0 → text ≡ others_text (length others) → path ≡ string_bytes f.path →
     line_of ((decimal (length others) ++ text) ++ path) ≡ others_line (names_of others)
 others_told [] f text path e p q = absurd cc
-others_told (g ∷ fs) f text path e p q =
-    let first : f ≡ g = cc in
-    ap (λ (x : List ℕ). line_of ((decimal (length (g ∷ fs)) ++ x) ++ path)) p
-    ∙ ap (λ (n : ℕ). line_of ((decimal n ++ others_text n) ++ path)) (sym (length-map (g ∷ fs) (λ (h : Found). string_bytes h.path)))
-    ∙ ap (λ (x : List ℕ). line_of ((decimal (length (names_of (g ∷ fs))) ++ others_text (length (names_of (g ∷ fs)))) ++ x)) (q ∙ ap (λ (h : Found). string_bytes h.path) first)
+others_told (g ∷ fs) f text path e p q = grind (arith, common_steps, length-map)
 
 -- A quiet run ends with nothing.
 pub ends_quiet : (args : Arguments) (counts : Counts) (faults hidden : ℕ) (others : List (List ℕ)) (r : ReportState) → args.quiet ≡ true → TellsEnd args counts faults hidden others r r

@@ -71,13 +71,7 @@ walk_call w r fine is = walk_quiet (w ∷ []) r is (then_answered w none_told fi
 walk_one : (ws : List WalkCall) {calls calls' : List Call} {r r' : ReportState} {message : List ℕ} →
     calls' ≡ map walked ws ++ calls → AreTold ws (message ∷ []) → ReportsOne message r r' →
     ReportsWalk calls calls' r r'
-walk_one ws {message = message} is told h =
-    record {
-      messages = message ∷ [];
-      walk = record { calls = ws; are = is; told = told };
-      tells = tells_same (sym (append-nil message)) h.tells;
-      counted = h.counted;
-    }
+walk_one ws {message = message} is told h = grind (arith, common_steps, tells_same)
 
 -- A call failed, and its message was written.
 pub walk_refused : (w : WalkCall) {calls calls' : List Call} {r r' : ReportState} → calls' ≡ walked w ∷ calls → ReportsOf (IsRefusal w) r r' → ReportsWalk calls calls' r r'

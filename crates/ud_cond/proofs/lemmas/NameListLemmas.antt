@@ -44,10 +44,6 @@ named_by text (Some t) e s = ap names_in_all (tokens-whole text t e) ∙ names-s
 pub names-tree : (text : List ℕ) → is_some (expression_of text) ≡ true → names_in_text text ≡ names_in_tree (expression_of text)
 names-tree text s = grind (arith, named_by)
 
--- a text has a value if it has a tree, whatever the values of its parts are
-pub reads-some : {A : Type 0} (m : Meaning A) (text : List ℕ) → is_some (reads m (needs []) text) ≡ is_some (expression_of text)
-reads-some m text = grind (arith, reads_meaning)
-
 -- the names of a text are that of the leading token, if it is one, and those of the text after it
 pub record Steps (text : List ℕ) (t : Token) (rest : List ℕ) : Type 0 where
   pub names : names_in_text text ≡ option_to_list (name_in_token t) ++ names_in_text rest
@@ -55,11 +51,3 @@ pub record Steps (text : List ℕ) (t : Token) (rest : List ℕ) : Type 0 where
 
 pub steps : (text : List ℕ) (t : Token) (rest : List ℕ) → found t rest ≡ next_token text → is_some (tokens_of text) ≡ true → Steps text t rest
 steps text t rest e s = grind (arith, tokens_of-prepend_token)
-
--- a text without tokens has no names
-pub names-end : (text : List ℕ) → at_end ≡ next_token text → names_in_text text ≡ []
-names-end text e = grind (arith, tokens_of-prepend_token)
-
--- a text that consists of tokens is readable
-pub readable : (text : List ℕ) → unreadable ≡ next_token text → is_some (tokens_of text) ≡ true → ⊥
-readable text e s = grind (arith, tokens_of-prepend_token)

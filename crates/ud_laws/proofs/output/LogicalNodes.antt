@@ -306,9 +306,7 @@ group_stays (r ∷ []) i n = by (is_foldable (r ∷ []))
     by : (b : Bool) → (if b then text_of (folded_line (r ∷ [])) else plain (r ∷ [])) ≡ plain (r ∷ [])
     by true = sym (append-nil (text_of r.line))
     by false = refl
-group_stays (r ∷ s ∷ rs) i n =
-    ap (λ (b : Bool). if b then text_of (folded_line (r ∷ s ∷ rs)) else plain (r ∷ s ∷ rs))
-    (not_foldable r (s ∷ rs) (no_directive_on r n.0 (next_joined r s rs i ∙ i.one.1.0)))
+group_stays (r ∷ s ∷ rs) i n = grind (arith, common_steps, not_foldable, no_directive_on, next_joined)
 
 groups_stay : (gs : List (List Reading)) → AreLogical gs → Each NotLong (flat_map (λ (g : List Reading). g) gs) →
     flat_map folded_bytes gs ≡ plain (flat_map (λ (g : List Reading). g) gs)

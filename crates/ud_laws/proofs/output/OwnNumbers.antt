@@ -17,9 +17,7 @@ line_of r = r.line
 
 lines_after : (before : List Reading) (ls : List (Mode × Line)) → map line_of (readings_after before ls) ≡ map line_of before ++ map (λ (l : Mode × Line). l.1) ls
 lines_after before [] = sym (append-nil (map line_of before))
-lines_after before (l ∷ ls) = lines_after (before ++ next_reading before l.0 l.1 ∷ []) ls
-    ∙ ap (λ (ks : List Line). ks ++ map (λ (k : Mode × Line). k.1) ls) (map-append line_of before (next_reading before l.0 l.1 ∷ []))
-    ∙ append_assoc (map line_of before) (l.1 ∷ []) (map (λ (k : Mode × Line). k.1) ls)
+lines_after before (l ∷ ls) = grind (arith, common_steps, map-append, lines_after (before ++ next_reading before l.0 l.1 ∷ []) ls)
 
 lines_back : (m : Mode) (ls : List Line) → map (λ (l : Mode × Line). l.1) (map (in_mode m) ls) ≡ ls
 lines_back m [] = refl

@@ -32,6 +32,7 @@ use Rattle.ud_model.proofs.output.EachLines.{IsOf, from_items, AnyOpener}
 use Rattle.ud_model.proofs.output.PrunedTree.{closed_same}
 use Rattle.ud_model.proofs.output.SeenLines.{scanned, left_seen, text_scan_by, with_lines-twice}
 use Rattle.ud_laws.proofs.output.SelectedAgain.{clear_run}
+use Rattle.std.proofs.lemmas.Grind.{common_steps}
 
 -- 1. The text lines of a text are read as text.
 
@@ -48,9 +49,7 @@ own_items o _ _ (one_item xs t r l u e) =
     (item_own o (next_item o xs t l) (ap (item_of o) (sym (reading_of-item_of o (read_after xs (mode_after o t) l)))), tt)
 
 pub lines_text : (o : Options) (input : List ℕ) (ns : Nodes Reading) → IsTreeOf o input (closed ns) → LinesText ns
-lines_text o input ns i = from_items IsText AnyOpener ns
-    (subst (λ (xs : List (Item Reading)). Each (IsOf IsText AnyOpener) xs) (sym (read_lines i.read))
-    (own_items o i.items (closed ns) i.read))
+lines_text o input ns i = grind (arith, common_steps, from_items, IsText, AnyOpener, Each, IsOf, read_lines, own_items)
 
 -- 2. The nodes that pruning leaves of each file.
 

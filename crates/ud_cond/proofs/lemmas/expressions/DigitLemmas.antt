@@ -8,22 +8,15 @@ use Rattle.ud_cond.specs.expressions.Digits.{IsOneDigit}
 use Rattle.ud_cond.specs.declared.expressions.constants.Base.{Base}
 use Rattle.ud_cond.specs.CondViews.{base_of}
 
-grows_by : (b : Base) (n d : ℕ) → n ≤ n * base_of b + d
-grows_by b n d = grind arith
-
 -- more digits make no smaller number
 pub grows : (b : Base) (n : ℕ) (ds : List ℕ) → n ≤ append_digits (base_of b) n ds
 grows b n [] = omega arith
-grows b n (d ∷ ds) = grind (arith, grows_by, grows b (n * base_of b + digit_value d) ds)
-
--- a number above the greatest one is unknown
-limited-above : (n : ℕ) → 2 ^ 63 ≤ n → limited n ≡ None
-limited-above n l = grind arith
+grows b n (d ∷ ds) = grind (arith, grows b (n * base_of b + digit_value d) ds)
 
 -- a number whose digits so far are too large is unknown too
 pub unknown-above : (b : Base) (n : ℕ) (ds : List ℕ) → 0 < length ds → 2 ^ 64 ≤ n * base_of b + digit_value (get_or ds 0 0) → limited (append_digits (base_of b) n ds) ≡ None
 unknown-above b n [] l h = absurd (omega arith)
-unknown-above b n (d ∷ ds) l h = grind (arith, limited-above, grows)
+unknown-above b n (d ∷ ds) l h = grind (arith, grows)
 
 -- the parts of a word of one digit
 digit_by : (b : ℕ) (z : Bool) → (b == 48) ≡ z → is_digit b ≡ true → (base : ℕ) × (constant_parts (b ∷ []) ≡ record { base = base; digits = b ∷ []; suffix = [] })
@@ -34,25 +27,12 @@ no_suffix : suffix_sign [] ≡ Some false
 unfolding suffix_sign
 no_suffix = refl
 
-dash : (b : ℕ) → is_digit b ≡ true → (b == 45) ≡ false
-dash b d = grind arith
-
 -- a text of one byte
 pub sole : (w : List ℕ) → length w ≡ 1 → w ≡ get_or w 0 0 ∷ []
 sole [] l = absurd (omega arith)
 sole (b ∷ []) l = refl
 sole (b ∷ a ∷ w) l = absurd (omega arith)
 
-limited-below : (n : ℕ) → n < 2 ^ 63 → limited n ≡ Some (pos n)
-limited-below n l = grind arith
-
 -- a word of one digit is a constant of the digit's value
 pub one-digit : (b n : ℕ) → is_digit b ≡ true → n ≡ digit_value b → n < 256 → IsOneDigit (b ∷ []) (pos n)
-one-digit b n d is few = grind (arith, digit_by, no_suffix, limited-below, dash)
-
--- the value of a name that is defined as one digit
-pub text_value-digit : (u : Bool) (w : List ℕ) (z : ℤ) → IsOneDigit w z → text_value u w ≡ Some z
-text_value-digit u w z is = grind arith
-
-pub text_has_u-digit : (w : List ℕ) (z : ℤ) → IsOneDigit w z → text_has_u w ≡ false
-text_has_u-digit w z is = grind arith
+one-digit b n d is few = grind (arith, digit_by, no_suffix)

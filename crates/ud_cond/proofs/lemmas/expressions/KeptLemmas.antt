@@ -34,9 +34,6 @@ moved : (n : ℕ) (f : Bool) (fs : List Bool) → replicate (suc n) f ++ fs ≡ 
 moved zero f fs = refl
 moved (suc n) f fs = ap (λ (gs : List Bool). f ∷ gs) (moved n f fs)
 
-one_more : (n : ℕ) (f : Bool) (fs : List Bool) → replicate (n + 1) f ++ fs ≡ replicate n f ++ f ∷ fs
-one_more n f fs = grind (arith, moved)
-
 module _ (table : List Argument) (rules : Rules) where
   abbrev left : Expression → Residual
   left e = residual table rules e
@@ -74,7 +71,7 @@ module _ (table : List Argument) (rules : Rules) where
     alone_by b d = grind arith
 
     joined_by : (b d : Bool) → flags_by b d ≡ joined_flags b d e f (keeps table rules e) (keeps table rules f)
-    joined_by b d = grind (arith, one_more, all_kept)
+    joined_by b d = grind (arith, moved, all_kept)
 
   joined_and : (e f : Expression) → joined_kept rules And (kept_of_tree table rules e) (kept_of_tree table rules f) ≡ kept_of_tree table rules (binary And e f)
   joined_and e f = grind (arith, kept_same, cond_by, lost_by, alone_by, joined_by)
@@ -114,6 +111,3 @@ module _ (table : List Argument) (rules : Rules) where
 -- a text that is read has a tree
 pub tree_of : (f : Expression → Kept) (o : Option Expression) (k : Kept) → option_map f o ≡ Some k → (e : Expression) × (o ≡ Some e) × (k ≡ f e)
 tree_of f o k e = grind arith
-
-pub no_tree : (f : Expression → Kept) (o : Option Expression) → option_map f o ≡ None → o ≡ None
-no_tree f o e = grind arith

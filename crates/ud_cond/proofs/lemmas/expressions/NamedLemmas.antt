@@ -9,15 +9,11 @@ use Rattle.ud_model.proofs.conditions.SymbolLemmas.{end_found}
 use Rattle.ud_cond.specs.declared.expressions.values.Value.{Value}
 use Rattle.ud_cond.specs.expressions.Digits.{IsOneDigit}
 use Rattle.ud_cond.specs.expressions.Evaluation.{name_value_of, defined_name_value_of}
-use Rattle.ud_cond.proofs.lemmas.expressions.DigitLemmas.{text_value-digit, text_has_u-digit}
-
-ends_none : (k : ℕ) (t : List Argument) (n : List ℕ) → defined_text t n ≡ None → resolve_within k t n ≡ None
-ends_none k t n e = grind arith
 
 -- a name that isn't defined resolves to nothing
 end-none : (t : List Argument) (n : List ℕ) → defined_text t n ≡ None → resolve t n ≡ None
 unfolding resolve
-end-none t n e = ends_none (length t) t n e
+end-none t n e = grind (arith, e)
 
 -- a name resolves to the text that defines it, if that is no identifier
 pub end-here : (t : List Argument) (n v : List ℕ) → defined_text t n ≡ Some v → is_identifier v ≡ false → resolve t n ≡ Some v
@@ -32,23 +28,15 @@ by_entry : (t : List Argument) (u : Bool) (n : List ℕ) (arguments : Bool) (end
 unfolding name_value name_has_u
 by_entry t u n arguments end e f h = grind arith
 
-unlisted_by : (u arguments : Bool) → worth_by u arguments None None ≡ record { number = None; unsigned = false; listed = false; calls_undefined = false }
-unlisted_by u arguments = grind arith
-
 -- the value of a name that isn't listed
 pub worth-unlisted : (t : List Argument) (u : Bool) (n : List ℕ) (arguments : Bool) → entry_in t n ≡ None →
     record { number = None; unsigned = false; listed = false; calls_undefined = false } ≡ name_value_of t u n arguments
-worth-unlisted t u n arguments e = grind (arith, by_entry, end-none, unlisted_by)
-
-undefined_by_entry : (u arguments ignoring : Bool) →
-    worth_by u arguments None (Some (record { value = None; ignoring = ignoring })) ≡
-    record { number = Some (pos 0); unsigned = false; listed = true; calls_undefined = arguments }
-undefined_by_entry u arguments ignoring = grind arith
+worth-unlisted t u n arguments e = grind (arith, by_entry, end-none)
 
 -- the value of a name that is undefined
 pub worth-undefined : (t : List Argument) (u : Bool) (n : List ℕ) (arguments ignoring : Bool) → entry_in t n ≡ Some (record { value = None; ignoring = ignoring }) →
     record { number = Some (pos 0); unsigned = false; listed = true; calls_undefined = arguments } ≡ name_value_of t u n arguments
-worth-undefined t u n arguments ignoring e = grind (arith, by_entry, end-none, undefined_by_entry)
+worth-undefined t u n arguments ignoring e = grind (arith, by_entry, end-none)
 
 defined_by_entry : (t : List Argument) (u : Bool) (n : List ℕ) (arguments ignoring : Bool) (v : List ℕ) →
     worth_by u arguments (resolve t n) (Some (record { value = Some v; ignoring = ignoring })) ≡
@@ -66,4 +54,4 @@ worth-defined t u n arguments ignoring v e = grind (arith, by_entry, defined_by_
 pub worth-digit : (t : List Argument) (u : Bool) (n text : List ℕ) (o : Option ℤ) → is_some o ≡ true → defined_text t n ≡ Some text → IfSome o (IsOneDigit text) →
     record { number = o; unsigned = false; listed = true; calls_undefined = false } ≡ defined_name_value_of t u n
 unfolding name_has_u
-worth-digit t u n text o some d is = grind (arith, end-here, text_value-digit, text_has_u-digit)
+worth-digit t u n text o some d is = grind (arith, end-here)

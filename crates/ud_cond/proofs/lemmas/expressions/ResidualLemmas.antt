@@ -70,16 +70,9 @@ both_kept front n m =
 pub length_with_operator : (front ks : List Bool) → length (front ++ ks ++ true ∷ []) ≡ length front + (length ks + 1)
 length_with_operator front ks = grind (arith, length-append)
 
--- parentheses that stay or go
-pub all_kept-parens : (s : Bool) (xs : List Bool) → (s && are_all_kept xs) ≡ are_all_kept (s ∷ xs ++ s ∷ [])
-all_kept-parens s xs = grind (arith, all_kept-append)
-
 -- the flags of an operator between others
 pub with_operator : (xs front kf jf : List Bool) → xs ≡ front ++ kf ++ true ∷ jf → xs ≡ front ++ (kf ++ true ∷ []) ++ jf
 with_operator xs front kf jf e = grind (arith, append_assoc)
-
-pub one_apart : (xs front ks : List Bool) → xs ≡ front ++ true ∷ ks → xs ≡ front ++ (true ∷ []) ++ ks
-one_apart xs front ks e = grind (arith, append_assoc)
 
 pub to_end : (xs front ys : List Bool) → xs ≡ front ++ ys → xs ≡ front ++ ys ++ []
 to_end xs front ys e = e ∙ sym (append-nil (front ++ ys))

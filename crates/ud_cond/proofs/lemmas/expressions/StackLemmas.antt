@@ -32,11 +32,6 @@ fewer (Opening ∷ ws) vs m = let h = fewer ws vs m in omega arith
 pub holds-push : {A : Type 0} (new ws : List PendingOp) (vs : List A) (x : PendingOp) → new ≡ ws ++ x ∷ [] → AreMatched (x ∷ reverse ws) vs → AreMatched (reverse new) vs
 holds-push new ws vs x e m = grind (arith, reverse-append)
 
-pub holds-both : {A : Type 0} (new ws : List PendingOp) (more vs : List A) (o : Operator) (a : A) →
-    new ≡ ws ++ Binary o ∷ [] → more ≡ vs ++ a ∷ [] → AreMatched (reverse ws) (reverse vs) →
-    AreMatched (reverse new) (reverse more)
-holds-both new ws more vs o a e f m = grind (arith, holds-push, reverse-append)
-
 -- there is capacity for one more operator, or for an operand too
 pub room : {A : Type 0} (ws : List PendingOp) (vs : List A) (n : ℕ) → AreMatched (reverse ws) (reverse vs) → weight (frames (reverse ws) (reverse vs)) + 1 ≤ n → length ws < n
 room ws vs n m l = grind (arith, weighs, length-reverse)

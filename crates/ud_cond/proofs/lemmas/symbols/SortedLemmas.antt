@@ -27,10 +27,6 @@ name_total = then_total (on_total key_of nat_cmp_total) alike_total
 then_equal : (a b : Ordering) → ordering_then a b ≡ Equal → b ≡ Equal
 then_equal a b e = grind arith
 
--- a name that comes after another doesn't come before it by its key
-then_greater : (a b : Ordering) → ordering_then a b ≡ Greater → is_lt a ≡ false
-then_greater a b e = grind arith
-
 -- names that compare as equal are equal
 name_ties : (m n : List ℕ) → name_cmp m n ≡ Equal → m ≡ n
 name_ties m n e =
@@ -65,7 +61,7 @@ module _ (rows : List Argument) (sorted : AreSorted rows) where
   rise-keys key = searchable_from_sorted nat_cmp_total (λ a. key_of a.name) rows key (λ k d low high.
       let less : name_cmp (get_or rows k d).name (get_or rows (k + 1) d).name ≡ Less =
       ap₂ name_cmp (default k d (omega arith)) (default (k + 1) d high) ∙ sorted k (k + 1) (omega arith) high in
-      then_greater _ _ (turned (get_or rows k d).name (get_or rows (k + 1) d).name less))
+      (grind (arith, turned (get_or rows k d).name (get_or rows (k + 1) d).name less)))
     where
       default : (k : ℕ) (d : Argument) → k < length rows → (get_or rows k d).name ≡ name_at rows k
       default k d high = grind (arith, get_or_default)
@@ -93,10 +89,6 @@ gap-keys rows sorted name (Err i) within parted = record {
   after = λ k low. ap (λ o. ordering_then o (same_key_cmp (name_at rows k) name)) ((parted (rise-keys rows sorted (key_of name))).0 k no_row (omega arith) low);
   before = λ k low high. ap (λ o. ordering_then o (same_key_cmp (name_at rows k) name)) ((parted (rise-keys rows sorted (key_of name))).1 k no_row low high);
 }
-
--- a row is changed and keeps its name
-pub sorted-set : (rows : List Argument) (i : ℕ) (a : Argument) → AreSorted rows → IsRowOf rows i a.name → AreSorted (set rows i a)
-sorted-set rows i a sorted row j k low high = grind (arith, cases_lt, length-set, set, get_or-set_other, get_or-set_same)
 
 -- names with one inserted: each is an old one before the position, the new one at it, or an old one
 -- after it, moved up by one

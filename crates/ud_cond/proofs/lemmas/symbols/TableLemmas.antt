@@ -42,13 +42,6 @@ entry_from-last e (r ∷ rows) (suc i) name last =
     entry_from-last (if bytes_eq r.name name then Some r.entry else e) rows i name
     (record { within = let w : suc i < length (r ∷ rows) = last.within in omega arith; named = last.named; last = λ k low high. last.last (suc k) (omega arith) (omega arith) })
 
--- the first row is changed, and no other row has its name
-changed_front : (t : Bool) (e : Option Entry) (new old : Entry) (rows : List Argument) (name : List ℕ) →
-    (t ≡ true → NoneFrom rows 0 name) →
-    entry_from (if t then Some new else e) rows name ≡
-    (if t then Some new else entry_from (if t then Some old else e) rows name)
-changed_front t e new old rows name none = grind (arith, entry_from-none)
-
 -- the last row of a name is changed; `e` is the entry before the rows
 pub entry_from-set : (e : Option Entry) (rows : List Argument) (i : ℕ) (a : Argument) → IsLastRow rows i a.name →
     (name : List ℕ) →
@@ -57,7 +50,7 @@ entry_from-set e [] i a last name = absurd (let w : i < 0 = last.within in omega
 entry_from-set e (r ∷ rows) zero a last name =
     let none : bytes_eq a.name name ≡ true → NoneFrom rows 0 name =
     λ t k low high. subst (λ n. bytes_eq (name_at rows k) n ≡ false) ((bytes_eq-Decides a.name name).0 t) (last.last (suc k) (omega arith) (omega arith)) in
-    rw last.named (changed_front (bytes_eq a.name name) e a.entry r.entry rows name none)
+    rw last.named (grind (arith, entry_from-none, none))
 entry_from-set e (r ∷ rows) (suc i) a last name =
     entry_from-set (if bytes_eq r.name name then Some r.entry else e) rows i a
     (record { within = let w : suc i < length (r ∷ rows) = last.within in omega arith; named = last.named; last = λ k low high. last.last (suc k) (omega arith) (omega arith) }) name
@@ -81,7 +74,3 @@ entry_from-insert e rows zero a within none name =
 entry_from-insert e [] (suc i) a within none name = absurd (omega arith)
 entry_from-insert e (r ∷ rows) (suc i) a within none name =
     entry_from-insert (if bytes_eq r.name name then Some r.entry else e) rows i a (omega arith) (λ k low high. none (suc k) (omega arith) (omega arith)) name
-
--- a row that is inserted for a name without one sets the entry of the name
-pub changes-insert : (rows old new : List Argument) (i : ℕ) (row a : Argument) → rows ≡ old → row ≡ a → new ≡ insert rows i row → i ≤ length rows → NoneFrom rows i a.name → SetsEntry old new a
-changes-insert rows old new i row a view same added within none name = grind (arith, entry_from-insert)

@@ -1,11 +1,11 @@
-use Rattle.std.proofs.Common.{sym, ◌∙◌, ap}
+use Rattle.std.proofs.Common.{sym, ◌∙◌, ap, arith}
 use Rattle.ud_model.specs.conditions.Parsing.{expression_of}
 use Rattle.ud_model.specs.aids.Residuals.{Residual}
 use Rattle.ud_model.proofs.conditions.ResidualSame.{residual_same, keeps_same}
 use Rattle.ud_cond.specs.declared.expressions.parts.Part.{Part}
 use Rattle.ud_cond.specs.CondViews.{as_rules}
 use Rattle.ud_cond.specs.expressions.ResidualReading.{Kept, kept_of_tree}
-use Rattle.ud_cond.proofs.lemmas.expressions.KeptLemmas.{reads_kept, tree_of, no_tree}
+use Rattle.ud_cond.proofs.lemmas.expressions.KeptLemmas.{reads_kept, tree_of}
 use Rattle.ud_cond.proofs.expressions.residuals.residual.Goals as goal
 
 pub returns-clause-some : goal.returns-clause-some
@@ -22,5 +22,4 @@ returns-clause-some c = λ calls represents.
 
 pub returns-in_err-whole-clause-none : goal.returns-in_err-whole-clause-none
 returns-in_err-whole-clause-none c = rw c.from_residual.ensures
-    (no_tree (kept_of_tree c.args.symbols.now (as_rules c.args.rules)) (expression_of c.args.text.now)
-    (sym (reads_kept c.args.symbols.now (as_rules c.args.rules) c.args.text.now) ∙ c.in_err-whole.ensures.none))
+    (grind (arith, sym (reads_kept c.args.symbols.now (as_rules c.args.rules) c.args.text.now) ∙ c.in_err-whole.ensures.none))

@@ -1,16 +1,17 @@
-use Rattle.std.proofs.Common.{◌∙◌, ◌++◌, sym, ap}
+use Rattle.ud_cond.proofs.lemmas.expressions.ReadingLemmas.{tokens_of-prepend_token}
+use Rattle.std.proofs.Common.{◌∙◌, ◌++◌, sym, ap, arith}
 use Rattle.std.specs.Option.{option_to_list}
 use Rattle.ud_cond.specs.list_names.NameLists.{names_in_text}
 use Rattle.ud_cond.specs.CondViews.{as_token}
 use Rattle.ud_model.proofs.conditions.TokenLemmas.{shorter}
-use Rattle.ud_cond.proofs.lemmas.NameListLemmas.{steps, names-end, readable}
+use Rattle.ud_cond.proofs.lemmas.NameListLemmas.{steps}
 use Rattle.ud_cond.proofs.list_names.names_iter.next_name.Goals as goal
 
 pub returns-in-AtEnd-clause-none : goal.returns-in-AtEnd-clause-none
-returns-in-AtEnd-clause-none c = c.tokens.invariant.0 ∙ names-end c.tokens.rest.now c.in-AtEnd.ensures
+returns-in-AtEnd-clause-none c = c.tokens.invariant.0 ∙ (grind (arith, tokens_of-prepend_token, c.in-AtEnd.ensures))
 
 pub returns-in-Unreadable-clause-none : goal.returns-in-Unreadable-clause-none
-returns-in-Unreadable-clause-none c = absurd (readable c.tokens.rest.now c.in-Unreadable.ensures c.tokens.invariant.1)
+returns-in-Unreadable-clause-none c = absurd (grind (arith, tokens_of-prepend_token, c.in-Unreadable.ensures, c.tokens.invariant.1))
 
 pub returns-in-Some-clause-some : goal.returns-in-Some-clause-some
 returns-in-Some-clause-some c =

@@ -1,9 +1,9 @@
 -- By the row of the name, or by its gap.
-use Rattle.std.proofs.Common.{◌∙◌, ap, subst, refl}
+use Rattle.std.proofs.Common.{◌∙◌, ap, subst, refl, arith}
 use Rattle.std.proofs.lemmas.Result.{on_ok_weaker}
 use Rattle.ud_model.specs.conditions.Table.{entry_in}
 use Rattle.ud_cond.specs.symbols.SymbolTable.{AreSorted, IsRowOf, IsGapFor}
-use Rattle.ud_cond.proofs.lemmas.symbols.TableLemmas.{changes-set, changes-insert}
+use Rattle.ud_cond.proofs.lemmas.symbols.TableLemmas.{changes-set, entry_from-insert}
 use Rattle.ud_cond.proofs.lemmas.symbols.SortedLemmas.{last-row, none-gap}
 use Rattle.ud_cond.proofs.symbols.Symbols.add.Goals as goal
 
@@ -19,6 +19,5 @@ pub returns-in-Err-clause-ok : goal.returns-in-Err-clause-ok
 returns-in-Err-clause-ok c =
     let gap = subst (λ n. IsGapFor c.args.self.now c.in-Err.i n) c.name.ensures c.in-Err.ensures.absent in
     on_ok_weaker c.insert_at.result
-    (λ added. changes-insert c.args.self.now c.args.self.now c.insert_at.new.self c.in-Err.i c.args.row c.args.row refl refl added gap.within
-    (none-gap c.args.self.now c.in-Err.i c.args.row.name gap))
+    (λ added. (grind (arith, entry_from-insert, added, gap.within, none-gap c.args.self.now c.in-Err.i c.args.row.name gap)))
     c.insert_at.ensures.ok

@@ -1,7 +1,7 @@
 use Rattle.std.proofs.Common.{◌≡◌, ℕ, ◌+◌, List, [], ◌∷◌, ◌++◌, length, Bool, true, not, ◌&&◌, sym, ◌∙◌, ap, ap₂, append_assoc, length-append, arith}
 use Rattle.ud_cond.specs.declared.expressions.parts.Part.{Part}
 use Rattle.ud_cond.specs.expressions.ResidualReading.{parens_kept, are_all_kept, lost_len}
-use Rattle.ud_cond.proofs.lemmas.expressions.ResidualLemmas.{one_apart, all_kept-parens}
+use Rattle.ud_cond.proofs.lemmas.expressions.ResidualLemmas.{all_kept-append}
 use Rattle.ud_cond.proofs.expressions.residuals.ResidualsKeeper.parens.Goals as goal
 
 pub returns-clause-kept : goal.returns-clause-kept
@@ -15,11 +15,11 @@ returns-clause-kept c = λ k front e f.
     let first = ap (λ (p : Part). p.kept) e ∙ ap (λ (i : ℕ). i + 1 + lost_len k.flags) (sym g) in
     let kept = c.kept_in_parens.ensures k.flags first (omega (arith, size, g)) longer in (
       ap₂ (λ (w : Bool) (s : ℕ). record c.args.a { left_alone = true; alone = true; whole = w; first = c.saturating_sub-first.result; kept = s })
-          (c.both.ensures ∙ ap₂ (λ (x y : Bool). not x && y) b (ap (λ (p : Part). p.whole) e) ∙ all_kept-parens (not (k.lost && k.left_alone)) k.flags)
+          (c.both.ensures ∙ ap₂ (λ (x y : Bool). not x && y) b (ap (λ (p : Part). p.whole) e) ∙ (grind (arith, all_kept-append)))
           (kept ∙ ap₂ (λ (i : ℕ) (x : Bool). i + lost_len (not x ∷ k.flags ++ not x ∷ [])) g b)
           ∙ ap₂ (λ (p : Part) (m : ℕ). record p { left_alone = true; alone = true; whole = are_all_kept (parens_kept k).flags; first = m; kept = length front + lost_len (parens_kept k).flags }) e g,
       c.push.ensures ∙ ap (λ (xs : List Bool). xs ++ not c.both-stay.result ∷ [])
-          (c.fill.ensures.filled front (true ∷ []) k.flags (one_apart _ front k.flags f) g n
+          (c.fill.ensures.filled front (true ∷ []) k.flags (grind (arith, append_assoc, f)) g n
           ∙ append_assoc front (not c.both-stay.result ∷ []) k.flags)
           ∙ append_assoc front (not c.both-stay.result ∷ k.flags) (not c.both-stay.result ∷ [])
           ∙ ap (λ (x : Bool). front ++ (not x ∷ (k.flags ++ not x ∷ []))) b,
