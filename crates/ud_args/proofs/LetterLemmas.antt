@@ -19,14 +19,11 @@ pub option_then-bytes : (c n : ℕ) (bytes : List ℕ) (next rest : List Parsed)
     → option_then c n (chars bytes) next rest ≡ option c n bytes ∷ rest
 option_then-bytes c n bytes next rest u e = grind (arith, option_then-cons, encodes-chars)
 
-option_letters-cons : (b : ℕ) (bs : List ℕ) → b ≢ 45 → option_letters (b ∷ bs) ≡ []
-option_letters-cons b bs h = grind (arith, common_steps)
-
 -- a text that begins with another letter than `-` is an operand
 pub option_letters-other : (bytes rest : List ℕ) (c : ℕ) → bytes ≡ encode_utf8 c ++ rest → c ≢ 45 → option_letters bytes ≡ []
 option_letters-other [] rest c e h = refl
 option_letters-other (b ∷ bs) rest c e h =
-    option_letters-cons b bs (λ (k : b ≡ 45). h (char_from_byte (b ∷ bs) rest c e (omega (arith, k)) (omega arith) ∙ k))
+    grind (arith, common_steps, (λ (k : b ≡ 45). h (char_from_byte (b ∷ bs) rest c e (omega (arith, k)) (omega arith) ∙ k)))
 
 -- a word of option letters gives what its letters give, if no operand came before
 pub ordinary_word-letters : (line : CommandLine) (n c : ℕ) (w cs : List ℕ) → line.after_operand ≡ false → line.read ≡ n + 1 → option_letters w ≡ c ∷ cs

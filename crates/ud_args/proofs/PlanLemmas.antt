@@ -17,17 +17,10 @@ use Rattle.ud_args.specs.declared.usage.Usage.TheVariants.{OutOfMemory}
 use Rattle.ud_args.specs.Plans.{PlanState, PlanRepresents}
 use Rattle.ud_args.proofs.ParsedArgLemmas.{first_fault-append, first_fault-prefix, operand_in-append, settings_in-flag_last, settings_in-last}
 
-place_none : (o : Option Operand) → operand_index o ≡ None → o ≡ None
-place_none o h = grind arith
-
--- an operand has an index
-is_some-operand_index : (o : Option Operand) → is_some (operand_index o) ≡ is_some o
-is_some-operand_index o = grind arith
-
 -- a plan has an operand if one was given
 pub is_some-operand_in : (plan : PlanState) (gs : List ParsedArg) (o : Option ℕ) (found : Bool) → PlanRepresents plan gs → o ≡ plan.operand → found ≡ is_some o
     → is_some (operand_in gs) ≡ found
-is_some-operand_in plan gs o found p e f = sym (is_some-operand_index (operand_in gs)) ∙ ap is_some (sym p.index) ∙ ap is_some (sym e) ∙ sym f
+is_some-operand_in plan gs o found p e f = sym (grind arith) ∙ ap is_some (sym p.index) ∙ ap is_some (sym e) ∙ sym f
 
 exit_mode_of : (s t : Settings) (mode : ExitMode) → s ≡ t → record s { exit_mode = mode } ≡ record t { exit_mode = mode }
 exit_mode_of s t mode e = rw e refl
@@ -37,7 +30,7 @@ represents_last : (old new : PlanState) (gs : List ParsedArg) (g : ParsedArg) �
     → new.settings ≡ settings_in (gs ++ g ∷ []) → TableRepresents new.symbols (filter_map argument_in gs ++ filter_map argument_in (g ∷ []))
     → new.operand ≡ operand_index (operand_in (g ∷ [])) → PlanRepresents new (gs ++ g ∷ [])
 represents_last old new gs g p free right said represents index =
-    grind (arith, place_none, first_fault-append, filter_map-append, operand_in-append)
+    grind (arith, first_fault-append, filter_map-append, operand_in-append)
 
 -- an option or operand without a symbol keeps the table
 represents_same : (old new : PlanState) (gs : List ParsedArg) (g : ParsedArg) → PlanRepresents old gs → old.operand ≡ None → first_fault (g ∷ []) ≡ None
@@ -88,15 +81,6 @@ represents_operand old new gs n name p free said same index =
 -- an option or operand with a setting has no fault
 pub first_fault-said : (g : ParsedArg) (s : Setting) → IsSetting g s → first_fault (g ∷ []) ≡ None
 first_fault-said g s h = grind arith
-
--- a fault of the command line is one that `plan` may return
-pub IsUsageOf-fault : (gs : List ParsedArg) (u : Usage) → IsFaultOf (first_fault gs) u → IsUsageOf gs u
-IsUsageOf-fault gs u h = grind arith
-
--- a failed allocation for a symbol, with no fault before, is one too
-pub IsUsageOf-memory : (gs more : List ParsedArg) (g : ParsedArg) (s : Setting) (u : Usage) → first_fault gs ≡ None → operand_in gs ≡ None → IsSetting g s
-    → (u ≡ OutOfMemory) × IsSome (argument_in g) → IsUsageOf (gs ++ g ∷ more) u
-IsUsageOf-memory gs more g s u right none is h = grind (arith, first_fault-append, first_fault-said)
 
 -- an option stays `Some` or `None` if its value is mapped
 pub is_some-turned : {A B : Type 0} (f : A → B) (o : Option A) → is_some (option_map f o) ≡ is_some o

@@ -9,13 +9,10 @@ use Rattle.ud_model.proofs.answer.WordLemmas as words
 use Rattle.ud_args.specs.CommandLines.{Parsed, operand, letters_then, operands_from, parsed_next, parsed_words, as_arg}
 use Rattle.ud_args.specs.declared.programs.Program.TheVariants.{Unifdef}
 
-equal_sym : (a b : ℕ) → (a == b) ≡ (b == a)
-equal_sym a b = grind (arith, common_steps)
-
 -- a table has a letter
 pub any-has_letter : (ls : List ℕ) (c : ℕ) → list_any (λ l. l == c) ls ≡ has_letter ls c
 any-has_letter [] c = refl
-any-has_letter (l ∷ ls) c = grind (arith, equal_sym, any-has_letter ls c)
+any-has_letter (l ∷ ls) c = grind (arith, common_steps, any-has_letter ls c)
 
 operands_as : (n : ℕ) (ws : List (List ℕ)) → map as_arg (operands_from n ws) ≡ args.operands_from n ws
 operands_as n [] = refl

@@ -25,7 +25,7 @@ use Rattle.ud_engine.specs.declared.line_processor.LineProcessor.{LineProcessor}
 use Rattle.ud_engine.specs.DecidedLines.{DecidesBulk}
 use Rattle.ud_engine.specs.ProcessedLines.{text_by, differs_in, lister_of, ProcessorRepresents, PrintsBulk}
 use Rattle.ud_engine.proofs.NameListingLemmas.{lists_none}
-use Rattle.ud_engine.proofs.ProcessorLemmas.{is_off, lists_same, not_off}
+use Rattle.ud_engine.proofs.ProcessorLemmas.{is_off}
 use Rattle.ud_model.proofs.answer.Onward.{pieces_by-append}
 use Rattle.std.proofs.lemmas.Grind.{common_steps}
 
@@ -42,10 +42,6 @@ differ-append : (piece : List Judged → Judged → List ℕ) (before js ks : Li
     some_other (pieces_by piece before js ++ ps) (js ++ ks) ≡ (some_other (pieces_by piece before js) js || some_other ps ks)
 differ-append piece before [] ks ps = refl
 differ-append piece before (j ∷ js) ks ps = grind (arith, common_steps, differ-append piece (before ++ j ∷ []) js ks ps)
-
-pieces_by-same : (f g : List Judged → Judged → List ℕ) → ((before : List Judged) (j : Judged) → f before j ≡ g before j) → (before js : List Judged) →
-    pieces_by f before js ≡ pieces_by g before js
-pieces_by-same f g h before js = grind arith
 
 -- Copied lines don't differ.
 pub kept_same : (verdict : Verdict) (ls : List Line) → some_other (map text_of ls) (map (judged_text verdict) ls) ≡ false
@@ -78,17 +74,6 @@ pub dropped_text : (ls : List Line) → concat (map (λ (l : Line). []) ls) ≡ 
 dropped_text [] = refl
 dropped_text (l ∷ ls) = dropped_text ls
 
-pub or_some : (b : Bool) → true ≡ (b || true)
-or_some b = grind arith
-
-depths_of : (q : Listing) → is_some (lister_of q) ≡ true → (depths : Bool) × (lister_of q ≡ Some depths)
-depths_of q h = grind arith
-
-lists_no_text : (o : Options) (piece : List Judged → Judged → List ℕ) (xs items : List (Item Reading)) (t u : Tree Reading) (depths : Bool) →
-    lister_of o.settings.listing ≡ Some depths → listed depths (xs ++ items) (levels u) ≡ listed depths xs (levels t) →
-    text_by o.settings.listing piece (xs ++ items) u ≡ text_by o.settings.listing piece xs t
-lists_no_text o piece xs items t u depths h k = grind arith
-
 module _ {S : Type 0} (represents : S → List Judged → Type 0) (piece_of : S → List Judged → Judged → List ℕ) (o : Options)
     (piece : List Judged → Judged → List ℕ) (xs : List (Item Reading)) (t : Tree Reading) (p : LineProcessor S) (h : ProcessorRepresents represents piece_of p o piece xs t) where
   -- No line is printed.
@@ -118,7 +103,7 @@ module _ {S : Type 0} (represents : S → List Judged → Type 0) (piece_of : S 
       each_of (represents p.printer) (piece_of p.printer) verdict own line before ls (h.shown off) in
       let pieces : pieces_by piece [] (before ++ next) ≡ pieces_by piece [] before ++ map own ls =
       pieces_by-append piece [] before next
-      ∙ ap (λ ps. pieces_by piece [] before ++ ps) (sym (pieces_by-same (piece_of p.printer) piece h.stays before next) ∙ shown.0) in
+      ∙ ap (λ ps. pieces_by piece [] before ++ ps) (sym (grind (arith, h.stays)) ∙ shown.0) in
       record {
         items = one.items;
         tree = one.tree;
@@ -142,7 +127,7 @@ module _ {S : Type 0} (represents : S → List Judged → Type 0) (piece_of : S 
   -- Names are listed: text lines have none.
   pub lists_run : (q : LineProcessor S) (ls : List Line) (verdict : Verdict) → is_some p.lister ≡ true → q.lister ≡ p.lister →
       q.printer ≡ p.printer → q.differs ≡ p.differs → DecidesBulk o q.decider xs t ls verdict → PrintsBulk represents piece_of q o piece xs t ls []
-  lists_run q ls verdict e same_lister same_printer same_differs one = grind (arith, common_steps, depths_of, not_off, lists_same, lists_no_text, lists_none)
+  lists_run q ls verdict e same_lister same_printer same_differs one = grind (arith, common_steps, lists_none)
 
 -- No bytes have no lines.
 pub no_lines : (n : ℕ) → numbered_from n (whole_lines []) ≡ []

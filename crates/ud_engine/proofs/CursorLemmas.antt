@@ -25,10 +25,6 @@ use Rattle.ud_io.proofs.StreamLemmas.{stream_buffered}
 use Rattle.ud_engine.proofs.StepLemmas.{between_none, between_more}
 use Rattle.ud_engine.proofs.LinePartLemmas.{before_is, rest_is, split_lines-front_of}
 
--- Skipped lines leave nothing buffered.
-pub open_skipped : (lines new : LinesState) (bytes : List ℕ) → new ≡ consumed lines bytes → IsOpen lines → IsOpen new
-open_skipped lines new bytes h k = grind arith
-
 -- After the first of some lines that can be consumed, the others can be consumed.
 pub ready_after : (lines new : LinesState) (bytes : List ℕ) (at end whole : ℕ) → at ≤ end → end < whole → CanConsume lines (slice_between bytes at whole) →
     AreWholeLines (slice_between bytes at end) → new ≡ consumed lines (slice_between bytes at end) → CanConsume new (slice_between bytes end whole)
@@ -66,7 +62,7 @@ module _ {S : Type 0} (represents : S → List Judged → Type 0) (piece_of : S 
 
   -- The lines of `bytes` were also taken.
   pub run_taken : EngineRepresentsBuffered represents piece_of f o piece (text ++ bytes) (printed ++ more)
-  run_taken = grind (arith, all_lines, map-append, open_skipped)
+  run_taken = grind (arith, all_lines, map-append)
 
 -- Skipped lines in a chunk.
 module _ {S : Type 0} (represents : S → List Judged → Type 0) (piece_of : S → List Judged → Judged → List ℕ) (o : Options) (piece : List Judged → Judged → List ℕ)

@@ -27,18 +27,10 @@ pub none_so_far : lines_so_far [] ≡ []
 unfolding split_lines
 none_so_far = refl
 
--- No lines have no output.
-pub none_printed : (listing : Listing) (piece : List Judged → Judged → List ℕ) → [] ≡ text_by listing piece [] (closed nothing)
-none_printed listing piece = grind arith
-
 -- An engine that was fed nothing is in a session of no text.
 pub in_session : {S : Type 0} (represents : S → List Judged → Type 0) (piece_of : S → List Judged → Judged → List ℕ) (e : EngineState S) {s : Session} → s.text ≡ [] → s.printed ≡ [] →
     EngineRepresents represents piece_of e s.options s.pieces [] [] → IsInSession represents piece_of e s
 in_session represents piece_of e h k l = grind arith
-
--- At first, bytes can be taken.
-pub open_new : (lines : LinesState) → lines ≡ untaken TEXT_LINES → IsOpen lines
-open_new lines h = grind arith
 
 pub none_count : (lines : LinesState) → lines ≡ untaken TEXT_LINES → lines.before ≤ TEXT_LINES
 none_count lines is = let z = ap (λ (l : LinesState). l.before) is in omega (arith, z)
@@ -154,14 +146,6 @@ module _ {S : Type 0} (represents : S → List Judged → Type 0) (piece_of : S 
     feed_ends f is none end false w v r e =
         subst (λ x. Feeds represents piece_of f (record { options = o; pieces = piece; text = text; printed = printed }) bytes c.failed a.contents c.contents x) (sym e)
         (continues f is none end (sym w))
-
--- The result is `Write` exactly if the writer has failed.
-pub stop_matches : {T W : Type 0} (failed : Bool) (f : RunFault) (old new : WatchedState W) (g₀ g₁ : List ℕ) → OutputUnchanged old new g₀ g₁ f → (r : Result T RunFault) →
-    r ≡ result_after failed (Err f) → WriterMatches failed r
-stop_matches failed f old new g₀ g₁ h r k = grind arith
-
-pub end_matches : {T : Type 0} (failed : Bool) (v : T) (r : Result T RunFault) → r ≡ result_after failed (Ok v) → WriterMatches failed r
-end_matches failed v r h = grind arith
 
 -- After a step that changed no output, the same is appended by what follows.
 pub unchanged_sent : {W : Type 0} (contents : W → Option (List ℕ)) (old new last : WatchedState W) (g₀ g₁ pending left : List ℕ) (f : RunFault) → OutputUnchanged old new g₀ g₁ f →

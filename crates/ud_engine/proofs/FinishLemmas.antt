@@ -10,7 +10,7 @@ use Rattle.ud_engine.specs.declared.pump.TheConstants.{CHUNK_BYTES}
 use Rattle.ud_engine.specs.Finishing.{Finishes, RunAnswers}
 use Rattle.ud_engine.specs.Feeding.{EngineState, EngineRepresents, FeedFails, Continues}
 use Rattle.ud_engine.specs.Runs.{InProgress, RunFinished}
-use Rattle.ud_engine.proofs.RunLemmas.{own_piece, own_session, input_begins, lag, ended_ran, ended_appended, feed_appended, ran_early, the_err}
+use Rattle.ud_engine.proofs.RunLemmas.{own_piece, own_session, lag, ended_ran, ended_appended, feed_appended, ran_early, the_err}
 use Rattle.ud_engine.proofs.RunEndedLemmas.{fed_ends, end_ends}
 
 -- A run begins.
@@ -43,8 +43,7 @@ module _ (o : Options) (e : EngineState Printer) (r₀ r₁ w₀ w₁ : Option (
         let more = feed_appended o writer w₁ w₂ (u.given ++ piece) u.printed f fails in
         record {
           ran = λ reads writes.
-              input_begins r₀ r₂ (u.given ++ piece) (λ input. RunAnswers o input w₀ w₂ (the_err f)) all
-              (ran_early o w₀ w₁ w₂ (u.given ++ piece) u.printed writer f writes u.appended fails);
+              (grind (arith, all, ran_early o w₀ w₁ w₂ (u.given ++ piece) u.printed writer f writes u.appended fails));
           lag = lag o printer_represents printer_piece e u.given u.printed u.fed.taken r₀ r₂ w₀ w₁ w₂ piece more.0 all few u.appended more.1;
           ended = record { given = u.given ++ piece; consumed = all; ends = fed_ends o r₂ w₀ w₁ w₂ u.printed u.appended writer (u.given ++ piece) f fails };
         }

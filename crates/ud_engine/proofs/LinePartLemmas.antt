@@ -33,10 +33,6 @@ pub split_lines-front_of : (text held piece : List ℕ) (used : ℕ) (whole : Bo
     split_lines (text ++ take used piece) ≡ parts_behind text held (take used piece) whole
 split_lines-front_of text held piece used whole h k = grind (arith, split_lines-append-line, take_all, split_lines-append-open)
 
--- A text and a chunk after it, cut within the chunk.
-pub rejoined : (text piece : List ℕ) (used : ℕ) → text ++ piece ≡ (text ++ take used piece) ++ drop used piece
-rejoined text piece used = grind (arith, take-append-drop, append_assoc)
-
 -- A line that breaks a limit has the fault for that limit.
 record LimitFault (xs : List (Item Reading)) (x : Item Reading) (f : Fault) : Type 0 where
   fault : FaultOf xs x f
@@ -128,7 +124,7 @@ module _ {S : Type 0} (represents : S → List Judged → Type 0) (piece_of : S 
       let grown : (later : List Line) × (lines_so_far ((text ++ take used rest) ++ drop used rest) ≡ lines_so_far (text ++ take used rest) ++ later) =
       lines_so_far-append (text ++ take used rest) (drop used rest) in (
         grown.0,
-        ap lines_so_far (rejoined text rest used) ∙ grown.1
+        ap lines_so_far (grind (arith, take-append-drop, append_assoc)) ∙ grown.1
             ∙ ap (λ ls. ls ++ grown.0) (ap (numbered_from 1) lines ∙ numbered_from-next (whole_lines text) line [])
             ∙ append_assoc (lines_so_far text) (line_at (suc (length (whole_lines text))) line ∷ []) grown.0,
       )

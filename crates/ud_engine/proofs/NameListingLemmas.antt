@@ -26,26 +26,14 @@ pub record NamesPut (a b : Stream) (prefix : List ℕ) (names left : List (List 
   pub are : listed_names prefix names ≡ done ++ listed_names prefix left
   pub sent : TakesAllBut a b (old ++ done) new
 
--- Before the first name.
-pub none_put : (a : Stream) (prefix : List ℕ) (names left : List (List ℕ)) (old : List ℕ) → left ≡ names → NamesPut a a prefix names left old old
-none_put a prefix names left old h = grind (arith, append-nil, stream_buffered)
-
 -- One name more is appended.
 pub name_put : (a b c : Stream) (prefix : List ℕ) (names left rest : List (List ℕ)) (name old mid new : List ℕ) → left ≡ name ∷ rest →
     NamesPut a b prefix names left old mid → TakesAllBut b c (mid ++ name_line prefix name) new → NamesPut a c prefix names rest old new
 name_put a b c prefix names left rest name old mid new h k l = grind (arith, append_assoc, stream_then)
 
--- If no name is left, all are appended.
-pub all_put : (a b : Stream) (prefix : List ℕ) (names left : List (List ℕ)) (old new : List ℕ) → left ≡ [] →
-    NamesPut a b prefix names left old new → TakesAllBut a b (old ++ listed_names prefix names) new
-all_put a b prefix names left old new h k = grind (arith, append-nil)
-
-by_content : (o : Options) (r : Reading) (c : Content) → has_condition (item_by o r c) ≡ false → names_in_content c ≡ []
-by_content o r c h = grind arith
-
 -- A line without a condition has no names.
 no_names : (o : Options) (r : Reading) → has_condition (item_of o r) ≡ false → names_in_content (content_of r.scan) ≡ []
-no_names o r e = by_content o r (content_of r.scan) e
+no_names o r e = grind (arith, e)
 
 -- Names are listed with their depth, which the sections open after the line determine.
 listed_at : (depths : Bool) (names : List (List ℕ)) (level opened : ℕ) (b : Bool) → (b ≡ true → suc level ≡ opened) → (b ≡ false → names ≡ []) →

@@ -21,10 +21,6 @@ use Rattle.ud_engine.specs.ProcessedLines.{differs_in, lister_of, ProcessorRepre
 use Rattle.ud_io.specs.Streams.{Stream}
 use Rattle.ud_model.proofs.sections.FaultStays.{line_of-next_item}
 
--- Of no lines, none differs.
-pub none_differ : (listing : Listing) (piece : List Judged → Judged → List ℕ) → false ≡ differs_in listing piece [] (closed nothing)
-none_differ listing piece = grind arith
-
 judged_line-more : (xs : List (Item Reading)) (ms : List Mark) (x : Item Reading) (m : Mark) → length ms ≡ length xs →
     judged_lines (xs ++ x ∷ []) (ms ++ m ∷ []) ≡ judged_lines xs ms ++ judged_line x m ∷ []
 judged_line-more [] [] x m e = refl
@@ -57,15 +53,6 @@ module _ (o : Options) (piece : List Judged → Judged → List ℕ) (xs : List 
 -- Without a lister, the lines are printed.
 pub is_off : (listing : Listing) → lister_of listing ≡ None → listing ≡ Off
 is_off listing h = grind arith
-
--- If names are listed, no line differs.
-pub lists_same : (q : Listing) (depths : Bool) (piece : List Judged → Judged → List ℕ) (xs ys : List (Item Reading)) (t u : Tree Reading) →
-    lister_of q ≡ Some depths → differs_in q piece xs t ≡ differs_in q piece ys u
-lists_same q depths piece xs ys t u h = grind arith
-
--- If names are listed, the lines aren't printed.
-pub not_off : (q : Listing) (depths : Bool) → lister_of q ≡ Some depths → q ≡ Off → ⊥
-not_off q depths h k = grind arith
 
 module _ {S : Type 0} (represents : S → List Judged → Type 0) (piece_of : S → List Judged → Judged → List ℕ) (o : Options)
     (piece : List Judged → Judged → List ℕ) (xs : List (Item Reading)) (t : Tree Reading) (l : Line) where

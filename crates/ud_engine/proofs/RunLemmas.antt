@@ -36,10 +36,6 @@ same_text q s xs t = grind arith
 same_differs : (q : Listing) (s : Settings) (xs : List (Item Reading)) (t : Tree Reading) → differs_in q (piece_after (style_of s)) xs t ≡ differs_by q s xs t
 same_differs q s xs t = grind arith
 
--- The bytes of a reader begin with those that it gave.
-pub input_begins : (r₀ r₁ : Option (List ℕ)) (given : List ℕ) (P : List ℕ → Type 0) → Consumes r₀ r₁ given → ((more : List ℕ) → P (given ++ more)) → IfSome r₀ P
-input_begins r₀ r₁ given P h k = grind arith
-
 -- The result of a run with this fault.
 abbrev pub the_err : RunFault → Result Bool RunFault
 the_err f = Err f

@@ -44,11 +44,6 @@ pub still_open : (lines mid : LinesState) (rest : List ℕ) (used : ℕ) (whole 
     mid ≡ record lines { held = lines.held ++ take used rest; whole = whole } → length mid.held ≤ LINE_BYTES → IsOpen mid
 still_open lines mid rest used whole h k l m o = grind (arith, no_newline-append, no_newline-take)
 
--- After a whole line, nothing is buffered.
-pub open_again : (lines mid new : LinesState) (rest : List ℕ) (used : ℕ) (whole : Bool) → IsOpen lines →
-    mid ≡ record lines { held = lines.held ++ take used rest; whole = whole } → new ≡ record mid { held = []; whole = false; before = mid.before + 1 } → IsOpen new
-open_again lines mid new rest used whole h k l = grind arith
-
 module _ {S : Type 0} (represents : S → List Judged → Type 0) (piece_of : S → List Judged → Judged → List ℕ) (o : Options) (piece : List Judged → Judged → List ℕ)
     (e : EngineState S) (text printed : List ℕ) (h : EngineRepresentsBuffered represents piece_of e o piece text printed) (a b : Stream) (g pending rest : List ℕ) (ge : e.buffered ≡ g) where
   -- Bytes without a newline are buffered, and the pending bytes before them are appended.
@@ -88,7 +83,7 @@ module _ {S : Type 0} (represents : S → List Judged → Type 0) (piece_of : S 
         more = prints.more;
         taken =
             line_taken represents piece_of o piece e text printed h f (take used rest) (e.lines.held ++ take used rest) l prints.tree prints.more lines (line ∙ at) symbols
-            (open_again e.lines mid f.lines rest used whole h.opened is cleared) took (ap (λ (k : LinesState). k.fault) cleared ∙ no_fault)
+            (grind (arith, h.opened, is, cleared)) took (ap (λ (k : LinesState). k.fault) cleared ∙ no_fault)
             (ap (λ (k : LinesState). k.held) cleared)
             (let m = h.opened.limit in let n = ap (λ (k : LinesState). k.before) is in let q = ap (λ (k : LinesState). k.before) cleared in omega (arith, few, m, n, q))
             prints.has prints.is_more;

@@ -32,25 +32,15 @@ use Rattle.ud_engine.proofs.RunEndedLemmas.{printed_so_far}
 use Rattle.ud_engine.proofs.FinishLemmas.{stopped, fed_more}
 use Rattle.std.proofs.lemmas.Grind.{common_steps}
 
--- A reader before its first bytes were read, which are `a` and then `b`.
-read_front : (a b : List ℕ) (r : Option (List ℕ)) → Consumes (prepend_known (a ++ b) r)
-    (prepend_known b r) a
-read_front a b r = grind (arith, append_assoc)
-
 read_all : (a : List ℕ) (r : Option (List ℕ)) → Consumes (prepend_known a r) r a
 read_all a r = grind arith
-
-read_more : (r₀ r₁ r₂ : Option (List ℕ)) (given a b : List ℕ) → Consumes r₀ (prepend_known a r₁)
-    given → Consumes r₁ r₂ b →
-    Consumes r₀ (prepend_known (a ++ b) r₂) given
-read_more r₀ r₁ r₂ given a b h k = grind (arith, append_assoc)
 
 -- More bytes were read, and wait.
 pub waits_more : (o : Options) (e : EngineState Printer) (r₀ r₁ r₂ w₀ w₁ : Option (List ℕ))
     (a b : List ℕ) →
     InProgress e o r₀ (prepend_known a r₁) w₀ w₁ → Consumes r₁ r₂ b → InProgress e o r₀
     (prepend_known (a ++ b) r₂) w₀ w₁
-waits_more o e r₀ r₁ r₂ w₀ w₁ a b h k = grind (arith, read_more)
+waits_more o e r₀ r₁ r₂ w₀ w₁ a b h k = grind (arith, append_assoc)
 
 -- No bytes wait.
 pub none_left : (o : Options) (e : EngineState Printer) (r₀ r w₀ w₁ : Option (List ℕ)) (a : List ℕ)
@@ -64,10 +54,6 @@ pub read_joined : (buffer piece after : List ℕ) (waiting count : ℕ) → wait
     take waiting buffer ++ take count piece ≡ take (waiting + count)
     (take waiting buffer ++ (piece ++ after))
 read_joined buffer piece after waiting count h k = grind (arith, length-take, take-append-le, take-append-add)
-
-pub waiting_stay : (buffer piece : List ℕ) (waiting : ℕ) → waiting ≤ length buffer → take waiting
-    (take waiting buffer ++ piece) ≡ take waiting buffer
-waiting_stay buffer piece waiting within = grind (arith, common_steps, length-take, take-append_seam)
 
 -- A fault of some bytes is that of more bytes.
 fault_longer : (o : Options) (piece : List Judged → Judged → List ℕ) (failed : Bool)
@@ -143,7 +129,7 @@ module _ (o : Options) (e : EngineState Printer) (r₀ r w₀ w₁ : Option (Lis
       InProgress f o r₀ (prepend_known left r) w₀ w₂
   fed_front f w₂ goes =
       fed_more o e r₀ (prepend_known (first ++ left) r) w₀ w₁ own (prepend_known left r) w₂ first
-      (read_front first left r) f goes
+      (grind (arith, append_assoc)) f goes
 
   pub front_stops : (w₂ : Option (List ℕ)) → length all ≤ CHUNK_BYTES → (reader writer : Bool)
       (f : RunFault) →

@@ -138,10 +138,6 @@ kept_all (b ∷ p) (c ∷ m) l i f = kept c (kept_all p m (omega arith) (next_pl
 kept_all [] (c ∷ m) l i f = absurd (omega arith)
 kept_all (b ∷ p) [] l i f = absurd (omega arith)
 
--- The masked bytes after a line are empty or begin with white space.
-shown_white : (outside spliced : Bool) (rs : List Reading) → begins_white (shown_after outside spliced rs) ≡ true
-shown_white outside spliced rs = grind arith
-
 part_by : (l : Line) (outside spliced : Bool) → is_spliced l ≡ spliced →
     (if outside then content l else l.body) ++ vertical_tab ∷ [] ≡ content l ++ break_bytes outside spliced
 part_by l true spliced e = refl
@@ -301,7 +297,7 @@ module _ (r : Reading) (rs : List Reading) (d : Directive) (i : Each IsMeasured 
       gap = h.are.gap;
       word = h.are.word;
       gap_ends = gap_stays h.parts.word rest (shown_behind r rs) d.kind h.kind h.are.gap_ends;
-      word_ends = word_stays rest (shown_behind r rs) h.are.word_ends (shown_white (is_outside r.scan.comment) r.scan.spliced rs);
+      word_ends = word_stays rest (shown_behind r rs) h.are.word_ends (grind arith);
     };
     fresh = alone_fresh (folded_line (r ∷ rs));
     whole = λ k. let q : true ≡ false = sym k.joins ∙ s.ends in cc;

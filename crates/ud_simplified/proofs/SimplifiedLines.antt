@@ -28,9 +28,6 @@ pub data SameIf : Kind → Kind → Type 0 where
   both_if : SameIf If If
   both_elif : SameIf Elif Elif
 
-same_kind : (k j : Kind) → same_if k j ≡ true → SameIf k j
-same_kind k j h = grind (arith, both_if, both_elif)
-
 pub option_is : {A : Type 0} (o : Option A) → (o ≡ None) ⊎ ((x : A) × (o ≡ Some x))
 option_is None = inl refl
 option_is (Some x) = inr (x, refl)
@@ -54,7 +51,7 @@ module _ (table : List Argument) (rules : Rules) where
     it_changes : (d : Directive) → IsEdited l scan d → Becomes l scan (left_line table rules l d)
 
   the_condition : (kind : Kind) (after : List ℕ) (c : Content) → has_condition kind after c ≡ true → (d : Directive) × (c ≡ directive d) × SameIf kind d.kind × (d.after ≡ after)
-  the_condition kind after c e = grind (arith, same_kind, bytes_eq-Decides)
+  the_condition kind after c e = grind (arith, both_if, both_elif, bytes_eq-Decides)
 
   edited : (l : Line) (scan : Scan) (d : Directive) → content_of scan ≡ directive d → may_change table rules scan l d ≡ true → IsEdited l scan d
   edited l scan d h e = grind (arith, and_parts, the_condition, bytes_eq-Decides)

@@ -200,9 +200,6 @@ entry_added : (e : Option Entry) (ts us : List Argument) (a : Argument) (n : Lis
 entry_added e [] us a n f = ap (λ (b : Bool). entry_from (if b then Some a.entry else e) us n) f
 entry_added e (t ∷ ts) us a n f = entry_added (if bytes_eq t.name n then Some t.entry else e) ts us a n f
 
-by_some : {A B : Type 0} (h : A → Option B) (x : A) (b : B) (xs : List A) → h x ≡ Some b → filter_map h (x ∷ xs) ≡ b ∷ filter_map h xs
-by_some h x b xs e = grind arith
-
 -- arguments with such an option between them, and without it
 pub record WithOption (before after : List (List ℕ)) (name w : List ℕ) : Type 0 where
   pub no_fault : usage_fault (before ++ after) ≡ None → usage_fault (before ++ w ∷ after) ≡ None
@@ -211,10 +208,6 @@ pub record WithOption (before after : List (List ℕ)) (name w : List ℕ) : Typ
 
 bytes_ne : (x y : List ℕ) → x ≢ y → bytes_eq x y ≡ false
 bytes_ne x y ne = grind (arith, bytes_eq-Decides)
-
--- the argument of such an option is right
-argument_ok : (name : List ℕ) (w : List ℕ) (g : GivesSymbol name w) (n : ℕ) → argument_fault g.letter n g.argument ≡ None
-argument_ok name w g n = grind arith
 
 pub with_option : (before after : List (List ℕ)) (name w : List ℕ) → AddsSymbol before name w → WithOption before after name w
 with_option before after name w adds =
@@ -232,11 +225,11 @@ with_option before after name w adds =
         ap (filter_map argument_in) here
         ∙ filter_map-append argument_in s.given (option g.letter (suc m) g.argument ∷ hs)
         ∙ ap (λ (l : List Argument). filter_map argument_in s.given ++ l)
-        (by_some argument_in (option g.letter (suc m) g.argument) said hs g.symbol ∙ ap (λ (l : List Argument). said ∷ l) (table_same k)) in
+        ((grind (arith, g.symbol)) ∙ ap (λ (l : List Argument). said ∷ l) (table_same k)) in
         let table_gone : (options_of (before ++ after)).table ≡ filter_map argument_in s.given ++ filter_map argument_in gs = simp (filter_map-append, gone) in
         record {
           no_fault = λ e. ap first_fault here
-              ∙ no_fault_added s.no_operand g.letter (suc m) g.argument (argument_ok name w g (suc m)) (given_same m (suc m) after) (sym (ap first_fault gone) ∙ e);
+              ∙ no_fault_added s.no_operand g.letter (suc m) g.argument (grind arith) (given_same m (suc m) after) (sym (ap first_fault gone) ∙ e);
           settings = ap settings_in here ∙ settings_added s.given g.letter (suc m) g.argument g.no_mode k ∙ sym (ap settings_in gone);
           entries = λ n other. ap (λ (t : List Argument). entry_in t n) table_gone
               ∙ sym (ap (λ (t : List Argument). entry_in t n) table_here

@@ -21,9 +21,6 @@ pub name_less : (table : List Argument) (u v : Bool) (n : List ℕ) → (v ≡ t
 unfolding name_value
 name_less table u v n h z e = entry_less u v (resolve table n) (entry_in table n) h z e
 
-zero_or_one : (b : Bool) → (signed (truth b) ≡ signed (pos 0)) ⊎ (signed (truth b) ≡ signed (pos 1))
-zero_or_one b = grind arith
-
 module _ (table : List Argument) (u : Bool) where
   name_may : (n : List ℕ) (arguments : Bool) (c : Number) → IsInRange c → ((z : ℤ) → name_value table (name_has_u table n) n ≡ Some z → c ≡ typed (name_has_u table n) z) →
       (name_has_u table n ≡ true → u ≡ true) → CValue table u (named n arguments) c
@@ -37,7 +34,7 @@ module _ (table : List Argument) (u : Bool) where
   defined_may n p b h = by (defined_value table n) refl
     where
       by : (o : Option ℤ) → defined_value table n ≡ o → CValue table u (is_defined n p) (signed (truth b))
-      by None e = may.of_open_defined e (zero_or_one b)
+      by None e = may.of_open_defined e (grind arith)
       by (Some z) e = subst (λ x. CValue table u (is_defined n p) (signed x)) (sym (h z e)) (may.of_known_defined e)
 
   -- The value by a choice is one of the values that C may give.

@@ -53,14 +53,8 @@ data Decides : Operator → ℤ → Option ℤ → Type 0 where
   and_zero : {x : ℤ} → is_zero x ≡ true → Decides And x (Some (pos 0))
   or_some : {x : ℤ} → is_zero x ≡ false → Decides Or x (Some (pos 1))
 
-and_by : (x : ℤ) (b : Bool) → is_zero x ≡ b → Decides And x (if b then Some (pos 0) else None)
-and_by x b h = grind (arith, and_zero, by_none)
-
-or_by : (x : ℤ) (b : Bool) → is_zero x ≡ b → Decides Or x (if b then None else Some (pos 1))
-or_by x b h = grind (arith, by_none, or_some)
-
 decides_is : (s : Bool) (o : Operator) (x : ℤ) → Decides o x (short_circuits s o x)
-decides_is s o x = grind (arith, by_none, and_by, or_by)
+decides_is s o x = grind (arith, by_none, and_zero, or_some)
 
 -- If one operand decides, both operands give the same value.
 left_decides : (b : Bool) (o : Operator) (x y : ℤ) (d : Option ℤ) → Decides o x d → After d (apply_binary_known b o x y)

@@ -34,14 +34,8 @@ and_unit c e = grind arith
 or_unit : (c : Cond) → is_unit Or c ≡ true → c ≡ No
 or_unit c e = grind arith
 
-and_no : (strict : Bool) (c d : Cond) → settled strict And c d ≡ No → (c ≡ No) ⊎ (d ≡ No)
-and_no strict c d e = grind arith
-
 and_never_yes : (strict : Bool) (c d : Cond) → settled strict And c d ≡ Yes → ⊥
 and_never_yes strict c d e = grind arith
-
-or_yes : (strict : Bool) (c d : Cond) → settled strict Or c d ≡ Yes → (c ≡ Yes) ⊎ (d ≡ Yes)
-or_yes strict c d e = grind arith
 
 or_never_no : (strict : Bool) (c d : Cond) → settled strict Or c d ≡ No → ⊥
 or_never_no strict c d e = grind arith
@@ -56,10 +50,6 @@ both a b = ((λ x. b), (λ y. a))
 
 neither : {A B : Type 0} → (A → ⊥) → (B → ⊥) → A ↔ B
 neither f g = ((λ a. absurd (f a)), (λ b. absurd (g b)))
-
--- A truth of something that isn't is 0, and of something that is, isn't.
-truth_zero : (Holds : Type 0) (c : Number) → IsTruth Holds c → (Holds → ⊥) → IsZero c
-truth_zero Holds c h g = grind arith
 
 truth_one : (Holds : Type 0) (c : Number) → IsTruth Holds c → Holds → IsZero c → ⊥
 truth_one Holds c h g z = grind arith
@@ -83,16 +73,10 @@ module _ (table : List Argument) (rules : Rules) where
 
 -- 4. `!` and parentheses.
 
-negated_yes : (c : Cond) → negate c ≡ Yes → c ≡ No
-negated_yes c e = grind arith
-
-negated_no : (c : Cond) → negate c ≡ No → c ≡ Yes
-negated_no c e = grind arith
-
 not_tells : (x : Residual) (m : Choice x.tree) (y c : Number) → Tells x m y → IsTruth (IsZero y) c → Tells (negated x) (for_unary m) c
 not_tells x m y c t g = record {
-  yes = λ e. truth_one (IsZero y) c g (t.no (negated_yes x.cond e));
-  no = λ e. truth_zero (IsZero y) c g (t.yes (negated_no x.cond e));
+  yes = λ e. truth_one (IsZero y) c g (t.no (grind (arith, e)));
+  no = λ e. (grind (arith, g, t.yes (grind (arith, e))));
   value = c;
   has = of_unary t.has (truth_alike (IsZero y) (IsZero t.value) c g t.same);
   same = ((λ z. z), (λ z. z));
@@ -158,7 +142,7 @@ module _ (strict : Bool) (x y : Residual) (m : Choice x.tree) (k : Choice y.tree
         by false true e = one_tells x m v c t (neither (λ z. s.yes (and_unit y.cond e) ((truth_same w c g).0 z)) n)
         by false false e = record {
           yes = λ f. absurd (and_never_yes strict x.cond y.cond f);
-          no = λ f. no_by (and_no strict x.cond y.cond f);
+          no = λ f. no_by (grind (arith, f));
           value = c;
           has = of_and_both t.has (λ z. n (t.same.1 z)) s.has (truth_alike (IsZero w → ⊥) (IsZero s.value → ⊥) c g (not_alike s.same));
           same = ((λ z. z), (λ z. z));
@@ -177,7 +161,7 @@ module _ (strict : Bool) (x y : Residual) (m : Choice x.tree) (k : Choice y.tree
         by true d e = one_tells y k w c s (truth_same w c g)
         by false true e = one_tells x m v c t (both ((truth_same w c g).1 (s.no (or_unit y.cond e))) z)
         by false false e = record {
-          yes = λ f. yes_by (or_yes strict x.cond y.cond f);
+          yes = λ f. yes_by (grind (arith, f));
           no = λ f. absurd (or_never_no strict x.cond y.cond f);
           value = c;
           has = of_or_both t.has (t.same.0 z) s.has (truth_alike (IsZero w → ⊥) (IsZero s.value → ⊥) c g (not_alike s.same));

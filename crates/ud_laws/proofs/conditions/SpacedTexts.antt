@@ -25,12 +25,9 @@ from_text : (white : Bool) (t : List ℕ) → IsSpread white (wide white t) t
 from_text white [] = nothing
 from_text white (b ∷ t) = kept_text b white (is_white b) t refl (from_text (is_white b) t)
 
-white_next : (b : ℕ) (w : Bool) (t : List ℕ) → begins_white (spaced true t) ≡ true → begins_white (if w then spaced true t else space ∷ b ∷ spaced false t) ≡ true
-white_next b w t h = grind arith
-
 spaced_white : (t : List ℕ) → begins_white (spaced true t) ≡ true
 spaced_white [] = refl
-spaced_white (b ∷ t) = white_next b (is_white b) t (spaced_white t)
+spaced_white (b ∷ t) = grind (arith, spaced_white t)
 
 kept_spaced : (any : Bool) (b : ℕ) (v w : Bool) (t : List ℕ) → is_white b ≡ w → ((x : Bool) → IsSpread x (wide w t) (spaced w t)) →
     IsSpread any (if w then b ∷ wide true t else (if v then space ∷ b ∷ wide false t else b ∷ wide false t))
@@ -77,9 +74,6 @@ condition_spaced p t = grind (arith, expression_spaced, name_spaced)
 
 -- 3. Leading white space.
 
-skip_next : (b : ℕ) (w : Bool) (t : List ℕ) → is_white b ≡ w → spaced true (skip_white t) ≡ spaced true t → spaced true (if w then skip_white t else b ∷ t) ≡ spaced true (b ∷ t)
-skip_next b w t e h = grind (arith, e, h)
-
 pub spaced_skip : (t : List ℕ) → spaced true (skip_white t) ≡ spaced true t
 spaced_skip [] = refl
-spaced_skip (b ∷ t) = skip_next b (is_white b) t refl (spaced_skip t)
+spaced_skip (b ∷ t) = grind (arith, refl, (spaced_skip t), spaced_skip t)

@@ -22,9 +22,6 @@ pub data Looser : Cond → Cond → Type 0 where
   alike : {c : Cond} → Looser c c
   unknown : {d : Cond} → Looser Unknown d
 
-loose_by : (c d : Cond) → (c ≢ Unknown → d ≡ c) → Looser c d
-loose_by c d h = grind (arith, unknown, alike)
-
 -- The decisions differ in such conditions at most.
 record LooserDecision (d e : Decision) : Type 0 where
   pub cond : Looser d.cond e.cond
@@ -35,7 +32,7 @@ same_decision d = record { cond = alike; ignoring = refl }
 
 module _ (table : List Argument) (k : Bool) where
   tree_loose : (s : Bool) (e : Expression) → Looser (tree_cond e table (record { constants = k; strict = true })) (tree_cond e table (record { constants = k; strict = s }))
-  tree_loose s e = grind (arith, loose_by, cond_keeps)
+  tree_loose s e = grind (arith, unknown, alike, cond_keeps)
 
   tree_if_loose : (s : Bool) (e : Option Expression) → Looser (tree_cond_if e table (record { constants = k; strict = true })) (tree_cond_if e table (record { constants = k; strict = s }))
   tree_if_loose s e = grind (arith, alike, tree_loose)
@@ -77,9 +74,6 @@ role_loose r ElifGroup d e h = an_elif (record { line = refl; cond = h.cond; ign
 role_loose r ElseGroup d e h = an_else
 role_loose r EndifLine d e h = an_endif
 
-content_loose : (o : Options) (r : Reading) (c : Content) → LooserItem (item_by (under_strict o) r c) (item_by o r c)
-content_loose o r c = grind (arith, role_loose, decision_loose, a_text)
-
 -- Under `-K` a line is the same item, but for an unknown condition.
 pub item_loose : (o : Options) (r : Reading) → LooserItem (item_of (under_strict o) r) (item_of o r)
-item_loose o r = content_loose o r (content_of r.scan)
+item_loose o r = grind (arith, role_loose, decision_loose, a_text)

@@ -25,10 +25,6 @@ use Rattle.ud_laws.proofs.output.ProcessedPruned.{IsRight, NodesRight, GroupsRig
 
 -- 1. The expression of a condition as it is written.
 
--- The expression of the condition as it is written is the condition of the line.
-expression_is : (r : Reading) → expression_written (condition_on r) ≡ condition_in r
-expression_is r = grind (arith, condition_spaced)
-
 -- 2. Down the tree.
 
 ends_with : (scan : Scan) (c : Content) → scan.joins_after ≡ false → (condition_with scan c).goes_on ≡ false
@@ -48,7 +44,7 @@ module _ (o : Options) {S F : Type 0} (takes : S → List ℕ → Scan → S →
   p = over_readings takes enters leaves decides
 
   may_be : (r : Reading) (s t : S) (b : Bool) → decides s (condition_on r) b t → MayBe o.table (condition_in r) b
-  may_be r s t b d = subst (λ (x : Option Expression). MayBe o.table x b) (expression_is r) (as_c s (condition_on r) b t d).0
+  may_be r s t b d = subst (λ (x : Option Expression). MayBe o.table x b) (grind (arith, condition_spaced)) (as_c s (condition_on r) b t d).0
 
   -- The case of an `#if` that is reached.
   if_right : (q : Opener Reading) → Clear o (if_line q) (marked true (verdict_so_far [] an_if q.cond)) → IsRight p q

@@ -59,11 +59,8 @@ abbrev pub Decided : Cond → Type 0
 Decided Unknown = ⊥
 Decided _ = Unit {0}
 
-elif_at : (s : Stage) (c : Cond) → Decided c → keeps_rest (verdict_at s an_elif c) ≡ false
-elif_at s c d = grind arith
-
 pub elif_moves : (cs : List Cond) (c : Cond) → Decided c → keeps_rest (verdict_so_far cs an_elif c) ≡ false
-elif_moves cs c d = ap keeps_rest (verdict_by_stage cs an_elif c) ∙ elif_at (stage cs) c d
+elif_moves cs c d = ap keeps_rest (verdict_by_stage cs an_elif c) ∙ (grind (arith, d))
 
 -- 3. Down the tree.
 

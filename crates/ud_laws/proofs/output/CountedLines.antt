@@ -33,7 +33,7 @@ use Rattle.ud_model.proofs.output.PrintedPruned.{printed-append}
 use Rattle.ud_model.proofs.output.RereadLaws.{item_bytes}
 use Rattle.ud_model.proofs.output.RereadMore.{last_removed as last_removed_mark, Again, Between, Carry, alike, gone, IsLine, start}
 use Rattle.ud_model.proofs.output.RereadStep.{More, the_more, step, plain_run, stayed_alone, goes_or_left, left_stays}
-use Rattle.ud_laws.proofs.output.Inserting.{Weave, line_behind, with_line, are_more, put, put_lone, left, left_seen, lines_last, read_once, piece_of, gone_blank, gone_number, left_blank, removed_last}
+use Rattle.ud_laws.proofs.output.Inserting.{Weave, line_behind, with_line, are_more, put, put_lone, left, left_seen, lines_last, read_once, piece_of, gone_blank, left_blank, removed_last}
 
 -- 1. The positions at which lines are inserted.
 
@@ -402,7 +402,7 @@ module _ (o : Options) (m : Mode) (b n : Bool) (some : (b || n) ≡ true) where
           qs = s.qs;
           weave = s.weave;
           whole = s.whole;
-          same = same_gone (ap₂ (λ (c d : Bool). piece_of c d (so_far xs t) j) g (number_by n g refl) ∙ gone_number (so_far xs t) j f);
+          same = same_gone (ap₂ (λ (c d : Bool). piece_of c d (so_far xs t) j) g (number_by n g refl) ∙ (grind (arith, f)));
           next = s.next;
           counted = counted_gone f;
           on = λ h. absurd (not_blank g f h);

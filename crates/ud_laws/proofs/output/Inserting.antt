@@ -151,9 +151,6 @@ piece_of b n = piece_after (style b n)
 pub gone_blank : (n : Bool) (before : List Judged) (j : Judged) → j.verdict ≡ Remove → piece_of true n before j ≡ j.line.ending
 gone_blank n before j e = grind arith
 
-pub gone_number : (before : List Judged) (j : Judged) → j.verdict ≡ Remove → piece_of false true before j ≡ []
-gone_number before j e = grind (arith, e)
-
 pub left_blank : (v : Verdict) (n : Bool) (before : List Judged) (l : Line) (k : Span) → IsLeft v →
     piece_of true n before (record { line = l; verdict = v; keyword = k }) ≡ piece_by v k l
 left_blank v n before l k h = grind arith

@@ -9,10 +9,6 @@ use Rattle.ud_model.specs.declared.settings.Settings.{Settings}
 use Rattle.ud_laws.proofs.output.AnswerLaws.{faultless}
 use Rattle.ud_laws.proofs.output.ListComplete.{list_complete}
 
--- Without a fault the name of the input doesn't count.
-same_answer : (s u : Settings) (n m : List ℕ) (r : Outcome) → r.fault ≡ None → s ≡ u → run_answer s n r ≡ run_answer u m r
-same_answer s u n m r e f = grind arith
-
 -- Arguments with the same entries for the listed names have the same answer.
 pub answered_by_list : {lister args more : List (List ℕ)} {input : List ℕ} {l a : Answer} → IsAnswer lister input l → l.status ≢ 2 →
     options_of lister ≡ with_listing (options_of args) → IsAnswer args input a → a.status ≢ 2 → usage_fault more ≡ None →
@@ -24,4 +20,4 @@ answered_by_list {lister = lister} {args = args} {more = more} {input = input} (
     let quiet : s.fault ≡ None = faultless (options_of args).settings s.differs s.fault k in
     let there : HasOutcome (options_of more) input s =
     list_complete (options_of args) (options_of more) input (subst (λ (o : Options). HasOutcome o input r) g d) calm same alike b in
-    subst (IsAnswer more input) (same_answer (options_of more).settings (options_of args).settings (display_name more) (display_name args) s quiet same) (ran s u there)
+    subst (IsAnswer more input) (grind (arith, quiet, same)) (ran s u there)

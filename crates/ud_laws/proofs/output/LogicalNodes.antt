@@ -86,12 +86,9 @@ IsTextLine r = is_directive (content_of r.scan) ≡ false
 abbrev pub NotLong : Reading → Type 0
 NotLong r = is_long r ≡ false
 
-other_by : (c : Content) (rs : List Reading) (other : CLine) → is_directive c ≡ false → c_line_by c rs other ≡ other
-other_by c rs other e = grind arith
-
 no_directive : (all rs : List Reading) → Each IsTextLine rs → c_line_in all rs ≡ other_lines all
 no_directive all [] h = refl
-no_directive all (r ∷ rs) h = other_by (content_of r.scan) rs (c_line_in all rs) h.0 ∙ no_directive all rs h.1
+no_directive all (r ∷ rs) h = (grind (arith, h.0)) ∙ no_directive all rs h.1
 
 later_texts : (rs : List Reading) → Each IsJoined rs → Each NotLong rs → Each IsTextLine rs
 later_texts [] j n = tt
@@ -118,9 +115,6 @@ line_of_directive c d other e = ap (λ (x : Content). c_line_by x [] other) e
 line_of_text : (c : Content) (other : CLine) → is_directive c ≡ false → c_line_by c [] other ≡ other
 line_of_text c other e = grind arith
 
-one_directive : (r : Reading) (d : Directive) → content_of r.scan ≡ directive d → line_items (c_one r) ≡ c_item r ∷ []
-one_directive r d e = grind (arith, line_of_directive)
-
 one_text : (r : Reading) → IsTextLine r → text_line (other_lines (unnumbered r ∷ [])) ≡ c_item r
 one_text r e = grind (arith, line_of_text)
 
@@ -133,7 +127,7 @@ unnumbered_texts [] h = tt
 unnumbered_texts (r ∷ rs) h = (h.0, unnumbered_texts rs h.1)
 
 alone : (r : Reading) (rs : List Reading) (d : Directive) → content_of r.scan ≡ directive d → IsLogical (r ∷ rs) → NotLong r → line_items (c_line (map unnumbered (r ∷ rs))) ≡ map c_item (r ∷ rs)
-alone r [] d e i n = one_directive r d e
+alone r [] d e i n = grind (arith, line_of_directive, e)
 alone r (s ∷ rs) d e i n = grind (arith, common_steps, next_joined)
 
 group_items : (g : List Reading) → IsLogical g → Each NotLong g → line_items (c_line (map unnumbered g)) ≡ map c_item g
@@ -207,26 +201,20 @@ module _ (o : Options) (p : IsPlainC o) where
 
 -- 4. They are processed alike.
 
-by_test : (t : Test) (after : List ℕ) (on : Bool) → on ≡ false → condition_of_test t after on ≡ spaced_test t (spaced true (after ++ []))
-by_test t after on e = grind (arith, append-nil)
-
 ends_here : (scan : Scan) → (true && is_spanning scan) ≡ false → scan.joins_after ≡ false
 ends_here scan h = (or_parts scan.joins_before scan.joins_after h).1
 
 by_content : (scan : Scan) (c : Content) (r : Reading) → (is_directive c && is_spanning scan) ≡ false → condition_with scan c ≡ condition_of (c_line_by c [] (other_lines (r ∷ [])))
 by_content scan cut_keyword r h = refl
 by_content scan text_content r h = refl
-by_content scan (directive d) r h = by_test (test_of d.kind) d.after scan.joins_after (ends_here scan h)
+by_content scan (directive d) r h = grind (arith, append-nil, ends_here scan h)
 
 -- The condition of the line is that of the logical line.
 condition_is : (r : Reading) → NotLong r → condition_on r ≡ condition_of (c_one r)
 condition_is r h = by_content r.scan (content_of r.scan) (unnumbered r) h
 
-is_text : (scan : Scan) (c : Content) → text_scan_by scan c ≡ Some scan → is_directive c ≡ false
-is_text scan c h = grind arith
-
 text_one : (r : Reading) → IsText r → c_one r ≡ other_lines (unnumbered r ∷ [])
-text_one r h = line_of_text (content_of r.scan) (other_lines (unnumbered r ∷ [])) (is_text r.scan (content_of r.scan) h)
+text_one r h = line_of_text (content_of r.scan) (other_lines (unnumbered r ∷ [])) (grind (arith, h))
 
 module _ {S F : Type 0} (takes : S → List ℕ → Scan → S → Type 0) (enters : S → List ℕ → Scan → F → S → Type 0) (leaves : S → S → Type 0) (decides : S → Condition → Bool → S → Type 0) where
   -- The preprocessor over lines that were read.

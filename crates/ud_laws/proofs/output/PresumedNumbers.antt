@@ -77,13 +77,10 @@ have_both : (js : List Judged) (ps : List Presumed) (p : Presumed) → HaveInput
 have_both js [] p h k = (k, tt)
 have_both js (q ∷ ps) p h k = (h.0, have_both js ps p h.1 k)
 
-further_one : (js : List Judged) (j : Judged) (p : Presumed) → HasInputNumber js p → HasInputNumber (js ++ j ∷ []) p
-further_one js j p h e = grind (arith, append_assoc)
-
 -- They have input numbers if the input goes on.
 further : (js : List Judged) (j : Judged) (ps : List Presumed) → HaveInputNumbers js ps → HaveInputNumbers (js ++ j ∷ []) ps
 further js j [] h = tt
-further js j (p ∷ ps) h = (further_one js j p h.0, further js j ps h.1)
+further js j (p ∷ ps) h = (grind (arith, append_assoc, h.0), further js j ps h.1)
 
 -- However C processes these lines: if the next line is sure, it has this number, and the lines have
 -- input numbers.
@@ -145,9 +142,6 @@ right_numbers (starts_anew {js = js} {rs = rs} {ss = ss} {n = n} c j d k r s p) 
 abbrev pub IsClear : Reading → Type 0
 IsClear r = (line_operand r.scan ≡ None) ⊎ ((n : ℕ) × GivesNumber n r)
 
-clear_number : (n : ℕ) (d : Reading) → n ≤ 2147483647 → IsNumberLine n d → IsClear d
-clear_number n d small k = grind (arith, inserted_operand)
-
 -- Each line of the output is clear.
 pub all_clear : {js : List Judged} {rs ss : List Reading} {n : ℕ} → Counted js rs ss n → HaveNoLineDirective rs → Each IsFew js → Each IsClear ss
 all_clear no_line h w = tt
@@ -160,4 +154,4 @@ all_clear (starts_anew {js = js} {rs = rs} {ss = ss} c j d k r s p) h w =
     let q = none_last rs r h in
     let few = each_parts IsFew js (j ∷ []) w in
     each_both IsClear (ss ++ d ∷ []) (s ∷ [])
-    (each_both IsClear ss (d ∷ []) (all_clear c q.0 few.0) (clear_number j.line.number d few.1.0 k, tt)) (inl (ap line_operand p.scanned ∙ q.1), tt)
+    (each_both IsClear ss (d ∷ []) (all_clear c q.0 few.0) (grind (arith, inserted_operand, few.1.0, k), tt)) (inl (ap line_operand p.scanned ∙ q.1), tt)

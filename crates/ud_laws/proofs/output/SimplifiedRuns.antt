@@ -75,9 +75,6 @@ IsOpen x = IsOf Any IsUnknown x
 
 -- 2. A line of the simplified text.
 
-no_block : (spliced : Bool) (k : LexemeKind) → is_block k ≡ false → is_in_block (comment_at spliced k) ≡ false
-no_block spliced k h = grind arith
-
 comment-code : (line : Line) → (scan_after_run [] line).comment ≡ comment_at (is_spliced line) (kind_at_end (spliced_text [] ++ spliced_part line))
 unfolding scan_after_run
 comment-code line = refl
@@ -89,8 +86,7 @@ spliced-code line = refl
 -- No comment is open at the end of a line that doesn't join the next one.
 out_of_comment : (l : Line) → (scan_after_run [] l).joins_after ≡ false → is_in_block (scan_after_run [] l).comment ≡ false
 out_of_comment l h = ap is_in_block (comment-code l)
-    ∙ no_block (is_spliced l) (kind_at_end (spliced_text [] ++ spliced_part l))
-    (or_parts (is_spliced l) (is_block (kind_at_end (spliced_text [] ++ spliced_part l))) (sym (joins_last [] l) ∙ sym (joins_after-code [] l) ∙ h)).1
+    ∙ (grind (arith, (or_parts (is_spliced l) (is_block (kind_at_end (spliced_text [] ++ spliced_part l))) (sym (joins_last [] l) ∙ sym (joins_after-code [] l) ∙ h)).1))
 
 module _ (table : List Argument) (rules : Rules) where
   uncut_left : (r s : Reading) → ReadingSimplified table rules r s → is_cut (content_of r.scan) ≡ false → is_cut (content_of s.scan) ≡ false

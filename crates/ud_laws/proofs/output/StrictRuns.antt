@@ -139,9 +139,6 @@ HasSome (elif_line o) = 1 ≤ (keyword_in (content_of o.line.scan)).len
 HasSome (else_line r) = 1 ≤ (keyword_in (content_of r.scan)).len
 HasSome (endif_line r) = 1 ≤ (keyword_in (content_of r.scan)).len
 
-has_some : (o : Options) (r : Reading) → HasSome (item_of o r)
-has_some o r = grind (arith, content_size)
-
 -- One line more has marks by which it keeps as much.
 record MarkedMore (t t2 u u2 : Tree Reading) (x y : Item Reading) : Type 0 where
   pub with : Mark
@@ -198,7 +195,7 @@ module _ (o : Options) where
       let p : Adds t x t2 = grown xs t t2 x a f in
       let q : Adds u y u2 = grown ys u u2 y b g in
       let w = loose_grows p k.sections i in
-      let m : MarkedMore t t2 u u2 x y = marked_more p q k.sections i (has_some with_k r) in
+      let m : MarkedMore t t2 u u2 x y = marked_more p q k.sections i (grind (arith, content_size)) in
       record {
         sections = subst (λ (v : Tree Reading). LooserTree t2 v) (adds-once w.1 q) w.2;
         readings = cc (map-append reading_of xs (x ∷ []), k.readings, reading_of-item_of with_k r, e, reading_of-item_of o s, map-append reading_of ys (y ∷ []));

@@ -14,8 +14,3 @@ length-skip_white_and_hash masked behind rest e is =
     let white = length-skip_white behind in
     let k : length rest ≡ length (skip_white behind) = ap length is in
     omega (arith, sign, before, white, k)
-
--- the bytes before a keyword, its own and those after it are all that there are
-pub all_places : (masked rest : List ℕ) (len : ℕ) → length rest ≤ length masked → len ≤ length rest →
-    (length masked - length rest) + len + length (take (length rest - len) (drop len rest)) ≡ length masked
-all_places masked rest len h k = grind (arith, length-drop, length-take-le)

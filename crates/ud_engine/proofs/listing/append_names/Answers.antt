@@ -1,13 +1,14 @@
-use Rattle.std.proofs.Common.{rules}
+use Rattle.ud_io.proofs.StreamLemmas.{stream_buffered}
+use Rattle.std.proofs.Common.{rules, arith, append-nil}
 use Rattle.ud_io.specs.Streams.{stream_of}
-use Rattle.ud_engine.proofs.NameListingLemmas.{none_put, name_put, all_put}
+use Rattle.ud_engine.proofs.NameListingLemmas.{name_put}
 use Rattle.ud_engine.proofs.listing.append_names.Goals as goal
 
 pub loop-name-init : goal.loop-name-init
 loop-name-init g c = record {
   can = search rules;
   ends = search rules;
-  put = none_put (stream_of g.W.Write.contents c.args.out.now) c.args.prefix.now c.args.names _ c.args.output.now c.into_iter-name-iterator.ensures.into_iter_gives;
+  put = grind (arith, append-nil, stream_buffered, c.into_iter-name-iterator.ensures.into_iter_gives);
 }
 
 pub loop-name-preserved : goal.loop-name-preserved
@@ -22,5 +23,4 @@ loop-name-preserved g c = record {
 
 pub returns : goal.returns
 returns g c =
-    all_put (stream_of g.W.Write.contents c.args.out.now) (stream_of g.W.Write.contents c.loop-name.out) c.args.prefix.now c.args.names
-    c.loop-name.name-iterator c.args.output.now c.loop-name.output c.in-None.ensures.steps.0 c.loop-name.invariant.put
+    grind (arith, append-nil, c.in-None.ensures.steps.0, c.loop-name.invariant.put)

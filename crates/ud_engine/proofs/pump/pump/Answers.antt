@@ -1,7 +1,10 @@
-use Rattle.std.proofs.Common.{rules, ◌≡◌, ℕ, ◌<◌, ◌≤◌, length, take, sym, ◌∙◌, subst, append-nil}
+use Rattle.std.proofs.Math.Seq.{take-append_seam}
+use Rattle.std.proofs.Math.ListN.{length-take}
+use Rattle.std.proofs.lemmas.Grind.{common_steps}
+use Rattle.std.proofs.Common.{rules, ◌≡◌, ℕ, ◌<◌, ◌≤◌, length, take, sym, ◌∙◌, subst, append-nil, arith}
 use Rattle.std.specs.Io.KnownBytes.{Consumes, prepend_known}
 use Rattle.ud_engine.specs.Runs.{InProgress}
-use Rattle.ud_engine.proofs.WaitingLemmas.{waits_more, unread_waiting, read_joined, waiting_stay}
+use Rattle.ud_engine.proofs.WaitingLemmas.{waits_more, unread_waiting, read_joined}
 use Rattle.ud_engine.proofs.pump.pump.Goals as goal
 
 pub returns-in-None-clause-finished : goal.returns-in-None-clause-finished
@@ -31,7 +34,7 @@ returns-in-Some-eq0-clause-finished g c = λ o read written w.
     (subst (λ x. InProgress c.loop-buffer.engine o read (prepend_known x (g.R.Read.remaining
     c.read.new.self.inner)) written (g.W.Write.contents c.loop-buffer.out.inner))
     (append-nil (take c.loop-buffer.waiting c.loop-buffer.buffer) ∙ sym
-    (waiting_stay c.loop-buffer.buffer _ c.loop-buffer.waiting within)) u)
+    (grind (arith, common_steps, length-take, take-append_seam, within))) u)
 
 pub loop-buffer-preserved : goal.loop-buffer-preserved
 loop-buffer-preserved g c = record {

@@ -21,18 +21,11 @@ same_front (c ∷ x) a b = ap (λ (t : Bool). t && bytes_eq (x ++ a) (x ++ b)) (
 other_front : (x more y : List ℕ) → bytes_eq (take (length x) y) x ≡ false → bytes_eq (x ++ more) y ≡ false
 other_front x more y h = grind (arith, false_from_ne_true, bytes_eq, bytes_eq-Decides, take-append_seam)
 
-same_truth : (p q : Bool) → (p ≡ true → q ≡ true) → (q ≡ true → p ≡ true) → p ≡ q
-same_truth p q h k = grind arith
-
--- texts that end alike are equal if what comes before is
-same_back : (x a b : List ℕ) → bytes_eq (a ++ x) (b ++ x) ≡ bytes_eq a b
-same_back x a b = grind (arith, same_truth, bytes_eq, bytes_eq-Decides, append_cancel_right)
-
 -- a line with a word in place of some of its bytes is the line if they are that word
 replaced_word : (before word text after : List ℕ) →
     bytes_eq (before ++ (word ++ after)) (before ++ (text ++ after)) ≡ bytes_eq word text
 replaced_word before word text after =
-    same_front before (word ++ after) (text ++ after) ∙ same_back after word text
+    same_front before (word ++ after) (text ++ after) ∙ (grind (arith, bytes_eq, bytes_eq-Decides, append_cancel_right))
 
 -- bytes that are cut at a position
 cut : (n : ℕ) (bytes front back : List ℕ) → front ≡ take n bytes → back ≡ drop n bytes →
@@ -88,10 +81,6 @@ in_body : (prefix back more b ending : List ℕ) → (back ≡ []) ⊎ (b ≡ []
     bytes_eq ((prefix ++ back) ++ more) ((prefix ++ b) ++ ending) ≡ bytes_eq (back ++ more) (b ++ ending)
 in_body prefix back more b ending h = grind (arith, bytes_eq, append_assoc, same_front)
 
--- the rests of a part and of a line whose endings have one prefix, too
-in_ending : (back more b e : List ℕ) → (back ≡ []) ⊎ (b ≡ []) → bytes_eq (back ++ more) (b ++ (back ++ e)) ≡ bytes_eq more (b ++ e)
-in_ending back more b e h = grind (arith, bytes_eq, same_front)
-
 module _ (p more body ending prefix back : List ℕ) (split : Split p body prefix back) where
   -- the body doesn't begin with the part's prefix
   pub other_body : bytes_eq (take (length prefix) body) prefix ≡ false → bytes_eq (p ++ more) (body ++ ending) ≡ false
@@ -122,7 +111,7 @@ module _ (p more body ending prefix back : List ℕ) (split : Split p body prefi
     pub next_part : (e : List ℕ) → bytes_eq (take (length back) ending) back ≡ true → e ≡ drop (length back) ending →
         bytes_eq (p ++ more) (body ++ ending) ≡ bytes_eq more (b ++ e)
     next_part e same last =
-        behind_body ∙ ap (λ (x : List ℕ). bytes_eq (back ++ more) (b ++ x)) (stripped ending back e same last) ∙ in_ending back more b e ends
+        behind_body ∙ ap (λ (x : List ℕ). bytes_eq (back ++ more) (b ++ x)) (stripped ending back e same last) ∙ (grind (arith, bytes_eq, same_front, ends))
 
 -- the part of no bytes
 abbrev pub no_part : Bor (List ℕ)
@@ -144,13 +133,10 @@ take_firsts zero (suc n) ps h = absurd (omega (arith, h))
 take_firsts (suc k) (suc n) [] h = grind (arith, common_steps, take_firsts k n [] (omega (arith, h)))
 take_firsts (suc k) (suc n) (p ∷ ps) h = ap (λ (t : List ℕ). p.now ++ t) (take_firsts k n ps (omega (arith, h)))
 
-four_firsts : (ps : List (Bor (List ℕ))) → firsts 4 ps ≡ get_or ps 0 no_part ∷ get_or ps 1 no_part ∷ get_or ps 2 no_part ∷ get_or ps 3 no_part ∷ []
-four_firsts ps = grind arith
-
 -- a part before at most four others
 pub one_before : (first : Bor (List ℕ)) (ps : List (Bor (List ℕ))) (n : ℕ) → n ≤ 4 →
     bytes_of (take (n + 1) (first ∷ get_or ps 0 no_part ∷ get_or ps 1 no_part ∷ get_or ps 2 no_part ∷ get_or ps 3 no_part ∷ []))
     ≡ first.now ++ bytes_of (take n ps)
 one_before first ps n h = rw add-one
-    (ap (λ (t : List (Bor (List ℕ))). first.now ++ bytes_of (take n t)) (sym (four_firsts ps))
+    (ap (λ (t : List (Bor (List ℕ))). first.now ++ bytes_of (take n t)) (sym (grind arith))
     ∙ ap (λ (t : List ℕ). first.now ++ t) (take_firsts 4 n ps h))

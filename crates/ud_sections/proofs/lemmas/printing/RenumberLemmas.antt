@@ -8,10 +8,6 @@ use Rattle.ud_sections.specs.printing.Styles.{renumber_style}
 abbrev pub left_of : Judged → List ℕ
 left_of j = if is_removed j.verdict then [] else piece_by j.verdict j.keyword j.line
 
-by_number : (before : List Judged) (j : Judged) (last gone : Bool) → last_removed before ≡ last → is_removed j.verdict ≡ gone →
-    (if last && not gone then number_line j.line else []) ++ left_of j ≡ piece_after renumber_style before j
-by_number before j last gone h k = grind arith
-
 -- a removed line isn't numbered
 pub removed_piece : (before : List Judged) (j : Judged) → is_removed j.verdict ≡ true → left_of j ≡ piece_after renumber_style before j
 removed_piece before j h = grind arith
@@ -23,4 +19,4 @@ following_piece before j h = grind arith
 -- a line after a removed one is numbered
 pub numbered_piece : (before : List Judged) (j : Judged) → last_removed before ≡ true → is_removed j.verdict ≡ false →
     number_line j.line ++ left_of j ≡ piece_after renumber_style before j
-numbered_piece before j h e = by_number before j true false h e
+numbered_piece before j h e = grind (arith, h, e)

@@ -142,9 +142,6 @@ pub record Moved (p kept plain : Bool) (d : Option OpenSection) (t u : Tree Read
   pub marks_are : marks_so_far kept u ≡ marks_so_far kept t ++ mark_of action ∷ []
   pub changes : Applies action.change (open_sections_of kept plain t) (open_sections_of kept plain u)
 
-if_mark : (kept : Bool) (c : Cond) → marked kept (verdict_so_far [] an_if c) ≡ record { kept = kept; verdict = opener_verdict_in (new_state kept) an_if c }
-if_mark kept c = grind arith
-
 opened_phase : (kept : Bool) (cs : List Cond) (l : OpenSection) (part : Part) (c : Cond) → l.state ≡ section_state_after (new_state kept) cs →
     record l { state = section_state_after (new_state kept) (cs ++ c ∷ []); else_seen = is_else_part part } ≡ section_with_group l part c
 opened_phase kept cs l part c h = grind (arith, phase-last)
@@ -155,7 +152,7 @@ module _ (p : Bool) where
   moved_if kept plain d b o e f = record {
     action = if_action kept plain o.cond o.ignoring o.line.line.number;
     is_act = ap₂ (λ k q. Some (if_action k q o.cond o.ignoring o.line.line.number)) e f;
-    marks_are = append-nil _ ∙ ap (λ m. nodes_so_far kept b ++ m ∷ []) (if_mark kept o.cond);
+    marks_are = append-nil _ ∙ ap (λ m. nodes_so_far kept b ++ m ∷ []) (grind arith);
     changes = refl;
   }
 
@@ -265,16 +262,13 @@ innermost_level p t = last_is (open_sections_of true p t) ∙ last_levels None t
 pub or_false : (b : Bool) → b ≡ (b || false)
 or_false b = grind arith
 
-or_assoc : (a b c : Bool) → ((a || b) || c) ≡ (a || (b || c))
-or_assoc a b c = grind arith
-
 -- the innermost section decides whether the next line is plain
 pub plain_inside : (p plain : Bool) (d : Option OpenSection) (kept : Bool) (t : Tree Reading) → plain_at p d ≡ plain →
     plain_at p (section_at d kept plain t) ≡ (plain || is_ignoring t)
 plain_inside p plain d kept (closed ns) e = e ∙ or_false plain
 plain_inside p plain d kept (open_section ns h t) e =
     plain_inside p (plain || (opener_of_head h).ignoring) (Some (section_of kept plain h)) (kept && is_inside_kept h) t refl
-    ∙ or_assoc plain (opener_of_head h).ignoring (is_ignoring t)
+    ∙ (grind arith)
 
 abbrev line_at_level : Option OpenSection → Option ℕ
 line_at_level None = None
@@ -319,10 +313,6 @@ end_opener false n (Some o) = refl
 -- the check of the end of the text
 pub end_is : (c : Bool) (n : ℕ) (p : Bool) (t : Tree Reading) → end_fault_of (end_in c n (section_at None true p t)) ≡ end_by c n (innermost t)
 end_is c n p t = grind (arith, end_level, end_by_line, if_line_at, innermost_is, end_opener)
-
--- a change opens at most one section, and only if `opens_section` is true
-pub changes_depth : (c : StackOp) (old new : List OpenSection) → Applies c old new → opens_section c ≡ false → length new ≤ length old
-changes_depth c old new h k = grind (arith, length-append)
 
 pub changes_deeper : (c : StackOp) (old new : List OpenSection) → Applies c old new → opens_section c ≡ true → length new ≡ suc (length old)
 changes_deeper c old new h k = grind (arith, length-append)

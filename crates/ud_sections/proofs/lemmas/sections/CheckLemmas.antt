@@ -1,5 +1,5 @@
 -- CheckLemmas: what the check of a line means for the line after sound ones.
-use Rattle.std.proofs.Common.{◌≡◌, ◌≢◌, ℕ, ◌<◌, ◌≤◌, ◌==◌, [], ◌∷◌, ◌++◌, Bool, true, false, ◌&&◌, if◌then◌else◌, Option, Some, None, Ok, Err, refl, sym, ◌∙◌, ap, subst, arith}
+use Rattle.std.proofs.Common.{◌≡◌, ◌≢◌, ℕ, ◌<◌, ◌≤◌, ◌==◌, [], ◌∷◌, ◌++◌, Bool, true, false, ◌&&◌, if◌then◌else◌, Option, Some, None, Ok, Err, refl, sym, ◌∙◌, ap, subst, arith, length-append}
 use Rattle.std.proofs.lemmas.Bool.{eqb-true}
 use Rattle.ud_model.specs.text.Scans.{Reading, is_spanning}
 use Rattle.ud_model.specs.sections.Tree.{Item, Tree, lines, depth}
@@ -22,7 +22,7 @@ use Rattle.ud_sections.specs.sections.Limits.{IsWithinLimits}
 use Rattle.ud_sections.specs.sections.SectionFaults.{fault_of}
 use Rattle.ud_sections.specs.sections.ClassifiedLines.{item_kind}
 use Rattle.ud_sections.proofs.lemmas.sections.LineFaults.{is_cut_item, out_of_place_fault, too_deep_fault, spoiled_fault, clear_line}
-use Rattle.ud_sections.proofs.lemmas.sections.ActionLemmas.{mark_of, Moved, moves, takes, depth_levels, changes_depth, changes_deeper}
+use Rattle.ud_sections.proofs.lemmas.sections.ActionLemmas.{mark_of, Moved, moves, takes, depth_levels, changes_deeper}
 
 -- the context of the line after a text
 abbrev pub before_next : Bool → Tree Reading → LineContext
@@ -76,7 +76,7 @@ module _ (p : Bool) (t : Tree Reading) (x : Item Reading) where
 
   shallow : (a : Action) (k : Taken p t x a) (b : Bool) → opens_section a.change ≡ b → depth t ≤ OPEN_SECTIONS →
       (b && (depth t == OPEN_SECTIONS)) ≡ false → depth k.tree ≤ OPEN_SECTIONS
-  shallow a k b h l m = grind (arith, changes_depth, depth_levels, changes_deeper, not_equal)
+  shallow a k b h l m = grind (arith, length-append, depth_levels, changes_deeper, not_equal)
 
   deep : (a : Action) (k : Taken p t x a) (b : Bool) → opens_section a.change ≡ b → (b && (depth t == OPEN_SECTIONS)) ≡ true → OPEN_SECTIONS < depth k.tree
   deep a k b h l = grind (arith, changes_deeper, depth_levels, eqb-true)

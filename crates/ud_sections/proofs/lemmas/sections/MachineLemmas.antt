@@ -74,9 +74,6 @@ same_section o t u e = sym (innermost_level o.settings.plain u) ∙ ap innermost
 mode_is : (o : Options) (t : Tree Reading) → mode_after o t ≡ mode_by (plain_at o.settings.plain (section_at None true o.settings.plain t))
 mode_is o t = ap mode_by (sym (plain_inside o.settings.plain o.settings.plain None true t refl))
 
-same_mode : (o : Options) (t u : Tree Reading) → open_sections_of true o.settings.plain u ≡ open_sections_of true o.settings.plain t → mode_after o u ≡ mode_after o t
-same_mode o t u h = grind (arith, mode_is, same_section)
-
 same_depth : (o : Options) (t u : Tree Reading) → open_sections_of true o.settings.plain u ≡ open_sections_of true o.settings.plain t → depth t ≤ OPEN_SECTIONS → depth u ≤ OPEN_SECTIONS
 same_depth o t u e d =
     let a : length (open_sections_of true o.settings.plain u) ≡ depth u = depth_levels true o.settings.plain u in
@@ -119,7 +116,7 @@ more_text o xs t [] sound d a = record {
 more_text o xs t (r ∷ rs) sound d a =
     let one : MoreText o xs t (r ∷ []) (place_of o t) = one_text o xs t r sound d a.0 a.1 a.2 in
     let rest : AreTextLines o (mode_after o one.tree) (xs ++ text_line r ∷ []) rs =
-    subst (λ m. AreTextLines o m (xs ++ text_line r ∷ []) rs) (sym (same_mode o t one.tree one.same)) a.3 in
+    subst (λ m. AreTextLines o m (xs ++ text_line r ∷ []) rs) (sym (grind (arith, mode_is, same_section, one.same))) a.3 in
     let more : MoreText o (xs ++ text_line r ∷ []) one.tree rs (place_of o one.tree) =
     more_text o (xs ++ text_line r ∷ []) one.tree rs one.sound (same_depth o t one.tree one.same d) rest in
     let place : place_of o one.tree ≡ place_of o t = ap kept_at (same_section o t one.tree one.same) in

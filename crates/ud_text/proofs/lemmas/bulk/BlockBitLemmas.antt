@@ -15,16 +15,13 @@ use Rattle.ud_text.proofs.lemmas.searching.SimdLemmas.{search_take, search_drop,
 use Rattle.ud_text.proofs.lemmas.bulk.StepLemmas.{drop_both}
 use Rattle.std.proofs.lemmas.Grind.{common_steps}
 
-half : (b : Bool) (n : ℕ) → (cond b 1 0 + 2 * n) / 2 ≡ n
-half b n = grind arith
-
 -- the bits shifted out are those of the first bytes
 mask_rest : (ms : List Bool) (k : ℕ) → mask_l ms / 2 ^ k ≡ mask_l (drop k ms)
 mask_rest ms zero = div-one (mask_l ms)
 mask_rest [] (suc k) = zero-div (2 ^ suc k) ∙ ap mask_l (sym (drop-nil (suc k)))
 mask_rest (m ∷ ms) (suc k) =
     ap (λ (n : ℕ). mask_l (m ∷ ms) / n) (pow-suc 2 k ∙ mul_comm (2 ^ k) 2) ∙ sym (div-div-eq-div-mul (mask_l (m ∷ ms)) 2 (2 ^ k))
-    ∙ ap (λ (n : ℕ). n / 2 ^ k) (half m (mask_l ms)) ∙ mask_rest ms k
+    ∙ ap (λ (n : ℕ). n / 2 ^ k) (grind arith) ∙ mask_rest ms k
 
 -- the remaining bits of a block are those of its bytes from a position on
 pub rest_bits : (bytes : List ℕ) (begin at : ℕ) → begin ≤ at → at ≤ begin + 64 →

@@ -25,9 +25,6 @@ pub record BlockSpan (starred white : Bool) (bytes : List ℕ) : Type 0 where
 inside_step : (starred white : Bool) (b : ℕ) → (starred ≡ true → ((b == slash) ≡ false) × ((b == backslash) ≡ false)) → next_bulk_state (inside_state starred white) b ≡ inside_state (b == star) white
 inside_step starred white b h = grind arith
 
-stops_inside : (starred white : Bool) (b : ℕ) (rest : List ℕ) → stops_bulk (inside_state starred white) b rest ≡ false
-stops_inside starred white b rest = grind arith
-
 pair_after : (starred : Bool) (b : ℕ) (bytes : List ℕ) → NoStarPair (star_before starred (b ∷ bytes)) →
     (starred ≡ true → ((b == slash) ≡ false) × ((b == backslash) ≡ false)) × NoStarPair (b ∷ bytes)
 pair_after starred b bytes h = grind arith
@@ -45,7 +42,7 @@ block_on (b ∷ bytes) starred white h =
     record {
       now = more.now;
       leads = ap (λ (s : BulkState). bulk_state_after s bytes) there ∙ more.leads;
-      quiet = (stops_inside starred white b bytes, subst (λ (s : BulkState). HasNoStop s bytes) (sym there) more.quiet);
+      quiet = (grind arith, subst (λ (s : BulkState). HasNoStop s bytes) (sym there) more.quiet);
     }
 
 keeps_one_line : (bytes : List ℕ) (s : BulkState) → NoNewline bytes → NoNewlineInBlock s bytes
@@ -57,12 +54,6 @@ feed_inside starred white = grind arith
 
 closing : (starred white : Bool) → bulk_state_after (inside_state starred white) (star ∷ slash ∷ []) ≡ code_state white
 closing starred white = grind arith
-
-closing_quiet : (starred white : Bool) → HasNoStop (inside_state starred white) (star ∷ slash ∷ [])
-closing_quiet starred white = grind arith
-
-closing_keeps : (starred white : Bool) → NoNewlineInBlock (inside_state starred white) (star ∷ slash ∷ [])
-closing_keeps starred white = grind arith
 
 -- a prefix of bytes without a star pair has none
 pub pair_front : (p q : List ℕ) → NoStarPair (p ++ q) → NoStarPair p
@@ -136,7 +127,7 @@ pub block_closed : {start : BulkState} {bytes : List ℕ} {line : ℕ} {kept : B
 block_closed {start} {bytes} {line} {kept} at pair starred u h r e =
     let there : at + (pair - at) ≡ pair = omega (arith, h) in
     let here : ReadTo start bytes line kept pair (inside_state starred u) = subst (λ (n : ℕ). ReadTo start bytes line kept n (inside_state starred u)) there r in
-    read_base u (read_on here 2 (star ∷ slash ∷ []) (sym e) (both_there (drop pair bytes) e) (closing_quiet starred u) (closing_keeps starred u) (code_state u) (closing starred u))
+    read_base u (read_on here 2 (star ∷ slash ∷ []) (sym e) (both_there (drop pair bytes) e) (grind arith) (grind arith) (code_state u) (closing starred u))
 
 -- the two bytes that open a block comment
 pub block_opened : {start : BulkState} {bytes : List ℕ} {line : ℕ} {kept : BulkState} {at : ℕ} (u : Bool) →

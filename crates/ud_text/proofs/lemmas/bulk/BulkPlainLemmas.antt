@@ -37,29 +37,20 @@ unfolding split_lines
 begins_ends _ at_start = refl
 begins_ends _ (after_newline prefix) = ap (λ (q : SplitLines). q.rest) (split_lines-append-line prefix [] tt)
 
-or4 : (a b c d : Bool) → (a || b || c || d) ≡ false → (a ≡ false) × (b ≡ false) × (c ≡ false) × (d ≡ false)
-or4 a b c d h = grind arith
-
 -- the bytes that an insignificant byte isn't
 pub not_special : (b : ℕ) → is_significant b ≡ false → ((b == slash) ≡ false) × (is_quote b ≡ false) × ((b == backslash) ≡ false) × ((b == number_sign) ≡ false)
-not_special b e = or4 (b == slash) (is_quote b) (b == backslash) (b == number_sign) e
-
-step_plain : (b : ℕ) (white : Bool) → is_significant b ≡ false → next_bulk_state (code_state white) b ≡ code_state (stays_white in_text white b)
-step_plain b white h = grind arith
-
-stops_plain : (b : ℕ) (white : Bool) (rest : List ℕ) → is_significant b ≡ false → stops_bulk (code_state white) b rest ≡ false
-stops_plain b white rest h = grind arith
+not_special b e = grind (arith, e)
 
 -- plain text leads from outside comments and literals to outside them
 pub plain_read : (bytes : List ℕ) (white : Bool) → NoSignificant bytes → CodeLexeme white bytes
 plain_read [] white h = record { now_white = white; leads = refl; quiet = tt; no_newline = tt; no_comment = tt }
 plain_read (b ∷ bytes) white h = let now : Bool = stays_white in_text white b in
     let more : CodeLexeme now bytes = plain_read bytes now h.1 in
-    let there : code_state now ≡ next_bulk_state (code_state white) b = sym (step_plain b white h.0) in
+    let there : code_state now ≡ next_bulk_state (code_state white) b = sym (grind (arith, h.0)) in
     record {
       now_white = more.now_white;
       leads = ap (λ (s : BulkState). bulk_state_after s bytes) (sym there) ∙ more.leads;
-      quiet = (stops_plain b white bytes h.0, subst (λ (s : BulkState). HasNoStop s bytes) there more.quiet);
+      quiet = (grind (arith, h.0), subst (λ (s : BulkState). HasNoStop s bytes) there more.quiet);
       no_newline = (and-false (b == newline), subst (λ (s : BulkState). NoNewlineInBlock s bytes) there more.no_newline);
       no_comment = (refl, subst (λ (w : LexState). NoComment w bytes) (ap (λ (s : BulkState). s.state) there) more.no_comment);
     }

@@ -44,14 +44,10 @@ insignificant_none : (white : Bool) (bytes : List ℕ) → NoSignificant bytes �
 insignificant_none white [] h = tt
 insignificant_none white (b ∷ bytes) h = grind (arith, not_special, insignificant_none (is_white_past white b) bytes h.1)
 
--- whether a byte begins a directive, when more bytes follow
-begins_more : (s w o p : Bool) → (o ≡ true → p ≡ true) → (s && (w && not o)) ≡ false → (s && (w && not p)) ≡ false
-begins_more s w o p h k = grind arith
-
 -- two runs, none of whose bytes begins a directive, one after the other
 pub none-append : (white : Bool) (p q : List ℕ) → NoneBeginsDirective white p → NoneBeginsDirective (is_white_past_all white p) q → NoneBeginsDirective white (p ++ q)
 none-append white [] q h k = k
-none-append white (b ∷ p) q h k = grind (arith, begins_more, other-append, none-append (is_white_past white b) p q h.1 k)
+none-append white (b ∷ p) q h k = grind (arith, other-append, none-append (is_white_past white b) p q h.1 k)
 
 -- a run is cut at a newline: nothing after it counts before it, and a line begins after it
 none-feed : (white : Bool) (p q : List ℕ) → NoneBeginsDirective white (p ++ newline ∷ q) → NoneBeginsDirective white (p ++ newline ∷ []) × NoneBeginsDirective true q

@@ -160,7 +160,7 @@ last_return c (a ∷ b ∷ d ∷ bytes) (suc n) e f g h = last_return (spliced_a
 
 -- no splice ends after bytes whose last two allow none
 pub unspliced : (bytes : List ℕ) (n : ℕ) → length bytes ≡ suc (suc n) → may_splice (get_or bytes n 0) (get_or bytes (suc n) 0) ≡ false → spliced_by false bytes ≡ false
-unspliced bytes n h k = grind (arith, or_parts, last_clear, last_return)
+unspliced bytes n h k = grind (arith, last_clear, last_return)
 
 line_on : (bytes : List ℕ) (white c : Bool) → NoNewline bytes →
     (bulk_state_after (line_comment white c) bytes ≡ line_comment white (spliced_by c bytes)) × HasNoStop (line_comment white c) bytes × NoNewlineInBlock (line_comment white c) bytes

@@ -16,15 +16,9 @@ outside in_line = false
 outside (in_literal q) = true
 outside (at_backslash q) = true
 
-outside_next : (w : LexState) (b : ℕ) → outside w ≡ true → opens_comment w b ≡ false → outside (next_state w b) ≡ true
-outside_next w b h k = grind arith
-
 outside_on : (s : BulkState) (p q : List ℕ) → outside s.state ≡ true → NoComment s.state (p ++ q) → (outside (bulk_state_after s p).state ≡ true) × NoComment (bulk_state_after s p).state q
 outside_on s [] q e h = (e, h)
-outside_on s (b ∷ p) q e h = outside_on (next_bulk_state s b) p q (outside_next s.state b e h.0) h.1
-
-feed_step : (s : BulkState) → outside s.state ≡ true → next_bulk_state s newline ≡ code_state true
-feed_step s h = grind arith
+outside_on s (b ∷ p) q e h = outside_on (next_bulk_state s b) p q (grind (arith, e, h.0)) h.1
 
 white_parts : (b : ℕ) → is_white b ≡ true → ((b == slash) ≡ false) × (is_quote b ≡ false) × ((b == newline) ≡ false) × ((b == star) ≡ false) × ((b == backslash) ≡ false)
 white_parts b h = grind arith
@@ -56,12 +50,6 @@ black_on (b ∷ bytes) s e h =
     let w : (is_white b ≡ true) × (are_white bytes ≡ true) = white_tests b bytes h in
     black_on bytes (next_bulk_state s b) (ap (λ (v : Bool). stays_white s.state v b) e ∙ white_false s.state b (white_parts b w.0).2) w.1
 
--- after a byte that isn't white the line isn't white, unless the byte is a slash, which may begin a
--- comment
-black_step : (w : LexState) (white : Bool) (b : ℕ) → outside w ≡ true → opens_comment w b ≡ false → is_white b ≡ false → (b == newline) ≡ false →
-    (stays_white w white b ≡ false) ⊎ (next_state w b ≡ at_slash)
-black_step w white b h k l m = grind arith
-
 -- white space after a slash makes the slash a byte of the line
 slash_on : (bytes : List ℕ) (s : BulkState) (u : Bool) → s.state ≡ at_slash → are_white bytes ≡ true → bulk_state_after s bytes ≡ code_state u → u ≡ false
 slash_on [] s u p h e = let q : at_slash ≡ in_text = sym p ∙ ap (λ (t : BulkState). t.state) e in cc
@@ -81,14 +69,14 @@ shows_white plain base _ now c e (new_line prefix rest is w) =
     outside_on (code_state base) prefix (newline ∷ rest) refl (subst (λ (l : List ℕ). NoComment in_text l) is c) in
     ap (λ (s : BulkState). s.white)
     (sym e ∙ ap (λ (l : List ℕ). bulk_state_after (code_state base) l) is ∙ bulk_state_after-append (code_state base) prefix (newline ∷ rest)
-    ∙ ap (λ (s : BulkState). bulk_state_after s rest) (feed_step (bulk_state_after (code_state base) prefix) out.0) ∙ white_on rest w)
+    ∙ ap (λ (s : BulkState). bulk_state_after s rest) (grind (arith, out.0)) ∙ white_on rest w)
 shows_white plain base _ now c e (black prefix b rest is k i w) =
     let s : BulkState = bulk_state_after (code_state base) prefix in
     let out : (outside (bulk_state_after (code_state base) prefix).state ≡ true) × NoComment (bulk_state_after (code_state base) prefix).state (b ∷ rest) =
     outside_on (code_state base) prefix (b ∷ rest) refl (subst (λ (l : List ℕ). NoComment in_text l) is c) in
     let there : bulk_state_after (next_bulk_state (bulk_state_after (code_state base) prefix) b) rest ≡ code_state now =
     sym (ap (λ (l : List ℕ). bulk_state_after (code_state base) l) is ∙ bulk_state_after-append (code_state base) prefix (b ∷ rest)) ∙ e in
-    by_step (bulk_state_after (code_state base) prefix) there (black_step (bulk_state_after (code_state base) prefix).state (bulk_state_after (code_state base) prefix).white b out.0 out.1.0 k i)
+    by_step (bulk_state_after (code_state base) prefix) there (grind (arith, out.0, out.1.0, k, i))
   where
     by_step : (s : BulkState) → bulk_state_after (next_bulk_state s b) rest ≡ code_state now → (stays_white s.state s.white b ≡ false) ⊎ (next_state s.state b ≡ at_slash) → now ≡ false
     by_step s t (inl h) = sym (ap (λ (x : BulkState). x.white) t) ∙ black_on rest (next_bulk_state s b) h w

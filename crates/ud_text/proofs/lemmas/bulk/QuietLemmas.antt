@@ -25,13 +25,10 @@ pub other-append : (p q : List ℕ) → is_other_word p ≡ true → is_other_wo
 other-append [] q e = cc
 other-append (a ∷ p) q e = grind (arith, common_steps, other-append p q)
 
-stops_bulk-append : (s : BulkState) (b : ℕ) (p q : List ℕ) → stops_bulk s b p ≡ false → stops_bulk s b (p ++ q) ≡ false
-stops_bulk-append s b p q h = grind (arith, other-append)
-
 -- two runs without a stop, one after the other, have none
 pub HasNoStop-append : (s : BulkState) (p q : List ℕ) → HasNoStop s p → HasNoStop (bulk_state_after s p) q → HasNoStop s (p ++ q)
 HasNoStop-append s [] q h k = k
-HasNoStop-append s (b ∷ p) q h k = (stops_bulk-append s b p q h.0, HasNoStop-append (next_bulk_state s b) p q h.1 k)
+HasNoStop-append s (b ∷ p) q h k = (grind (arith, other-append, h.0), HasNoStop-append (next_bulk_state s b) p q h.1 k)
 
 -- nothing after a newline counts for the word before it
 pub other-feed : (p q : List ℕ) → is_other_word (p ++ newline ∷ q) ≡ is_other_word (p ++ newline ∷ [])

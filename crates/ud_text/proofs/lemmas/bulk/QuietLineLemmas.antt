@@ -25,7 +25,7 @@ use Rattle.ud_text.proofs.lemmas.lines.ConsumeLemmas.{lines_joined, ends_joined}
 use Rattle.ud_text.proofs.lemmas.scan.MaskLemmas.{no_newline-take}
 use Rattle.ud_text.proofs.lemmas.scan.ScannerLemmas.{scan_carried, represents_code, no_newline-content}
 use Rattle.ud_text.proofs.lemmas.bulk.QuietLemmas.{bulk_state_after-append, bulk_state_after-place, bulk_state_after-white, HasNoStop-feed, HasNoStop-rest}
-use Rattle.ud_text.proofs.lemmas.bulk.TextLemmas.{Unsigned, text_not_fresh, text_unsigned, unsigned, NoWord}
+use Rattle.ud_text.proofs.lemmas.bulk.TextLemmas.{Unsigned, text_unsigned, unsigned, NoWord}
 use Rattle.ud_model.specs.text.Bytes.{newline, carriage_return, backslash}
 
 -- `IsTail spliced tail`: what follows a line's content, by whether the line is spliced
@@ -94,9 +94,6 @@ shape_of n l whole = let line : Line = line_at n l in
       one_line = no_newline-content line (body_one_line l (length (ending_of l)) whole (feed_length (ending_of l) f));
     }
 
-starts_after : (v : LexState) → can_start (next_state v newline) ≡ true
-starts_after v = grind arith
-
 -- `Leads v white spliced now`: the state after a line is that of the definitions, by the state
 -- after its content and whether it is spliced
 pub record Leads (v : LexState) (white : Bool) (spliced : Bool) (now : BulkState) : Type 0 where
@@ -157,7 +154,7 @@ module _ (w : LexState) (white : Bool) (before : List Reading) (line : Line) (ca
   -- the line is text, if its content is read without a stop and no word continues after it
   pub line_is_text : (tail : List ℕ) → can_start w ≡ true → NoNewline (content line) → is_other_word tail ≡ false → NoWord tail →
       HasNoStop (line_state w white) (content line ++ tail) → content_of (scan_after before C line) ≡ text
-  line_is_text tail at o f n q = grind (arith, scanned, text_not_fresh, not_fresh, text_unsigned, sign)
+  line_is_text tail at o f n q = grind (arith, scanned, not_fresh, text_unsigned, sign)
 
 module _ (w : LexState) (white : Bool) (before : List Reading) (line : Line) (bytes : List ℕ) (shape : Shape line bytes)
     (at : can_start w ≡ true) (quiet : HasNoStop (line_state w white) bytes) (carried : ScannerRepresents (scanner_state_at w white) before) where
@@ -247,10 +244,7 @@ passed_none start at = record { ends = begins_ends [] at_start; skips = passes_n
 
 -- a line begins after a newline
 feed_at_line : (s : BulkState) → AtLine (next_bulk_state s newline)
-feed_at_line s = record { is = refl; starts = starts_after s.state }
-
-begins_at_line : (start : BulkState) (bytes : List ℕ) → AtLine start → IsLineStart bytes → AtLine (bulk_state_after start bytes)
-begins_at_line start bytes h k = grind (arith, bulk_state_after-append, feed_at_line)
+feed_at_line s = record { is = refl; starts = (grind arith) }
 
 quiet_passes : (w : LexState) (white : Bool) (bytes : List ℕ) → can_start w ≡ true → AreWholeLines bytes → HasNoStop (line_state w white) bytes →
     SkipsText C (scanner_state_at w white) (scanner_state_at (bulk_state_after (line_state w white) bytes).state (bulk_state_after (line_state w white) bytes).white) bytes
@@ -265,7 +259,7 @@ quiet_passes w white bytes at ends quiet = let ls : List (List ℕ) = whole_line
 
 -- whole lines that are read without a stop are skipped
 pub passed_quiet : (start : BulkState) (bytes : List ℕ) → AtLine start → IsLineStart bytes → HasNoStop start bytes → Skipped start bytes (bulk_state_after start bytes)
-passed_quiet start bytes at b quiet = grind (arith, begins_ends, quiet_passes, begins_at_line)
+passed_quiet start bytes at b quiet = grind (arith, begins_ends, quiet_passes, bulk_state_after-append, feed_at_line)
 
 stands_append : (mode : Mode) (n : ℕ) (before : List Reading) (ls ms : List (List ℕ)) →
     readings_after before (lines_in_mode mode n (ls ++ ms)) ≡ readings_after (readings_after before (lines_in_mode mode n ls)) (lines_in_mode mode (n + length ls) ms)
@@ -282,16 +276,5 @@ texts_append mode n before (l ∷ ls) ms h k =
           (subst (λ (m : ℕ). HaveNoDirective mode (readings_after before (lines_in_mode mode n (l ∷ ls))) (numbered_from m ms)) e k),
     )
 
--- lines are skipped one after another
-pub passes_append : (mode : Mode) (old mid new : ScannerState) (p q : List ℕ) → AreWholeLines p → SkipsText mode old mid p → SkipsText mode mid new q →
-    SkipsText mode old new (p ++ q)
-passes_append mode old mid new p q h k l = grind (arith, lines_joined, stands_append, texts_append)
-
 pub Skipped-append : {start now later : BulkState} (p q : List ℕ) → Skipped start p now → Skipped now q later → Skipped start (p ++ q) later
-Skipped-append p q h k = grind (arith, ends_joined, passes_append)
-
--- lines are skipped in the states that the program carries
-pub passes_run : (w : LexState) (white j : Bool) (bytes : List ℕ) (now : LexState) (now_white k : Bool) → j ≡ continues_line w white → k ≡ continues_line now now_white →
-    Skipped (line_state w white) bytes (line_state now now_white) →
-    SkipsText C (record { state = w; white = white; joins = j }) (record { state = now; white = now_white; joins = k }) bytes
-passes_run w white j bytes now now_white k h l m = grind arith
+Skipped-append p q h k = grind (arith, ends_joined, lines_joined, stands_append, texts_append)

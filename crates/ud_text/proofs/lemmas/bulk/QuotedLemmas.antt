@@ -37,32 +37,6 @@ pub record QuotedFront (white : Bool) (begun : ℕ) (last : ℕ) (bytes : List �
   pub quiet : HasNoStop (code_state white) bytes
   pub no_newline : NoNewlineInBlock (code_state white) bytes
 
-spliced_less : (w : LexState) (c d : Bool) (b : ℕ) → (d ≡ false → c ≡ false) →
-    spliced_after in_line d b ≡ false → spliced_after w c b ≡ false
-spliced_less w c d b h k = grind arith
-
-slash_next : (w : LexState) (b : ℕ) → next_state w b ≡ at_slash → b ≡ slash
-slash_next w b h = grind arith
-
--- a byte that begins no block comment leaves the text outside them
-block_next : (w : LexState) (last b : ℕ) → (w ≡ at_slash → last ≡ slash) → opens last b ≡ false →
-    is_block (kind_in_state w) ≡ false → is_block (kind_in_state (next_state w b)) ≡ false
-block_next w last b h k l = grind arith
-
--- a slash after a star closes a block comment
-closed_next : (w : LexState) → (w ≡ in_block → ⊥) →
-    is_block (kind_in_state (next_state w slash)) ≡ false
-closed_next w h = grind arith
-
--- a star that begins no block comment may end one
-starred_next : (w : LexState) (last : ℕ) → (w ≡ at_slash → last ≡ slash) → opens last star ≡ false →
-    next_state w star ≡ in_block → ⊥
-starred_next w last h k l = grind arith
-
-stops_black : (s : BulkState) (b : ℕ) → s.white ≡ false → (b == newline) ≡ false →
-    stops_bulk s b [] ≡ false
-stops_black s b h k = grind arith
-
 spliced_by-append : (c : Bool) (p : List ℕ) (b : ℕ) →
     spliced_by c (p ++ b ∷ []) ≡ spliced_after in_line (spliced_by c p) b
 unfolding spliced_by
@@ -75,23 +49,22 @@ front_later : (white : Bool) (begun later last b : ℕ) (bytes : List ℕ)
     (later ≡ 0 → is_block (kind_in_state (next_state r.now.state b)) ≡ false) →
     (later < length (bytes ++ b ∷ []) → b ≡ star → next_state r.now.state b ≡ in_block → ⊥) →
     QuotedFront white later b (bytes ++ b ∷ [])
-front_later white begun later last b bytes r h k l = grind (arith, bulk_state_after-append, white_false, spliced_less, spliced_by, spliced_by-append, slash_next, HasNoStop-append, stops_black, NoNewlineInBlock-append)
+front_later white begun later last b bytes r h k l = grind (arith, bulk_state_after-append, white_false, spliced_by, spliced_by-append, HasNoStop-append, NoNewlineInBlock-append)
 
 -- one more byte, which begins no block comment
 front_byte : (white : Bool) (begun last b : ℕ) (bytes : List ℕ) →
     QuotedFront white begun last bytes → (b == newline) ≡ false → opens last b ≡ false →
     QuotedFront white begun b (bytes ++ b ∷ [])
 front_byte white begun last b bytes r e f = front_later white begun begun last b bytes r e
-    (λ z. block_next r.now.state last b r.slash_is f (r.shut z))
-    (λ h s i. starred_next r.now.state last r.slash_is (subst (λ (n : ℕ). opens last n ≡ false) s f)
-    (subst (λ (n : ℕ). next_state r.now.state n ≡ in_block) s i))
+    (λ z. (grind (arith, r.slash_is, f, r.shut z)))
+    (λ h s i. (grind (arith, r.slash_is, (subst (λ (n : ℕ). opens last n ≡ false) s f), (subst (λ (n : ℕ). next_state r.now.state n ≡ in_block) s i))))
 
 -- a slash that closes a block comment, if one is open
 front_close : (white : Bool) (begun last : ℕ) (bytes : List ℕ) →
     QuotedFront white begun last bytes → begun < length bytes → last ≡ star →
     QuotedFront white 0 slash (bytes ++ slash ∷ [])
 front_close white begun last bytes r h e =
-    front_later white begun 0 last slash bytes r refl (λ z. closed_next r.now.state (r.starred h e))
+    front_later white begun 0 last slash bytes r refl (λ z. (grind (arith, r.starred h e)))
     (λ k s i. absurd (omega (arith, s)))
 
 -- a star that begins a block comment, if none is open
@@ -101,12 +74,6 @@ front_open white begun last bytes r =
     front_later white begun (length bytes + 1) last star bytes r refl
     (λ z. absurd (omega (arith, z)))
     (λ k s i. absurd (omega (arith, k, length-append bytes (star ∷ []))))
-
--- the newline, which belongs to no splice
-front_newline : (white : Bool) (begun last : ℕ) (bytes : List ℕ) →
-    QuotedFront white begun last bytes → begun ≡ 0 → spliced_by false bytes ≡ false →
-    LineLexeme white (bytes ++ newline ∷ [])
-front_newline white begun last bytes h k l = grind (arith, bulk_state_after-append, feed_open, HasNoStop-append, NoNewlineInBlock-append)
 
 -- `QuotedTo white begun l n`: the first `n` bytes of a line are read from a quote on
 abbrev pub QuotedTo : Bool → ℕ → List ℕ → ℕ → Type 0
@@ -132,10 +99,6 @@ none_with a b e = ap (λ (t : Bool). (a == slash) && t) e ∙ and-false (a == sl
 -- the byte after a star begins none
 pub star_opens : (l : List ℕ) (n m : ℕ) → get_or l n 0 ≡ star → m ≡ n + 1 → opens_at l m ≡ false
 star_opens l n m h k = grind arith
-
--- the byte after a quote begins none
-pub quote_opens : (l : List ℕ) → is_quote (get_or l 0 0) ≡ true → opens_at l 1 ≡ false
-quote_opens l h = grind arith
 
 to_next : (white : Bool) (later : ℕ) (l : List ℕ) (n : ℕ) → n < length l →
     QuotedFront white later (get_or l n 0) (take n l ++ get_or l n 0 ∷ []) →
@@ -235,8 +198,7 @@ module _ (l : List ℕ) (at count : ℕ)
       QuotedTo white begun l at → LineLexeme white (take (at + count + 1) l)
   quoted_line h e s white begun z r = subst (λ (x : List ℕ). LineLexeme white x)
       (sym (take_more l (at + count) 0 h ∙ ap (λ (n : ℕ). take (at + count) l ++ n ∷ []) e))
-      (front_newline white begun (get_or l (at + count - 1) 0) (take (at + count) l)
-      (quoted_run white begun r) z s)
+      (grind (arith, bulk_state_after-append, feed_open, HasNoStop-append, NoNewlineInBlock-append, quoted_run white begun r, z, s))
 
 -- no splice ends after a byte that is neither a backslash nor a carriage return
 pub unspliced_last : (l : List ℕ) (n : ℕ) → 1 ≤ n → n ≤ length l →
@@ -254,8 +216,3 @@ unspliced_return l n low high e f = let next : suc (n - 2) ≡ n - 1 = omega ari
     (ap₂ may_splice (get_or-take n l (n - 2) 0 (omega arith))
     (ap (λ (k : ℕ). get_or (take n l) k 0) next ∙ get_or-take n l (n - 1) 0 (omega arith) ∙ e)
     ∙ f)
-
--- the quote comes before a carriage return
-pub return_later : (l : List ℕ) (n : ℕ) → is_quote (get_or l 0 0) ≡ true → 1 ≤ n →
-    get_or l (n - 1) 0 ≡ carriage_return → 2 ≤ n
-return_later l n h k m = grind arith

@@ -154,9 +154,6 @@ drop_both l zero m = let e : 0 + m ≡ m = omega arith in ap (λ (k : ℕ). drop
 drop_both [] (suc n) m = drop-nil (suc n + m) ∙ sym (drop-nil m)
 drop_both (x ∷ l) (suc n) m = let e : suc n + m ≡ suc (n + m) = omega arith in ap (λ (k : ℕ). drop k (x ∷ l)) e ∙ drop_both l n m
 
-sign_take : (l : List ℕ) (k : ℕ) → take 1 l ≡ number_sign ∷ [] → take (suc k) l ≡ number_sign ∷ take k (drop 1 l)
-sign_take l k h = grind arith
-
 module _ {start : BulkState} {bytes : List ℕ} {line : ℕ} {kept : BulkState} {base : ℕ} {begins : Bool} {at : ℕ}
     (r : ReadOutside start bytes line kept base begins at) where
   -- a run of bytes outside comments
@@ -201,7 +198,7 @@ module _ {start : BulkState} {bytes : List ℕ} {line : ℕ} {kept : BulkState} 
       let name : List ℕ = take k (drop (at + 1) bytes) in
       let reason : (is_other_word (take k (drop (at + 1) bytes)) ≡ true) ⊎ (r.now_white ≡ false) = by_reason why in
       let taken : take (suc k) (drop at bytes) ≡ number_sign ∷ take k (drop (at + 1) bytes) =
-      sign_take (drop at bytes) k first ∙ ap (λ (l : List ℕ). number_sign ∷ take k l) (sym later) in
+      (grind (arith, first)) ∙ ap (λ (l : List ℕ). number_sign ∷ take k l) (sym later) in
       let there : at + suc k ≡ at + 1 + k = omega arith in
       subst (λ (n : ℕ). ReadOutside start bytes line kept base begins n) there
       (read_text r (suc k) (fits (drop at bytes) k first (subst (λ (l : List ℕ). k ≤ length l) later bound))

@@ -32,10 +32,6 @@ pub data Unsigned : Option (List ℕ) → Type 0 where
   no_sign : Unsigned None
   other_sign : (rest : List ℕ) → IsOther rest → Unsigned (Some rest)
 
--- a scan that isn't fresh, and so can have no directive, is text
-pub text_not_fresh : (scan : Scan) → scan.fresh ≡ false → content_of scan ≡ text
-text_not_fresh scan h = grind arith
-
 -- a scan without such a `#` is text, also if a continuation cuts it off
 pub text_unsigned : (scan : Scan) → Unsigned (skip_white_and_hash scan.masked) → content_of scan ≡ text
 text_unsigned scan u = by_sign (skip_white_and_hash scan.masked) u

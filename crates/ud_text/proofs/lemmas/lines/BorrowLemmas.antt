@@ -11,7 +11,7 @@ use Rattle.ud_text.specs.lines.LinesState.{LinesState, LinesRepresent, UpToNewli
 use Rattle.ud_text.specs.lines.Borrowing.{CanBorrow, IsFirstLine}
 use Rattle.ud_text.proofs.lemmas.lines.NewlineLemmas.{up_to_newline-once, whole_newlineless}
 use Rattle.ud_text.proofs.lemmas.scan.MaskLemmas.{no_newline-take}
-use Rattle.ud_text.proofs.lemmas.lines.LinesLemmas.{represent_take, represent_clear}
+use Rattle.ud_text.proofs.lemmas.lines.LinesLemmas.{represent_take, represent_whole}
 use Rattle.ud_model.proofs.output.Formed.{feed_inside}
 use Rattle.std.proofs.lemmas.Grind.{common_steps}
 
@@ -46,10 +46,6 @@ none_after rest e used to =
     let line : (prefix : List ℕ) × NoNewline prefix × (take used rest ≡ prefix ++ 10 ∷ []) = to.line refl in
     absurd (omega (arith, e, ap length line.2, length-append line.0 (10 ∷ []), length-take used rest))
 
--- the first line of a chunk is whole
-first_whole : (chunk line : List ℕ) → IsFirstLine chunk line → IsWhole line
-first_whole chunk line h = grind arith
-
 -- a body and an ending are the bytes of their line
 joined_is : (body ending line : List ℕ) (n : ℕ) → IsLineOf body ending n (line_at n line) → body ++ ending ≡ line
 joined_is body ending line n e = ap text_of e ∙ text_of-line_at n line
@@ -70,7 +66,7 @@ borrowed_bytes chunk body ending line n f e =
 -- no newline is in the line's body
 pub borrowed_no_newline : (chunk body ending line : List ℕ) (n : ℕ) → IsFirstLine chunk line → IsLineOf body ending n (line_at n line) → NoNewline body
 borrowed_no_newline chunk body ending line n f e =
-    subst NoNewline (ap (λ (l : Line). l.body) (sym e)) (whole_newlineless n line (first_whole chunk line f))
+    subst NoNewline (ap (λ (l : Line). l.body) (sym e)) (whole_newlineless n line (grind (arith, f)))
 
 -- the line can be borrowed
 pub can_borrow : (lines : LinesState) (chunk body ending line : List ℕ) (n : ℕ) → lines.held ≡ [] → lines.fault ≡ None → lines.before < lines.last_line →
@@ -83,7 +79,7 @@ consumed_line : (lines : LinesState) (text chunk : List ℕ) (used : ℕ) → li
 consumed_line lines text chunk used unheld part to h =
     subst (λ (held : List ℕ). LinesRepresent (record lines { held = held; before = lines.before + 1 }) (text ++ take used chunk)) (sym unheld)
     (subst (λ (whole : Bool). LinesRepresent (record lines { held = []; whole = whole; before = lines.before + 1 }) (text ++ take used chunk)) (sym part)
-    (represent_clear (record lines { held = lines.held ++ take used chunk; whole = true }) (text ++ take used chunk) refl (represent_take lines text chunk used true part to h)))
+    (grind (arith, represent_whole, length-append, represent_take lines text chunk used true part to h)))
 
 -- one more line is taken and consumed with the borrowed one
 pub represent_borrowed : (lines : LinesState) (text chunk body ending line : List ℕ) (n : ℕ) → lines.held ≡ [] → lines.whole ≡ false →

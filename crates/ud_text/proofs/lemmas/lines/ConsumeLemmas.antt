@@ -83,10 +83,6 @@ module _ (piece : List ℕ) (at count size : ℕ) (window : List ℕ) (is : wind
   pub more_fit : EachFits (whole_lines (take at piece)) → EachFits (whole_lines (take (at + count) piece))
   more_fit h = grind (arith, short_fit, few, length-take, joined, lines_joined, fits_append)
 
--- the line isn't whole, if no byte is buffered
-pub not_whole : (whole : Bool) (held : List ℕ) → (whole ≡ true → 0 < length held) → held ≡ [] → whole ≡ false
-not_whole whole held h k = grind arith
-
 -- as many more lines are taken and consumed as the bytes have
 pub represent_consumed : (lines : LinesState) (text bytes : List ℕ) → CanConsume lines bytes → LinesRepresent lines text →
     LinesRepresent (record lines { before = lines.before + length (whole_lines bytes) }) (text ++ bytes)

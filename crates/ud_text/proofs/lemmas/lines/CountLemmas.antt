@@ -43,11 +43,6 @@ grown_low most counts bytes h = grind (arith, Each1-zip2, Each2-of, ones_low)
 pub grown_fits : (most : ℕ) (counts bytes : List ℕ) → most < 255 → Each1 (λ n. n ≤ most) counts → Each2 (λ a b. Fits w8 (a + b)) counts (ones_of bytes)
 grown_fits most counts bytes h k = grind (arith, Each2-of, Fits, w8, ones_low)
 
--- the newlines before a position, and those of a prefix of the rest
-pub counted_rest : (bytes : List ℕ) (at n count more : ℕ) → count ≡ count_by is_newline (take at bytes) →
-    more ≡ count_by is_newline (take n (take (length bytes - at) (drop at bytes))) → count + more ≡ count_by is_newline (take (at + n) bytes)
-counted_rest bytes at n count more h k = grind (arith, counted_more, take_rest)
-
 -- lanes that a cast leaves as they are
 pub map_itself : (xs : List ℕ) → map (λ x. x) xs ≡ xs
 map_itself [] = refl

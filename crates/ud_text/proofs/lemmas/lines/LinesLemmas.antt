@@ -26,10 +26,6 @@ pub represent_take : (l : LinesState) (text chunk : List ℕ) (used : ℕ) (whol
     LinesRepresent (record l { held = l.held ++ take used chunk; whole = whole }) (text ++ take used chunk)
 represent_take l text chunk used whole h k m = grind (arith, split_lines-append-line, represent_part, take_all, split_lines-append-open)
 
--- a whole line is consumed
-pub represent_clear : (l : LinesState) (text : List ℕ) → l.whole ≡ true → LinesRepresent l text → LinesRepresent (record l { held = []; whole = false; before = l.before + 1 }) text
-represent_clear l text h k = grind (arith, represent_whole, length-append)
-
 -- the last one of whole lines is whole
 last_whole : (ls : List (List ℕ)) (m : List ℕ) → AreWhole (ls ++ m ∷ []) → IsWhole m
 last_whole [] m w = w.0
@@ -39,15 +35,11 @@ last_whole (k ∷ ls) m w = last_whole ls m w.1
 pub represent_body : (n : ℕ) (l : LinesState) (text : List ℕ) → LinesRepresent l text → NoNewline (line_at n l.held).body
 represent_body n l text h = grind (arith, common_steps, whole_newlineless, last_whole, represent_whole, are_whole, no_newline-take, represent_part, partial_line-open)
 
--- the consumed lines and the buffered one are the lines of the text
-pub texts_of-represented : (l : LinesState) (text : List ℕ) → 0 < length l.held → (h : LinesRepresent l text) → texts_of text ≡ h.consumed ++ l.held ∷ []
-texts_of-represented l text k h = grind (arith, represent_whole, append-nil, represent_part, last_line-some)
-
 -- the buffered line is the last one of the text
 pub represent_last : (l : LinesState) (text : List ℕ) → 0 < length l.held → LinesRepresent l text → IsLastLine text (line_at (suc l.before) l.held)
 represent_last l text some h = (
   numbered_from 1 h.consumed,
-  ap (numbered_from 1) (texts_of-represented l text some h) ∙ numbered_from-next h.consumed l.held []
+  ap (numbered_from 1) (grind (arith, represent_whole, append-nil, represent_part, last_line-some, some)) ∙ numbered_from-next h.consumed l.held []
       ∙ ap (λ (n : ℕ). numbered_from 1 h.consumed ++ line_at (suc n) l.held ∷ []) (sym h.count),
 )
 

@@ -9,9 +9,6 @@ use Rattle.ud_text.specs.searching.Searches.{is_one_of}
 abbrev pub newlines : List ℕ
 newlines = 10 ∷ 10 ∷ 10 ∷ 10 ∷ 10 ∷ []
 
-one_of_five : (x t : Bool) → (x || x || x || x || x) ≡ t → x ≡ t
-one_of_five x t h = grind arith
-
 -- one more byte, which is no newline
 later : (b : ℕ) (s : List ℕ) (used : ℕ) → nat_eq b 10 ≡ false → UpToNewline s used true → UpToNewline (b ∷ s) (suc used) true
 later b s used other to = record {
@@ -35,6 +32,6 @@ pub near_found : (n : ℕ) (s : List ℕ) (at : ℕ) → at ≡ position_or_len 
 near_found zero s at e below fits = absurd (omega arith)
 near_found (suc n) [] at e below fits = absurd (omega arith)
 near_found (suc n) (b ∷ s) at e below fits =
-    let same : nat_eq b 10 ≡ is_one_of newlines b = one_of_five (nat_eq b 10) (is_one_of newlines b) refl in
+    let same : nat_eq b 10 ≡ is_one_of newlines b = (grind arith) in
     one_byte (is_one_of newlines b) b s (position_or_len (is_one_of newlines) (take n s)) n at same e below
     (λ less. near_found n s (position_or_len (is_one_of newlines) (take n s)) refl less (omega arith))

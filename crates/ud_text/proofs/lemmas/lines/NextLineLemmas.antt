@@ -8,10 +8,6 @@ use Rattle.ud_text.specs.lines.Borrowing.{IsFirstLine}
 use Rattle.ud_text.specs.lines.Consuming.{CanConsume, EachFits}
 use Rattle.ud_text.specs.bulk.BulkScanning.{AreWholeLines}
 
--- bytes without a newline are whole lines only if there are none
-pub no_lines : (bytes : List ℕ) → AreWholeLines bytes → 0 < length bytes → NoNewline bytes → ⊥
-no_lines bytes h k l = grind (arith, split_lines-open)
-
 -- the prefix up to the first newline is the first whole line
 first_split : (bytes : List ℕ) (used : ℕ) → UpToNewline bytes used true →
     whole_lines bytes ≡ take used bytes ∷ whole_lines (drop used bytes)

@@ -36,30 +36,18 @@ abbrev pub NoStar : List ℕ → Type 0
 NoStar [] = Unit {0}
 NoStar (b ∷ bytes) = ((b == star) ≡ false) × NoStar bytes
 
-or_parts : (a b c d : Bool) → (a || b || c || d) ≡ false → (a ≡ false) × (c ≡ false)
-or_parts a b c d h = grind arith
-
-stays_in_text : (b : ℕ) → is_mark b ≡ false → in_text ≡ next_state in_text b
-stays_in_text b h = grind arith
-
-white_in_text : (b : ℕ) (white : Bool) → is_mark b ≡ false → (b ≡ 10 → ⊥) → stays_white in_text white b ≡ (white && is_white b)
-white_in_text b white h k = grind arith
-
 and_assoc : (a b c : Bool) → ((a && b) && c) ≡ (a && (b && c))
 and_assoc a b c = grind arith
-
-and_true : (a : Bool) → a ≡ (a && true)
-and_true a = grind arith
 
 -- a run of bytes outside comments and literals is shown unchanged
 pub Masks-text : {n : ℕ} (bytes text : List ℕ) (white : Bool) (masked : List ℕ) → NoMark bytes → NoNewline bytes →
     Masks n text in_text white masked → Masks n (text ++ bytes) in_text (white && are_white bytes) (masked ++ bytes)
-Masks-text [] text white masked p q m = Masks-same (sym (append-nil text)) refl (and_true white) (sym (append-nil masked)) m
+Masks-text [] text white masked p q m = Masks-same (sym (append-nil text)) refl (grind arith) (sym (append-nil masked)) m
 Masks-text (b ∷ bytes) text white masked p q m = Masks-same (append_assoc text (b ∷ []) bytes) refl
-    (ap (λ (v : Bool). v && are_white bytes) (white_in_text b white p.0 q.0) ∙ and_assoc white (is_white b) (are_white bytes))
+    (ap (λ (v : Bool). v && are_white bytes) (grind (arith, p.0, q.0)) ∙ and_assoc white (is_white b) (are_white bytes))
     (append_assoc masked (b ∷ []) bytes)
     (Masks-text bytes (text ++ b ∷ []) (stays_white in_text white b) (masked ++ b ∷ []) p.1 q.1
-    (Masks-same refl (sym (stays_in_text b p.0)) refl refl (Masks-step b m)))
+    (Masks-same refl (sym (grind (arith, p.0))) refl refl (Masks-step b m)))
 
 in_block_with : (t : Bool) → t ≡ false → (if t then at_star else in_block) ≡ in_block
 in_block_with t h = grind arith
@@ -100,14 +88,6 @@ no_star_before (b ∷ bytes) (suc k) none =
     no_star : (t : Bool) → (t ≡ true → ⊥) → t ≡ false
     no_star t h = grind arith
 
--- the bytes before the first star have none
-pub no_star_front : (bytes : List ℕ) (r : Option ℕ) → IsFirstByte (is_byte star) bytes r → NoStar (take (unwrap_or r (length bytes)) bytes)
-no_star_front bytes r h = grind (arith, no_star_before)
-
--- the first star lies within the bytes
-pub first_star-bound : (bytes : List ℕ) (r : Option ℕ) → IsFirstByte (is_byte star) bytes r → unwrap_or r (length bytes) ≤ length bytes
-first_star-bound bytes r h = grind arith
-
 -- a prefix of bytes without a newline has none
 pub no_newline-take : (k : ℕ) (bytes : List ℕ) → NoNewline bytes → NoNewline (take k bytes)
 no_newline-take zero bytes h = tt
@@ -133,11 +113,6 @@ pub run_read : {n : ℕ} (text bytes : List ℕ) (at count : ℕ) {w : LexState}
     Masks n (text ++ take (at + count) bytes) w white masked
 run_read text bytes at count m = grind (arith, Masks-same, append_assoc, take_run)
 
--- the text as it is shown with a prefix of the bytes that follow, and one more byte
-pub byte_read : {n : ℕ} (text bytes : List ℕ) (at : ℕ) {w : LexState} {white : Bool} {masked : List ℕ} → at < length bytes →
-    Masks n ((text ++ take at bytes) ++ get_or bytes at 0 ∷ []) w white masked → Masks n (text ++ take (at + 1) bytes) w white masked
-byte_read text bytes at h k = grind (arith, Masks-same, append_assoc, take_more)
-
 -- the text as it is shown with the bytes before the first mark
 pub text_run : {n : ℕ} (text rest old new : List ℕ) {w : LexState} {white : Bool} (now_white : Bool) (count : ℕ) →
     Masks n text w white old → w ≡ in_text → count ≡ position_or_len is_mark rest → NoNewline rest → new ≡ old ++ take count rest →
@@ -152,8 +127,8 @@ pub block_run : {n : ℕ} (text rest old new : List ℕ) {w : LexState} {white :
     Masks n text w white old → w ≡ in_block → IsFirstByte (is_byte 42) rest r → count ≡ unwrap_or r (length rest) →
     new ≡ old ++ replicate count 32 → Masks n (text ++ take count rest) w white new
 block_run text rest old new {w} r count m e f h p =
-    let none : NoStar (take count rest) = subst (λ (k : ℕ). NoStar (take k rest)) (sym h) (no_star_front rest r f) in
-    let bound : count ≤ length rest = subst (λ (k : ℕ). k ≤ length rest) (sym h) (first_star-bound rest r f) in
+    let none : NoStar (take count rest) = subst (λ (k : ℕ). NoStar (take k rest)) (sym h) (grind (arith, no_star_before, f)) in
+    let bound : count ≤ length rest = subst (λ (k : ℕ). k ≤ length rest) (sym h) (grind (arith, f)) in
     Masks-same refl (sym e) refl (ap (λ (k : ℕ). old ++ replicate k 32) (length-take-le count rest bound) ∙ sym p)
     (Masks-block (take count rest) text old none (Masks-same refl e refl refl m))
 

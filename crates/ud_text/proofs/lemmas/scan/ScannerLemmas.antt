@@ -29,10 +29,6 @@ ends_in_block_last [] r = refl
 ends_in_block_last (q ∷ []) r = refl
 ends_in_block_last (q ∷ p ∷ before) r = ends_in_block_last (p ∷ before) r
 
--- a line's comment is a block comment, if the line ends in one
-pub block_at : (spliced : Bool) (k : LexemeKind) → is_in_block (comment_at spliced k) ≡ is_block k
-block_at spliced k = grind arith
-
 -- the initial state represents a C run without lines
 pub represents_none : (before : List Reading) → c_run_of before ≡ [] → ends_in_block before ≡ false → ScannerRepresents initial_scanner_state before
 unfolding joins
@@ -76,7 +72,7 @@ module _ (carry : ScannerState) (before : List Reading) (line : Line) (masked : 
             ∙ ap (λ (k : LexemeKind). is_spliced line || is_block k) (kind_at_place reads));
         block_is = ap (λ (x : LexState). is_block (kind_in_state x)) p
             ∙ sym (ends_in_block_last before r ∙ ap (λ (s : Scan). is_in_block s.comment) (scan_carried h m)
-            ∙ block_at (is_spliced line) (kind_in_state (state_after_line (stays_open line) v)));
+            ∙ (grind arith));
       }
 
 -- two scans with the same parts are the same

@@ -13,12 +13,6 @@ use Rattle.ud_text.specs.bulk.BulkLexemes.{is_significant}
 abbrev pub lane : Bool → ℕ
 lane t = cond t 255 0
 
-lane_or : (a b : Bool) → bit_or (lane a) (lane b) ≡ lane (a || b)
-lane_or a b = grind arith
-
-lane_top : (t : Bool) → top 7 (lane t) ≡ t
-lane_top t = grind arith
-
 map_same : {X Y : Type 0} (f g : X → Y) → ((x : X) → f x ≡ g x) → (xs : List X) → map f xs ≡ map g xs
 map_same f g h xs = grind arith
 
@@ -31,14 +25,14 @@ lanes_equal v n y long = zip2_splat (λ (a b : ℕ). cond (eqb a b) (2 ^ 8 - 1) 
 pub lanes_or : (v : List ℕ) (p q : ℕ → Bool) {xs ys : List ℕ} → xs ≡ map (λ x. lane (p x)) v → ys ≡ map (λ x. lane (q x)) v →
     zip2 bit_or xs ys ≡ map (λ x. lane (p x || q x)) v
 lanes_or v p q e f = zip2_of_maps bit_or (λ (x : ℕ). lane (p x)) (λ (x : ℕ). lane (q x)) v e f
-    ∙ map_same (λ (x : ℕ). bit_or (lane (p x)) (lane (q x))) (λ (x : ℕ). lane (p x || q x)) (λ x. lane_or (p x) (q x)) v
+    ∙ map_same (λ (x : ℕ). bit_or (lane (p x)) (lane (q x))) (λ (x : ℕ). lane (p x || q x)) (λ x. (grind arith)) v
 
 -- the lanes as bits
 pub lane_bits : {X : Type 0} (p : X → Bool) (v : List X) (n : ℕ) (z : List ℕ) → length v ≡ n → n ≤ 64 → z ≡ map (λ x. lane (p x)) v →
     mask_l (map (top 7) z) % 2 ^ 64 ≡ mask_l (map p v)
 lane_bits {X} p v n z long few lanes = let tops : map (top 7) z ≡ map p v =
     ap (map (top 7)) lanes ∙ map-map (top 7) (λ (x : X). lane (p x)) v
-    ∙ map_same (λ (x : X). top 7 (lane (p x))) p (λ x. lane_top (p x)) v in
+    ∙ map_same (λ (x : X). top 7 (lane (p x))) p (λ x. (grind arith)) v in
     ap (λ (l : List Bool). mask_l l % 2 ^ 64) tops ∙ mask_l-mod (map p v) 64 (omega (arith, length-map v p, long))
 
 -- the lowest bit is that of the first lane that passes
@@ -82,11 +76,3 @@ module _ {X : Type 0} (p : X → Bool) (n : ℕ) (xs : List X) (at count : ℕ) 
   -- the last lanes show where the first is, or that there is none
   pub first_at_last : n ≤ length xs → at ≡ length xs - n → at ≤ position_or_len p xs → at + count ≡ position_or_len p xs
   first_at_last h k l = grind (arith, prefix_len-le-length, among, search_drop, length-drop)
-
--- the marks are five bytes
-pub search_marks : (bytes : List ℕ) → position_or_len (is_one_of (slash ∷ star ∷ 34 ∷ 39 ∷ backslash ∷ [])) bytes ≡ position_or_len is_mark bytes
-search_marks bytes = grind arith
-
--- the significant bytes are five
-pub search_specials : (bytes : List ℕ) → position_or_len (is_one_of (slash ∷ 34 ∷ 39 ∷ backslash ∷ number_sign ∷ [])) bytes ≡ position_or_len is_significant bytes
-search_specials bytes = grind arith

@@ -3,7 +3,7 @@ use Rattle.ud_engine.specs.Advancing.{EngineAdvances, IsCursor, slice_between}
 use Rattle.ud_engine.specs.Feeding.{EngineState, longer}
 use Rattle.ud_io.specs.Streams.{stream_of, Accepts}
 use Rattle.ud_engine.specs.declared.engine.Cursor.{Cursor}
-use Rattle.ud_engine.proofs.FeedLemmas.{feed_begins, feed_goes_on, feed_stops, feed_ends, stop_matches, end_matches, unchanged_sent}
+use Rattle.ud_engine.proofs.FeedLemmas.{feed_begins, feed_goes_on, feed_stops, feed_ends, unchanged_sent}
 use Rattle.ud_engine.proofs.engine.EngineOf.process_chunk.Goals as goal
 
 pub loop-cursor-init : goal.loop-cursor-init
@@ -58,8 +58,7 @@ returns-clause-feeds g c = λ s h.
 
 pub returns-in-Err-clause-writer : goal.returns-in-Err-clause-writer
 returns-in-Err-clause-writer g c =
-    stop_matches c.end_chunk.new.out.failed c.in-Err.fault c.loop-cursor.out c.advance.new.out c.loop-cursor.self.buffered c.advance.new.self.buffered
-    c.in-Err.ensures.step.output_unchanged c.end_chunk.result c.end_chunk.ensures.ended
+    grind (arith, c.in-Err.ensures.step.output_unchanged, c.end_chunk.ensures.ended)
 
 pub returns-clause-writer : goal.returns-clause-writer
-returns-clause-writer g c = end_matches c.end_chunk-2.new.out.failed _ c.end_chunk-2.result c.end_chunk-2.ensures.ended
+returns-clause-writer g c = grind (arith, c.end_chunk-2.ensures.ended)

@@ -1,8 +1,8 @@
-use Rattle.std.proofs.Common.{refl, sym, ap, ◌∙◌, []}
+use Rattle.std.proofs.Common.{refl, sym, ap, ◌∙◌, [], arith}
 use Rattle.ud_model.specs.sections.Tree.{closed, nothing}
 use Rattle.ud_model.specs.sections.Faults.{no_lines}
 use Rattle.ud_text.specs.lines.LinesState.{LinesState}
-use Rattle.ud_engine.proofs.FeedLemmas.{in_session, none_so_far, none_printed, open_new, none_begun, none_count}
+use Rattle.ud_engine.proofs.FeedLemmas.{in_session, none_so_far, none_begun, none_count}
 use Rattle.ud_engine.proofs.engine.EngineOf.with_buffer.Goals as goal
 
 pub returns-clause-represents : goal.returns-clause-represents
@@ -12,9 +12,9 @@ returns-clause-represents g c = λ s b. in_session g.S.Show.represents g.S.Show.
     tree = closed nothing;
     goes = record { sound = no_lines; are = none_so_far };
     has = c.new.ensures s.options s.pieces (b.settings_are ∙ sym c.settings-settings.ensures) b.show_is_new b.pieces_are;
-    printed_is = none_printed s.options.settings.listing s.pieces;
+    printed_is = grind arith;
     symbols = b.symbols_are;
-    opened = open_new c.with_buffer.result c.with_buffer.ensures.value;
+    opened = grind (arith, c.with_buffer.ensures.value);
     took = c.with_buffer.ensures.represents;
     no_fault = ap (λ (l : LinesState). l.fault) c.with_buffer.ensures.value;
     begun = none_begun c.with_buffer.result c.with_buffer.ensures.value;

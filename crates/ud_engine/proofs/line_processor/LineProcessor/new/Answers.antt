@@ -1,7 +1,6 @@
-use Rattle.std.proofs.Common.{ap, sym, ◌∙◌}
+use Rattle.std.proofs.Common.{ap, sym, ◌∙◌, arith}
 use Rattle.ud_model.specs.declared.settings.Settings.{Settings}
 use Rattle.ud_engine.specs.ProcessedLines.{lister_of}
-use Rattle.ud_engine.proofs.ProcessorLemmas.{none_differ}
 use Rattle.ud_engine.proofs.line_processor.LineProcessor.new.Goals as goal
 
 pub returns : goal.returns
@@ -10,5 +9,5 @@ returns g c = λ o piece e represents stays. record {
   lister = c.lister_of.ensures ∙ ap (λ (s : Settings). lister_of s.listing) (sym e);
   shown = represents;
   stays = stays;
-  differs = none_differ o.settings.listing piece;
+  differs = grind arith;
 }

@@ -7,7 +7,7 @@ use Rattle.ud_text.specs.bulk.BulkLexemes.{at_start}
 use Rattle.ud_text.proofs.lemmas.bulk.BulkPlainLemmas.{begins_ends}
 use Rattle.ud_engine.specs.DecidedLines.{DecidesBulk}
 use Rattle.ud_engine.proofs.SkipLemmas.{skips_none}
-use Rattle.ud_engine.proofs.BulkPrintLemmas.{prints_none, prints_run, lists_run, kept_same, kept_text, dropped_differ, dropped_text, no_lines, none_other, or_some}
+use Rattle.ud_engine.proofs.BulkPrintLemmas.{prints_none, prints_run, lists_run, kept_same, kept_text, dropped_differ, dropped_text, no_lines, none_other}
 use Rattle.ud_engine.proofs.line_processor.LineProcessor.skip_text.Goals as goal
 use Rattle.ud_sections.proofs.lemmas.sections.ActionLemmas.{or_false}
 
@@ -59,7 +59,7 @@ returns-else-count-eq0-clause-printed g c = λ o piece xs t h.
     let bound = c.skip_text-count.ensures.bound in
     let cut = length-take c.skip_text-count.result c.args.bytes.now in
     prints_run g.S.Show.represents g.S.Show.piece o piece xs t c.args.self.now h _ lines verdict (λ l. []) true []
-    (search rules) refl refl (or_some c.args.self.now.differs) (c.skip_text-count.ensures.read o xs t h.has)
+    (search rules) refl refl (grind arith) (c.skip_text-count.ensures.read o xs t h.has)
     (subst (λ v. PrintsOne (g.S.Show.represents c.args.self.now.printer) (g.S.Show.piece c.args.self.now.printer) v (λ l. [])) (ap (λ p. p.verdict) c.text_policy-policy.ensures.value) c.in-Nothing.ensures.line_output)
     (dropped_differ verdict (suc c.args.lines.now.before) bytes c.skip_text-count.ensures.ends (omega (arith, some, bound, cut)))
     (dropped_text lines)

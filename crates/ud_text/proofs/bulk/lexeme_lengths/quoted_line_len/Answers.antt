@@ -1,7 +1,7 @@
 -- Bytes up to a newline or a slash, and then that one.
 use Rattle.std.proofs.Common.{◌≡◌, ◌≤◌, ℕ, Bool, ◌+◌, take, false, arith, ne_eqb, sym, ◌∙◌, subst}
 use Rattle.ud_text.proofs.lemmas.bulk.LexemeLemmas.{spliced_by}
-use Rattle.ud_text.proofs.lemmas.bulk.QuotedLemmas.{QuotedTo, quoted_start, quote_opens, star_opens, none_with, quoted_star, quoted_shut, quoted_more, quoted_line, unspliced_last, unspliced_return, return_later}
+use Rattle.ud_text.proofs.lemmas.bulk.QuotedLemmas.{QuotedTo, quoted_start, star_opens, none_with, quoted_star, quoted_shut, quoted_more, quoted_line, unspliced_last, unspliced_return}
 use Rattle.ud_text.proofs.bulk.lexeme_lengths.quoted_line_len.Goals.{
   else-rest-stop-eq13-via-then-rest-stop-eq13+else-may_splice,
 }
@@ -20,7 +20,7 @@ loop-at-init c = record {
   within = omega (arith, c.requires.some);
   begun = omega arith;
   few = omega arith;
-  opens = quote_opens c.args.rest.now c.requires.first;
+  opens = grind (arith, c.requires.first);
   read = quoted_start c.args.rest.now c.requires.some c.requires.first;
 }
 
@@ -41,7 +41,7 @@ returns-then-rest-stop-eq10-clause-read c = λ white.
     unspliced = elim c.else-rest-stop-eq13.branch [
       | else-rest-stop-eq13-via-then-rest-stop-eq13+else-may_splice w ↦
           unspliced_return c.args.rest.now n
-          (return_later c.args.rest.now n c.requires.first low w.if-rest-stop-eq13.true)
+          (grind (arith, c.requires.first, low, w.if-rest-stop-eq13.true))
           (omega (arith, c.if-stop-rest.false)) w.if-rest-stop-eq13.true
           (sym w.may_splice.ensures ∙ w.if-may_splice.false)
       | else-rest-stop-eq13-via-else-rest-stop-eq13 w ↦

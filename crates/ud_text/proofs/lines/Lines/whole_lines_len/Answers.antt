@@ -4,7 +4,7 @@ use Rattle.std.proofs.Math.ListN.{length-take}
 use Rattle.ud_text.specs.lines.LinesState.{LinesState}
 use Rattle.ud_text.specs.lines.Consuming.{CanConsume}
 use Rattle.ud_text.proofs.lemmas.lines.BorrowLemmas.{none_held}
-use Rattle.ud_text.proofs.lemmas.lines.ConsumeLemmas.{lines_few, not_whole}
+use Rattle.ud_text.proofs.lemmas.lines.ConsumeLemmas.{lines_few}
 use Rattle.ud_text.proofs.lines.Lines.whole_lines_len.Goals as goal
 
 pub returns-clause-whole_lines : goal.returns-clause-whole_lines
@@ -15,7 +15,7 @@ returns-clause-whole_lines g c = λ _.
     subst (λ (l : LinesState). CanConsume l run) c.self.view_is
     (record {
       unheld = unheld;
-      part = not_whole c.self.inside.is_whole (g.H.LineBuffer.items c.self.inside.buffer) c.self.invariant.3 unheld;
+      part = grind (arith, c.self.invariant.3, unheld);
       no_fault = no_fault;
       ends = c.whole_lines_len-count.ensures.ends;
       fits = c.whole_lines_len-count.ensures.fits;

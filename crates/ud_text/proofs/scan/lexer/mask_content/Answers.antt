@@ -1,7 +1,8 @@
 -- A run and one more byte are read.
-use Rattle.std.proofs.Common.{◌+◌, ◌++◌, sym, ap, refl, append-nil, arith, take_all, length, length-drop}
+use Rattle.std.proofs.lemmas.List.{take_more}
+use Rattle.std.proofs.Common.{◌+◌, ◌++◌, sym, ap, refl, append-nil, arith, take_all, length, length-drop, append_assoc}
 use Rattle.ud_model.proofs.text.ScanLemmas.{Masks-start}
-use Rattle.ud_text.proofs.lemmas.scan.MaskLemmas.{Masks-same, run_read, byte_read, no_newline-take, no_newline-drop}
+use Rattle.ud_text.proofs.lemmas.scan.MaskLemmas.{Masks-same, run_read, no_newline-take, no_newline-drop}
 use Rattle.ud_text.proofs.scan.lexer.mask_content.Goals as goal
 
 pub loop-at-init : goal.loop-at-init
@@ -22,10 +23,7 @@ loop-at-preserved-then-at-content g c = record {
   within = omega arith;
   size = omega (arith, c.mask_byte-inside.ensures.len, c.mask_uniform-count.ensures.len, c.loop-at.invariant.size);
   masks = λ text r.
-      byte_read text c.args.content.now (c.loop-at.at + c.mask_uniform-count.result.1) c.if-at-content.true
-      (c.mask_byte-inside.ensures.masks _ _
-      (run_read text c.args.content.now c.loop-at.at c.mask_uniform-count.result.1
-      (c.mask_uniform-count.ensures.masks _ _ (c.loop-at.invariant.masks text r))));
+      (grind (arith, Masks-same, append_assoc, take_more, c.if-at-content.true, c.mask_byte-inside.ensures.masks _ _ (run_read text c.args.content.now c.loop-at.at c.mask_uniform-count.result.1 (c.mask_uniform-count.ensures.masks _ _ (c.loop-at.invariant.masks text r)))));
 }
 
 pub loop-at-preserved : goal.loop-at-preserved

@@ -1,10 +1,10 @@
 -- By the bytes that are skipped.
-use Rattle.std.proofs.Common.{take, refl}
+use Rattle.std.proofs.Common.{take, refl, arith}
 use Rattle.ud_model.specs.declared.kind.Mode.TheVariants.{C}
 use Rattle.ud_text.specs.scan.ScannerState.{scanner_state_of}
 use Rattle.ud_text.specs.scan.LexerViews.{lex_state_of}
 use Rattle.ud_text.proofs.lemmas.bulk.BulkPlainLemmas.{begins_ends}
-use Rattle.ud_text.proofs.lemmas.bulk.QuietLineLemmas.{passes_none, passes_run}
+use Rattle.ud_text.proofs.lemmas.bulk.QuietLineLemmas.{passes_none}
 use Rattle.ud_text.specs.bulk.BulkLexemes.{at_start}
 use Rattle.ud_text.proofs.scan.scanner.skip_text_in_c_mode.Goals as goal
 
@@ -16,6 +16,4 @@ returns-then-not-can_skip_text-clause-ends c = begins_ends _ at_start
 
 pub returns-clause-skips : goal.returns-clause-skips
 returns-clause-skips c =
-    passes_run (lex_state_of c.args.scan_state.lexer.state) c.args.scan_state.lexer.white c.args.scan_state.joins (take c.skip_text_lines-next.result.at c.args.lines.now)
-    (lex_state_of c.skip_text_lines-next.result.lexer.state) c.skip_text_lines-next.result.lexer.white c.continues_line-joins.result
-    (c.if-not-can_skip_text.ensures.joins refl) c.continues_line-joins.ensures c.skip_text_lines-next.ensures.skipped
+    grind (arith, c.if-not-can_skip_text.ensures.joins refl, c.continues_line-joins.ensures, c.skip_text_lines-next.ensures.skipped)
