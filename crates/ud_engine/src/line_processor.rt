@@ -280,21 +280,12 @@ fn append_line_output<W: Write>(
     ensures { ShowsLine result (stream_of W.contents out.old) (stream_of W.contents out.new)
         output.old output.new pending.now left.now (text_of (as_line line.now)) }
 {
-    if is_line(left, line) {
+    if left.len() == line.body.len() + line.ending.len() {
         return false;
     }
     output.append(pending, out);
     output.append(left, out);
     true
-}
-
-/// Returns whether `left`, which is nothing or the line's ending, is the line itself.
-#[inline(always)]
-fn is_line(left: &[u8], line: &Line<'_>) -> bool
-    requires { IsLeftOf left.now line.now.ending.now }
-    ensures { result ≡ bytes_eq left.now (text_of (as_line line.now)) }
-{
-    left.len() == line.body.len() + line.ending.len()
 }
 
 /// Appends `pending` and the parts that the printer makes of the next line, if they differ from the

@@ -2,9 +2,8 @@
 
 ghost use Rattle.std.specs.Prelude.{◌≡◌};
 ghost use Rattle.ud_model.specs.sections.Faults.{keeps_rest};
-ghost use Rattle.ud_sections.specs.sections.Checking.{is_directive_kind, opens_section};
-ghost use Rattle.ud_sections.specs.sections.Checking.{is_obfuscated_by, misplaced_fault_by};
-ghost use Rattle.ud_sections.specs.sections.Checking.{checked_by};
+ghost use Rattle.ud_sections.specs.sections.Checking.{checked_by, is_obfuscated_by};
+ghost use Rattle.ud_sections.specs.sections.Checking.{misplaced_fault_by};
 
 use crate::sections::SectionFault;
 use crate::sections::classify_line::ClassifiedLine;
@@ -42,7 +41,8 @@ pub(crate) fn check_line(
     let Some(action) = before.enclosing.action_for(classified.kind, number) else {
         return Err(misplaced_fault(classified.kind, number));
     };
-    if opens_section(action.change) && before.depth == OPEN_SECTIONS {
+    let opens = matches!(action.change, StackOp::Push(_));
+    if opens && before.depth == OPEN_SECTIONS {
         return Err(SectionFault::TooManyLevels { line: number });
     }
     if is_obfuscated(before.removed, classified, action) {
@@ -51,35 +51,15 @@ pub(crate) fn check_line(
     Ok(action)
 }
 
-/// Returns whether a change opens a section.
-fn opens_section(change: StackOp) -> bool
-    ensures { result ≡ opens_section change }
-{
-    match change {
-        StackOp::Push(_) => true,
-        StackOp::Stay | StackOp::Replace(_) | StackOp::Pop => false,
-    }
-}
-
 /// Returns whether the line is a directive that spans lines and would have to be edited or removed.
 /// `removed`: the line before it was removed.
 fn is_obfuscated(removed: bool, classified: ClassifiedLine, action: Action) -> bool
     ensures { result ≡ is_obfuscated_by removed classified action }
 {
-    is_directive(classified.kind)
+    !matches!(classified.kind, LineKind::Text)
         && classified.spans
         && action.kept
         && (!keeps_rest(action.verdict) || (classified.joins_before && removed))
-}
-
-/// Returns whether a line of this kind is a directive.
-fn is_directive(kind: LineKind) -> bool
-    ensures { result ≡ is_directive_kind kind }
-{
-    match kind {
-        LineKind::If { .. } | LineKind::Elif { .. } | LineKind::Else | LineKind::Endif => true,
-        LineKind::Text => false,
-    }
 }
 
 /// Returns whether a directive with this verdict keeps what follows its keyword, joined lines
