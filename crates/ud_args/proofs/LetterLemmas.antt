@@ -4,7 +4,7 @@ use Rattle.std.proofs.Math.Seq.{drop-cons}
 use Rattle.std.specs.Str.{IsUtf8, encode_utf8_all}
 use Rattle.std.specs.Char.{encode_utf8}
 use Rattle.std.proofs.lemmas.Grind.{common_steps}
-use Rattle.std.proofs.lemmas.Str.{chars-nil, encodes-chars, char_from_byte}
+use Rattle.std.proofs.lemmas.Str.{encodes-chars, char_from_byte}
 use Rattle.ud_model.specs.answer.CommandLine.{option_letters}
 use Rattle.ud_args.specs.CommandLines.{Parsed, option, option_then}
 use Rattle.ud_args.specs.ParsedArgs.{ordinary_word, after_letters}

@@ -1,7 +1,7 @@
 -- OperandLemmas: an operand has the bytes of the argument at its index.
-use Rattle.std.proofs.Common.{◌≡◌, ◌∙◌, ◌++◌, ◌+◌, ℕ, suc, List, [], ◌∷◌, Bool, true, false, Option, Some, None, if◌then◌else◌, bytes_eq, codes, refl, sym, subst, arith}
+use Rattle.std.proofs.Common.{◌≡◌, ◌++◌, ◌+◌, ℕ, suc, List, [], ◌∷◌, Option, Some, None, refl, sym, subst, arith}
 use Rattle.std.specs.List.{slice_get}
-use Rattle.ud_model.specs.answer.CommandLine.{ParsedArg, Operand, WordGives, operand_in, parsed_args, given_next, letters_give, operands_from, is_operand, option_letters, operand_of}
+use Rattle.ud_model.specs.answer.CommandLine.{ParsedArg, Operand, operand_in, parsed_args, given_next, letters_give, operands_from, option_letters, operand_of}
 use Rattle.std.proofs.lemmas.Grind.{common_steps}
 
 -- the letters of an argument give no operand

@@ -3,7 +3,7 @@ use Rattle.std.proofs.Common.{◌≡◌, ◌∙◌, ap, refl, ℕ, List, [], ◌
 use Rattle.ud_model.specs.declared.settings.Listing.TheVariants.{Depths}
 use Rattle.ud_model.specs.declared.settings.ExitMode.{ExitMode}
 use Rattle.ud_model.specs.declared.settings.ExitMode.TheVariants.{Zero}
-use Rattle.ud_model.specs.answer.CommandLine.{ParsedArg, flag, option, operand, unknown, lacking, UsageFault, too_many_files, has_letter, first_fault, argument_fault, fault_or, has_flag, listing_by, mode_from, mode_or, parse_exit_mode, settings_in, operand_in, Operand}
+use Rattle.ud_model.specs.answer.CommandLine.{ParsedArg, flag, option, operand, unknown, lacking, too_many_files, has_letter, first_fault, argument_fault, has_flag, listing_by, mode_from, mode_or, parse_exit_mode, settings_in, operand_in, Operand}
 use Rattle.ud_args.specs.ParsedSettings.{with_flag, with_names}
 use Rattle.ud_model.proofs.answer.WordLemmas.{both_none}
 

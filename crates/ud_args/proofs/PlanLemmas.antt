@@ -8,9 +8,9 @@ use Rattle.ud_model.specs.conditions.Table.{Argument, Entry, entry_from}
 use Rattle.ud_model.specs.declared.settings.Settings.{Settings}
 use Rattle.ud_model.specs.declared.settings.ExitMode.{ExitMode}
 use Rattle.ud_model.specs.declared.settings.ExitMode.TheVariants.{Zero}
-use Rattle.ud_model.specs.answer.CommandLine.{ParsedArg, flag, option, operand, first_fault, settings_in, argument_in, operand_in, operand_index, Operand, parse_exit_mode, mode_from}
+use Rattle.ud_model.specs.answer.CommandLine.{ParsedArg, flag, option, operand, first_fault, settings_in, argument_in, operand_in, operand_index, parse_exit_mode, mode_from}
 use Rattle.ud_args.specs.SymbolStorage.{StoresSymbol}
-use Rattle.ud_args.specs.ParsedSettings.{with_flag, SetsSymbol, IsSetting, IsFaultOf, IsUsageOf}
+use Rattle.ud_args.specs.ParsedSettings.{with_flag, SetsSymbol, IsSetting, IsUsageOf}
 use Rattle.ud_args.specs.declared.options.Setting.{Setting}
 use Rattle.ud_args.specs.declared.usage.Usage.{Usage}
 use Rattle.ud_args.specs.declared.usage.Usage.TheVariants.{OutOfMemory}

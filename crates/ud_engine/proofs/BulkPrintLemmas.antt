@@ -1,5 +1,5 @@
 -- The state of a line processor after many text lines at once.
-use Rattle.std.proofs.Common.{◌≡◌, ℕ, suc, ◌<◌, List, [], ◌∷◌, ◌++◌, length, map, Bool, true, false, not, bytes_eq, ◌||◌, Some, None, refl, sym, ◌∙◌, ap, ap₂, subst, append-nil, arith}
+use Rattle.std.proofs.Common.{◌≡◌, ℕ, suc, ◌<◌, List, [], ◌∷◌, ◌++◌, length, map, Bool, true, false, not, bytes_eq, ◌||◌, None, refl, sym, ◌∙◌, ap, ap₂, subst, append-nil, arith}
 use Rattle.std.specs.List.{concat}
 use Rattle.std.proofs.lemmas.List.Folds.{concat-append}
 use Rattle.std.proofs.lemmas.Slice.Eq.{bytes_eq-Decides}
@@ -11,7 +11,6 @@ use Rattle.ud_model.specs.sections.Items.{Options}
 use Rattle.ud_model.specs.answer.Printing.{Judged, judged_line, judged_lines, pieces_by, some_other}
 use Rattle.ud_model.specs.declared.settings.Listing.{Listing}
 use Rattle.std.specs.Option.{is_some}
-use Rattle.ud_model.specs.answer.Listing.{levels, listed}
 use Rattle.ud_model.specs.declared.settings.Listing.TheVariants.{Off}
 use Rattle.ud_model.specs.declared.verdict.Verdict.{Verdict}
 use Rattle.ud_model.proofs.sections.Soundness.{sound_lines}
@@ -23,7 +22,7 @@ use Rattle.ud_sections.specs.printing.PrinterOutputs.{judged_text, PrintsOne}
 use Rattle.ud_sections.proofs.lemmas.printing.PrintedRuns.{each_of}
 use Rattle.ud_engine.specs.declared.line_processor.LineProcessor.{LineProcessor}
 use Rattle.ud_engine.specs.DecidedLines.{DecidesBulk}
-use Rattle.ud_engine.specs.ProcessedLines.{text_by, differs_in, lister_of, ProcessorRepresents, PrintsBulk}
+use Rattle.ud_engine.specs.ProcessedLines.{text_by, differs_in, ProcessorRepresents, PrintsBulk}
 use Rattle.ud_engine.proofs.NameListingLemmas.{lists_none}
 use Rattle.ud_engine.proofs.ProcessorLemmas.{is_off}
 use Rattle.ud_model.proofs.answer.Onward.{pieces_by-append}

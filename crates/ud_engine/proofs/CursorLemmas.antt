@@ -16,7 +16,7 @@ use Rattle.ud_text.proofs.lemmas.lines.NewlineLemmas.{up_to_newline-some}
 use Rattle.ud_engine.specs.declared.engine.Cursor.{Cursor}
 use Rattle.ud_engine.specs.declared.line_processor.SkippedText.{SkippedText}
 use Rattle.ud_engine.specs.Advancing.{EngineAdvances, IsCursor, IsNext, slice_between, measure}
-use Rattle.ud_engine.specs.Feeding.{EngineState, IsOpen, EngineRepresentsBuffered}
+use Rattle.ud_engine.specs.Feeding.{EngineState, EngineRepresentsBuffered}
 use Rattle.ud_engine.specs.ProcessedLines.{PrintsBulk, printed_of}
 use Rattle.ud_engine.specs.DecidedLines.{consumed}
 use Rattle.ud_io.specs.Streams.{Stream, TakesAllBut}

@@ -1,11 +1,9 @@
 -- Feeding: the engine's state after a chunk, step by step.
 use Rattle.std.proofs.Common.{◌≡◌, ℕ, ◌<◌, ◌≤◌, Bool, true, false, List, [], ◌++◌, length, take, drop, Option, None, Result, Ok, Err, refl, sym, ◌∙◌, ap, ap₂, subst, append_assoc, append-nil, take_all, take-append-drop, arith}
 use Rattle.ud_model.specs.text.Lines.{split_lines}
-use Rattle.ud_model.specs.sections.Tree.{closed, nothing}
 use Rattle.ud_model.specs.sections.Items.{Options}
 use Rattle.ud_model.specs.answer.Printing.{Judged}
 use Rattle.ud_model.specs.answer.Outcomes.{lines_so_far}
-use Rattle.ud_model.specs.declared.settings.Listing.{Listing}
 use Rattle.ud_model.specs.declared.limits.TheConstants.{TEXT_LINES}
 use Rattle.ud_text.specs.lines.LinesState.{LinesState, untaken}
 use Rattle.ud_text.specs.lines.LimitFaults.{limit_of}
@@ -13,8 +11,7 @@ use Rattle.ud_sections.specs.sections.SectionFaults.{fault_of}
 use Rattle.ud_engine.specs.declared.fault.RunFault.{RunFault}
 use Rattle.ud_engine.specs.declared.fault.RunFault.TheVariants.{Text, Section, Read, Write}
 use Rattle.ud_engine.specs.Advancing.{EngineAdvances, StepFails, slice_between}
-use Rattle.ud_engine.specs.Feeding.{EngineState, IsOpen, EngineRepresentsBuffered, EngineRepresents, Session, IsInSession, Continues, FaultsAfter, PrintsPrefix, FeedFails, Feeds, WriterMatches}
-use Rattle.ud_engine.specs.ProcessedLines.{text_by}
+use Rattle.ud_engine.specs.Feeding.{EngineState, EngineRepresentsBuffered, EngineRepresents, Session, IsInSession, Continues, FaultsAfter, PrintsPrefix, FeedFails, Feeds}
 use Rattle.ud_engine.specs.FaultEffects.{OutputUnchanged, result_after}
 use Rattle.ud_io.specs.Watched.{WatchedState}
 use Rattle.ud_io.specs.Streams.{Stream, stream_of, TakesAllBut}

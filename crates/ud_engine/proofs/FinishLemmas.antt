@@ -10,7 +10,7 @@ use Rattle.ud_engine.specs.declared.pump.TheConstants.{CHUNK_BYTES}
 use Rattle.ud_engine.specs.Finishing.{Finishes, RunAnswers}
 use Rattle.ud_engine.specs.Feeding.{EngineState, EngineRepresents, FeedFails, Continues}
 use Rattle.ud_engine.specs.Runs.{InProgress, RunFinished}
-use Rattle.ud_engine.proofs.RunLemmas.{own_piece, own_session, lag, ended_ran, ended_appended, feed_appended, ran_early, the_err}
+use Rattle.ud_engine.proofs.RunLemmas.{own_piece, own_session, lag, ended_ran, ended_appended, feed_appended, ran_early}
 use Rattle.ud_engine.proofs.RunEndedLemmas.{fed_ends, end_ends}
 
 -- A run begins.

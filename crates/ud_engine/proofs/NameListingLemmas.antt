@@ -2,9 +2,9 @@
 use Rattle.std.proofs.Common.{◌≡◌, ℕ, suc, ◌-◌, List, [], ◌∷◌, ◌++◌, length, Bool, true, false, refl, sym, ap, ap₂, subst, ◌∙◌, append_assoc, append-nil, arith}
 use Rattle.ud_model.specs.text.Lines.{Line}
 use Rattle.ud_model.specs.text.Scans.{Reading}
-use Rattle.ud_model.specs.sections.Directives.{Content, content_of}
+use Rattle.ud_model.specs.sections.Directives.{content_of}
 use Rattle.ud_model.specs.sections.Tree.{Item, Tree, depth}
-use Rattle.ud_model.specs.sections.Items.{Options, item_of, item_by, read_after, mode_after, next_item}
+use Rattle.ud_model.specs.sections.Items.{Options, item_of, read_after, mode_after, next_item}
 use Rattle.ud_model.specs.sections.Faults.{AreFaultless}
 use Rattle.ud_model.specs.answer.Listing.{levels, listed, listed_names, depth_prefix, names_at, names_in_content}
 use Rattle.ud_model.proofs.answer.LevelLemmas.{length_levels, levels_stay}
@@ -17,7 +17,7 @@ use Rattle.ud_io.specs.Streams.{Stream, TakesAllBut}
 use Rattle.ud_engine.specs.DecidedLines.{DeciderRepresents, AreText}
 use Rattle.ud_engine.specs.NameListing.{ListsLine}
 use Rattle.ud_engine.specs.declared.line_decider.LineDecider.{LineDecider}
-use Rattle.ud_io.proofs.StreamLemmas.{stream_buffered, stream_then, stream_both}
+use Rattle.ud_io.proofs.StreamLemmas.{stream_then, stream_both}
 use Rattle.std.proofs.lemmas.Grind.{common_steps}
 
 -- The names before `left` were appended.

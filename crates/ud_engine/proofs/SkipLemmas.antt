@@ -1,5 +1,5 @@
 -- The state of a line decider after many text lines at once.
-use Rattle.std.proofs.Common.{◌≡◌, ℕ, suc, ◌+◌, ◌<◌, ◌≤◌, List, [], ◌∷◌, ◌++◌, length, take, drop, take-append-drop, map, refl, sym, ◌∙◌, ap, ap₂, subst, append_assoc, append-nil, arith}
+use Rattle.std.proofs.Common.{◌≡◌, ℕ, suc, ◌+◌, ◌<◌, ◌≤◌, List, [], ◌∷◌, ◌++◌, length, take, drop, take-append-drop, map, refl, sym, ◌∙◌, ap, subst, append_assoc, append-nil, arith}
 use Rattle.std.specs.List.{concat}
 use Rattle.std.proofs.lemmas.List.{map-append}
 use Rattle.ud_model.specs.text.Lines.{Line, line_at, numbered_from, whole_lines, split_lines}
@@ -9,7 +9,7 @@ use Rattle.ud_model.specs.sections.Tree.{Item, Tree, text_line}
 use Rattle.ud_model.specs.sections.Pruning.{Mark, marks}
 use Rattle.ud_model.specs.sections.Items.{Options, reading_of, line_of, mode_after, read_after}
 use Rattle.ud_model.specs.sections.Faults.{last_number}
-use Rattle.ud_model.specs.answer.Printing.{judged_lines, keyword_in}
+use Rattle.ud_model.specs.answer.Printing.{judged_lines}
 use Rattle.ud_model.specs.declared.kind.Mode.{Mode}
 use Rattle.ud_model.specs.declared.limits.TheConstants.{LINE_BYTES, TEXT_LINES}
 use Rattle.ud_model.specs.declared.verdict.Verdict.{Verdict}

@@ -1,7 +1,7 @@
 -- Bytes that are written part by part.
 use Rattle.std.proofs.lemmas.Grind.{common_steps}
-use Rattle.std.proofs.Common.{◌==◌, ◌≡◌, ◌-◌, arith, ℕ, List, [], ◌∷◌, ◌++◌, length, take, drop, Bool, false, Option, Some, None, refl, sym, ap, subst, ◌∙◌, append_assoc, append-nil, take-append-drop}
-use Rattle.std.specs.Io.KnownBytes.{Appends, Keeps}
+use Rattle.std.proofs.Common.{◌==◌, ◌≡◌, ◌-◌, arith, ℕ, List, [], ◌∷◌, ◌++◌, length, take, drop, Bool, false, Option, refl, sym, ap, subst, ◌∙◌, append_assoc, append-nil, take-append-drop}
+use Rattle.std.specs.Io.KnownBytes.{Appends}
 use Rattle.std.proofs.KnownBytes.{Appends-nil, Appends-trans}
 use Rattle.ud_io.specs.Watched.{AppendsPrefix, AppendsAllOrPrefix}
 use Rattle.ud_io.specs.Buffering.{AppendsAllBut}

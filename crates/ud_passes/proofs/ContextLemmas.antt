@@ -1,7 +1,7 @@
 -- Contexts: lemmas on the changes of a script and the kept lines around them.
 use Rattle.std.proofs.Common.{◌≡◌, ℕ, zero, suc, ◌+◌, ◌-◌, ◌*◌, ◌<◌, ◌≤◌, min, true, false, List, [], ◌∷◌, ◌++◌, length, take, drop, get_or, sym, ◌∙◌, ap, subst, inl, inr, ◌⊎◌, arith}
 use Rattle.std.proofs.lemmas.Bool.{cases_lt, false≢true}
-use Rattle.std.proofs.lemmas.List.{map-append, length-append, length-map, length-take, length-drop, get_or-take, get_or-drop, get_or_append_left, get_or_default, drop-drop, drop_more}
+use Rattle.std.proofs.lemmas.List.{map-append, length-append, length-map, length-take, length-drop, get_or-take, get_or-drop, get_or_append_left, drop-drop, drop_more}
 use Rattle.std.proofs.lemmas.List.Elements.{All-map}
 use Rattle.std.proofs.Math.ListN.{get_or-map}
 use Rattle.std.proofs.Math.Seq.{take-add}
@@ -117,24 +117,9 @@ changes_more ls at last d within is h = record {
     by_order (inr first) = let zero_is : at ≡ 0 = omega arith in
         subst (λ (n : ℕ). AreChanges (between n (at + 1) ls)) zero_is (subst AreChanges (sym (between_one ls at d within)) (one (signed (get_or ls at d)) is))
 
--- The first of lines that begin with a change isn't kept.
-begins_first : (ls : List DiffLine) (d : DiffLine) → BeginsWithChange ls → is_change (get_or ls 0 d).sign ≡ false → ⊥
-begins_first ls d h is = grind arith
-
--- A kept line comes after them.
-pub changes_kept : (ls : List DiffLine) (at last : ℕ) (d : DiffLine) → BeginsWithChange ls → at < length ls → is_change (get_or ls at d).sign ≡ false →
-    at - last < 2 * context → ChangesUpto ls at last → ChangesUpto ls (at + 1) last
-changes_kept ls at last d begins within is few h =
-    grind (arith, cases_lt, begins_first, get_or_default)
-
 -- At the end of the lines no gap is needed.
 pub changes_end : (ls : List DiffLine) (last : ℕ) → ChangesUpto ls (length ls) last → AreKept (between last (last + gap) ls)
 changes_end ls last h = kept_range ls last (last + gap) (λ k d low high within. h.kept k d low within within)
-
--- A kept line ends the gap.
-pub changes_gap : (ls : List DiffLine) (at last : ℕ) (d : DiffLine) → at < length ls → is_change (get_or ls at d).sign ≡ false →
-    2 * context ≤ at - last → ChangesUpto ls at last → AreKept (between last (last + gap) ls)
-changes_gap ls at last d within is far h = grind (arith, kept_range, cases_lt, get_or_default)
 
 -- Lines from a change on begin with it.
 pub begins_at : (ls : List DiffLine) (i : ℕ) → i < length ls → ((d : DiffLine) → is_change (get_or ls i d).sign ≡ true) → BeginsWithChange (drop i ls)

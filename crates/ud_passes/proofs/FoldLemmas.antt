@@ -10,7 +10,6 @@ use Rattle.ud_model.specs.text.Lines.{Line, NoNewline, text_of, is_ending, lines
 use Rattle.ud_model.specs.aids.LineViews.{as_line, as_scan}
 use Rattle.ud_model.specs.text.Splicing.{is_empty, is_spliced, c_run_of}
 use Rattle.ud_model.specs.text.Scans.{Scan, Reading}
-use Rattle.ud_model.specs.text.Lexemes.{kind_at_end, lex, lex_from, lexeme_at}
 use Rattle.ud_model.specs.text.Scanning.{joins, scan_after, scan_after_run, next_reading, readings_after}
 use Rattle.ud_model.specs.sections.Directives.{content_of}
 use Rattle.ud_simplified.specs.FoldedTexts.{vertical_tab, continued, continued_part, folded_body, last_ending, folded_line, shown_break, shown_lines, is_directive, begins_directive, are_alike, fits, is_shown_as, is_foldable, folded_bytes, folded_lines}
@@ -51,9 +50,6 @@ pub shown_lines_more : (front : List Reading) (q r : Reading) → shown_lines ((
 shown_lines_more [] q r = grind (arith, append_assoc)
 shown_lines_more (x ∷ []) q r = grind (arith, append_assoc, shown_lines_more [] q r)
 shown_lines_more (x ∷ y ∷ front) q r = grind (arith, append_assoc, shown_lines_more (y ∷ front) q r)
-
-pub plain_lines_more : (rs : List Reading) (r : Reading) → plain_lines (rs ++ r ∷ []) ≡ plain_lines rs ++ text_of r.line
-plain_lines_more rs r = grind (arith, flat_map-append, append-nil)
 
 -- 2. Lines that form no line.
 
@@ -97,11 +93,6 @@ stays : (group : List Reading) → is_foldable group ≡ false → folded_bytes 
 stays group e = grind arith
 
 -- 3. The folded lines after a line more.
-
--- A line that continues lines.
-rest_joined : (group : List Reading) (r : Reading) (rs : List Reading) → begins_directive group ≡ true → r.scan.joins_before ≡ true →
-    rest_from group (r ∷ rs) ≡ folded_bytes ((group ++ r ∷ []) ++ continued rs) ++ folded_lines rs
-rest_joined group r rs b j = grind (arith, append_assoc)
 
 rest_of : (group rs : List Reading) → begins_directive group ≡ true → folded_bytes (group ++ continued rs) ++ folded_lines rs ≡ rest_from group rs
 rest_of group rs b = grind arith
@@ -162,7 +153,7 @@ module _ (r : Reading) (old : List ℕ) (l : LogicalLine) where
       next = group ++ r ∷ [];
       is_group = i;
       goes_on = a;
-      rest = λ rs f. rest_joined group r rs begins j ∙ rest_of (group ++ r ∷ []) rs (begins_more group r begins);
+      rest = λ rs f. (grind (arith, append_assoc, begins, j)) ∙ rest_of (group ++ r ∷ []) rs (begins_more group r begins);
     }
 
     pub takes_all : (new : List ℕ) → new ≡ old ++ folded_bytes (group ++ r ∷ []) → r.scan.joins_after ≡ false → FoldsReading r group old l None new
@@ -174,9 +165,6 @@ pub last_is : (b : Last) (line : ReadLine) (scan : ReadScan) (n : ℕ) → b ≡
     scan.spliced ≡ is_spliced (as_line line) → NoNewline line.body.now → IsLast b (reading_at C (as_line line) (as_scan scan) n)
 last_is b line scan n e s o = grind arith
 
-alike_self : (r : Reading) → are_alike (r ∷ []) r.line.ending ≡ true
-alike_self r = grind (arith, bytes_eq-Decides)
-
 pub logical_begins : (l : LogicalLine) (b : Last) (r : Reading) → IsLast b r → begins_directive (r ∷ []) ≡ true → l.plain.items ≡ text_of r.line → l.body.items ≡ [] → l.shown.items ≡ r.scan.masked → IsLogical l b (r ∷ [])
 logical_begins l b r i d p o m = record {
   front = [];
@@ -184,18 +172,12 @@ logical_begins l b r i d p o m = record {
   is = refl;
   is_last = i;
   begins = d;
-  alike = alike_self r;
+  alike = grind (arith, bytes_eq-Decides);
   plain_is = p ∙ sym (append-nil (text_of r.line));
   body_is = o;
   shown_is = m;
   one_line = subst NoNewline (sym o) tt;
 }
-
-alike_more : (group : List Reading) (r : Reading) (e : List ℕ) → are_alike group e ≡ true → r.line.ending ≡ e → are_alike (group ++ r ∷ []) r.line.ending ≡ true
-alike_more group r e a s = grind (arith, list_all-append, bytes_eq-Decides)
-
-no_newline_part : (r : Reading) → NoNewline r.line.body → NoNewline (continued_part r)
-no_newline_part r h = grind (arith, no_newline-append, no_newline-take)
 
 pub logical_more : (l m : LogicalLine) (b c : Last) (group : List Reading) (r : Reading) (part break : List ℕ) → IsLogical l b group → IsLast c r → r.line.ending ≡ b.line.ending.now →
     ((q : Reading) → IsLast b q → part ++ vertical_tab ∷ [] ≡ continued_part q) → ((q : Reading) → IsLast b q → break ≡ shown_break q.scan) →
@@ -208,13 +190,13 @@ logical_more l m b c group r part break i j e p k pl bo sh = let q : Reading = i
       is = refl;
       is_last = j;
       begins = begins_more group r i.begins;
-      alike = alike_more group r q.line.ending i.alike (e ∙ i.is_last.ending_is);
-      plain_is = pl ∙ ap (λ (x : List ℕ). x ++ text_of r.line) i.plain_is ∙ sym (plain_lines_more group r);
+      alike = grind (arith, list_all-append, bytes_eq-Decides, i.alike, e ∙ i.is_last.ending_is);
+      plain_is = pl ∙ ap (λ (x : List ℕ). x ++ text_of r.line) i.plain_is ∙ sym (grind (arith, flat_map-append, append-nil));
       body_is = body ∙ ap (λ (x : List ℕ). x ++ continued_part q) i.body_is ∙ ap (λ (x : List ℕ). flat_map continued_part i.front ++ x) (sym (append-nil (continued_part q)))
           ∙ sym (flat_map-append continued_part i.front (q ∷ [])) ∙ ap (λ (x : List Reading). flat_map continued_part x) (sym i.is);
       shown_is = sh ∙ append_assoc l.shown.items break r.scan.masked ∙ ap₂ (λ (x y : List ℕ). x ++ (y ++ r.scan.masked)) (i.shown_is ∙ ap shown_lines i.is) (k q i.is_last)
           ∙ sym (shown_lines_more i.front q r) ∙ ap (λ (x : List Reading). shown_lines (x ++ r ∷ [])) (sym i.is);
-      one_line = subst NoNewline (sym body) (no_newline-append l.body.items (continued_part q) i.one_line (no_newline_part q i.is_last.one_line));
+      one_line = subst NoNewline (sym body) (no_newline-append l.body.items (continued_part q) i.one_line (grind (arith, no_newline-append, no_newline-take, i.is_last.one_line)));
     }
 
 -- The lines that have ended.
@@ -222,9 +204,6 @@ pub folded_as : (l : LogicalLine) (b : Last) (group : List Reading) (bytes : Lis
     ((k : Line) → bytes ≡ text_of k → b.line.ending.now ≡ k.ending → NoNewline k.body → is_ending k.ending ≡ true → shown ≡ is_line_shown k l.shown.items) →
     is_ending b.line.ending.now ≡ true → (if shown then bytes else l.plain.items) ≡ folded_bytes group
 folded_as l b group bytes shown i e h n = grind (arith, folded_body_last, last_ending_last, no_newline-append)
-
-pub other_in : (l : LogicalLine) (b : Last) (group : List Reading) → IsLogical l b group → (r : Reading) (more : List Reading) → bytes_eq r.line.ending b.line.ending.now ≡ false → is_foldable (group ++ r ∷ more) ≡ false
-other_in l b group i r more n = grind (arith, other_stays)
 
 -- 6. Places of a walk.
 
@@ -264,16 +243,9 @@ follows : (done : List ℕ) (read rs more : List Reading) → read ++ rs ≡ rea
 follows done read [] more e f = grind (arith, append-nil)
 follows done read (r ∷ rs) more e f = ap (λ (s : Scan). s.joins_before) (placed [] (lines_of done) read r rs e) ∙ joins_before-code (c_run_of read) r.line
 
-no_group : (l : LogicalLine) (b : Option Last) (group : List Reading) → is_some b ≡ false → IsGroup l b group → group ≡ []
-no_group l b group n g = grind arith
-
 pub plain_bytes : (rs : List Reading) → plain_lines rs ≡ concat (map (λ (r : Reading). text_of r.line) rs)
 plain_bytes [] = refl
 plain_bytes (r ∷ rs) = ap (λ (x : List ℕ). text_of r.line ++ x) (plain_bytes rs)
-
--- The first line is joined to none.
-first_lines : (rs : List Reading) → FollowsBy (joins (c_run_of [])) rs → folded_lines rs ≡ rest_from [] rs
-first_lines rs f = grind (arith, joins_none)
 
 -- Text lines stay.
 texts_rest : (rs : List Reading) → AreTexts rs → (more : List Reading) → rest_from [] (rs ++ more) ≡ plain_lines rs ++ rest_from [] more
@@ -293,10 +265,10 @@ module _ (text start : List ℕ) (l : LogicalLine) (b : Option Last) (walk : Wal
   line_folded d k w t = grind (arith, if_some, next_joins, append_assoc, joins_before-code)
 
   pub texts_folded : is_some b ≡ false → (bytes : List ℕ) (rs : List Reading) → AreTexts rs → HaveBytes bytes rs → Walked C text (s.read ++ rs) next.rest.now next.scanner → more ≡ out ++ bytes → Folded text start m None next more
-  texts_folded none bytes rs h t w e = grind (arith, plain_bytes, no_group, append_assoc, follows, texts_rest)
+  texts_folded none bytes rs h t w e = grind (arith, plain_bytes, append_assoc, follows, texts_rest)
 
 pub first_folded : (text start : List ℕ) (l : LogicalLine) (walk : Walk) → Walked C text [] walk.rest.now walk.scanner → Folded text start l None walk start
-first_folded text start l walk w = grind (arith, append-nil, first_lines)
+first_folded text start l walk w = grind (arith, append-nil, joins_none)
 
 pub all_folded : (text start : List ℕ) (l : LogicalLine) (b : Option Last) (walk : Walk) (out new : List ℕ) → (s : Folded text start l b walk out) → walk.rest.now ≡ [] → new ≡ out ++ rest_from s.group [] →
     new ≡ start ++ folded_lines (read_as C text)

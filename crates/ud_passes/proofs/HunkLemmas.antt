@@ -15,8 +15,8 @@ use Rattle.ud_passes.specs.diff.Hunks.{SignedLine, Hunk, old_lines, new_lines, i
 use Rattle.ud_passes.specs.diff.DiffTexts.{ranges_text, signed_text, hunk_text}
 use Rattle.ud_passes.specs.diff.Patching.{Turns, stay, change}
 use Rattle.ud_passes.specs.diff.Contexts.{context, IsKept, AreKept, AreChanges}
-use Rattle.ud_passes.specs.diff.Scripts.{signed, signed_lines, hunk_of, between, gap, BeginsWithChange, IsNextHunk}
-use Rattle.ud_passes.proofs.ContextLemmas.{kept_range, begins_at, between_drop, changes_begin_at}
+use Rattle.ud_passes.specs.diff.Scripts.{signed, signed_lines, hunk_of, between, gap, IsNextHunk}
+use Rattle.ud_passes.proofs.ContextLemmas.{kept_range, between_drop, changes_begin_at}
 use Rattle.ud_passes.proofs.ScriptLemmas.{side, side-append}
 
 -- Of a line and others that pass a test, as many pass as bytes are taken of.
@@ -57,20 +57,6 @@ kept_before script from first e = kept_range script from (from + first)
     (subst (λ (l : DiffLine). is_change l.sign ≡ false) (get_or-drop from script (k - from) d)
     ((position-Some (λ (l : DiffLine). is_change l.sign) (drop from script) first d e).2 (k - from) (omega arith))))
 
--- The rest of the rest of a slice.
-rest_twice : (script : List DiffLine) (from first : ℕ) →
-    take (length (take (length script - from) (drop from script)) - first) (drop first (take (length script - from) (drop from script))) ≡ drop (from + first) script
-rest_twice script from first = grind (arith, take_rest, drop-drop)
-
--- The lines from the first change on begin with it.
-begins_from : (ls : List DiffLine) (i : ℕ) → position (λ (l : DiffLine). is_change l.sign) ls ≡ Some i → BeginsWithChange (drop i ls)
-begins_from ls i e = grind (arith, begins_at, position-Some)
-
--- The lines of a slice from the first change on begin with it.
-pub begins_there : (script : List DiffLine) (from first : ℕ) → position (λ (l : DiffLine). is_change l.sign) (take (length script - from) (drop from script)) ≡ Some first →
-    BeginsWithChange (take (length (take (length script - from) (drop from script)) - first) (drop first (take (length script - from) (drop from script))))
-begins_there script from first e = grind (arith, take_rest, begins_from)
-
 -- The next hunk, from its first change and the number of lines up to its last one.
 next_hunk_is : (script : List DiffLine) (from first n start end : ℕ) → from ≤ length script → position (λ (l : DiffLine). is_change l.sign) (drop from script) ≡ Some first →
     n ≤ length (drop (from + first) script) → AreChanges (between 0 n (drop (from + first) script)) → AreKept (between n (n + gap) (drop (from + first) script)) →
@@ -101,7 +87,7 @@ pub next_hunk_at : (script : List DiffLine) (from first n start end : ℕ) → f
     AreKept (between n (n + gap) (take (length (take (length script - from) (drop from script)) - first) (drop first (take (length script - from) (drop from script))))) →
     start ≡ from + (first - context) → end ≡ min (length script) (from + first + n + context) → IsNextHunk script from start end
 next_hunk_at script from first n start end inside e within changed later a b =
-    grind (arith, next_hunk_is, take_rest, rest_twice)
+    grind (arith, next_hunk_is, take_rest, drop-drop)
 
 -- The order of the places of the next hunk.
 pub record NextPlaces (ls : List DiffLine) (at start first last end : ℕ) : Type 0 where
@@ -124,12 +110,6 @@ hunk_appended o p q m n a b ls first later old new =
     (first ∙ ap₂ (λ (i j : ℕ). o ++ ranges_text m i n j) (old ∙ count_is is_old ls) (new ∙ count_is is_new ls))
     ∙ append_assoc o (ranges_text m (length (old_lines (signed_lines ls))) n (length (new_lines (signed_lines ls)))) (flat_map signed_text (signed_lines ls))
 
--- A kept line is in both texts.
-kept_line : (is_in : Sign → Bool) → is_in Kept ≡ true →
-    (sign : Sign) (bytes : List ℕ) (ls : List SignedLine) → is_change sign ≡ false →
-    side is_in (record { sign = sign; bytes = bytes } ∷ ls) ≡ bytes ∷ side is_in ls
-kept_line is_in is sign bytes ls e = grind arith
-
 -- The bytes of the lines.
 abbrev bytes_of : List DiffLine → List (List ℕ)
 bytes_of ls = map (λ (l : DiffLine). l.bytes.now) ls
@@ -139,7 +119,7 @@ kept_side : (is_in : Sign → Bool) → is_in Kept ≡ true → (ls : List DiffL
     AreKept (signed_lines ls) → side is_in (signed_lines ls) ≡ bytes_of ls
 kept_side is_in is [] h = refl
 kept_side is_in is (l ∷ ls) h =
-    kept_line is_in is l.sign l.bytes.now (signed_lines ls) (All-head IsKept (signed l) (signed_lines ls) h)
+    (grind (arith, is, All-head IsKept (signed l) (signed_lines ls) h))
     ∙ ap (λ (xs : List (List ℕ)). l.bytes.now ∷ xs) (kept_side is_in is ls (All-tail IsKept (signed l) (signed_lines ls) h))
 
 -- Hunks that turn some lines turn them with kept lines after them.

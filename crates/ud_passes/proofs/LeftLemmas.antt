@@ -1,20 +1,17 @@
 -- Left cells: when the rest of a condition's text takes its place.
-use Rattle.std.proofs.Common.{◌≡◌, ℕ, List, [], length, map, Bool, true, false, not, ◌&&◌, if◌then◌else◌, Some, None, sym, ◌∙◌, ap, arith}
+use Rattle.std.proofs.Common.{◌≡◌, ℕ, List, map, Bool, true, false, not, ◌&&◌, if◌then◌else◌, Some, None, sym, ◌∙◌, ap, arith}
 use Rattle.std.specs.List.{list_any}
 use Rattle.std.proofs.lemmas.Bool.{and_left, and_right}
-use Rattle.std.proofs.lemmas.Grind.{common_steps}
 use Rattle.ud_model.specs.text.Lexemes.{Cell, shown}
 use Rattle.ud_model.specs.conditions.Table.{Argument}
-use Rattle.ud_model.specs.conditions.Expressions.{Expression, spelling}
+use Rattle.ud_model.specs.conditions.Expressions.{Expression}
 use Rattle.ud_model.specs.conditions.Conditions.{Rules, tree_cond, expression_cond}
 use Rattle.ud_model.specs.aids.Residuals.{residual, is_unknown, is_undecided, keeps}
 use Rattle.ud_simplified.specs.ResidualTexts.{left_cells, is_literal, may_go, is_read, simplified_tree, simplified_cells}
 use Rattle.ud_model.specs.conditions.Parsing.{expression_of}
-use Rattle.ud_model.proofs.conditions.KeptTokens.{choose}
 use Rattle.ud_simplified.proofs.ResidualRead.{written_left, untouched}
-use Rattle.ud_passes.specs.pruning.Cells.{AreCells, SameLeft, stands, IsFound}
+use Rattle.ud_passes.specs.pruning.Cells.{AreCells, stands, IsFound}
 use Rattle.ud_passes.specs.declared.pruning.cells.LeftText.{LeftText}
-use Rattle.ud_cond.proofs.lemmas.expressions.KeptLemmas.{same_length}
 
 both : (a b c : Bool) → a ≡ true → b ≡ true → c ≡ true → (a && b && c) ≡ true
 both a b c p q r = grind arith
@@ -93,10 +90,3 @@ module _ (table : List Argument) (rules : Rules) where
     -- The bytes of what is left.
     pub found_or_stays : (b : Bool) (text : LeftText) → AreCells left text.bytes.items text.shown.items → b ≡ stands table rules e left → IsFound table rules cells b text
     found_or_stays b text a f = grind (arith, goes, decided, misread)
-
-pub flags_long : (table : List Argument) (rules : Rules) (e : Expression) → length (keeps table rules e) ≡ length (spelling e)
-flags_long table rules e = grind (arith, same_length, choose)
-
--- A text that is left alone.
-pub left_alone : {b s : List ℕ} (xs : List Cell) {c t : List ℕ} → b ≡ [] → s ≡ [] → SameLeft b s xs c t [] → AreCells xs c t
-left_alone xs e f h = grind (arith, common_steps)

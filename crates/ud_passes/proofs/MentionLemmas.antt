@@ -6,12 +6,9 @@ use Rattle.ud_model.specs.sections.Directives.{Directive, Content, directive, te
 use Rattle.ud_model.specs.conditions.Table.{Argument}
 use Rattle.ud_passes.specs.Passes.{fits}
 use Rattle.ud_passes.specs.remaining.Definitions.{is_definition}
-use Rattle.ud_passes.specs.remaining.Mentions.{Mention, joins_next, mention_at, mention_by, class_of, shown_after}
+use Rattle.ud_passes.specs.remaining.Mentions.{Mention, mention_at, mention_by, class_of, shown_after}
 use Rattle.ud_passes.specs.declared.remaining.mentions.Class.TheVariants.{Definition}
 use Rattle.ud_passes.specs.remaining.Searches.{extended, taken, rest_from, ended}
-
-pub joins_long : (r : Reading) → fits r.line ≡ false → joins_next r ≡ false
-joins_long r e = grind arith
 
 module _ (table : List Argument) where
   -- A line that fits is taken as it is.

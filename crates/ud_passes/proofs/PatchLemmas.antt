@@ -1,12 +1,12 @@
 -- Patching: hunks that turn lines into others make these of them, and turned round the first ones.
-use Rattle.std.proofs.Common.{◌≡◌, ℕ, ◌+◌, ◌-◌, Bool, true, List, [], ◌∷◌, ◌++◌, length, map, take, drop, Option, Some, None, refl, sym, ◌∙◌, ap, subst, append_assoc, append-nil, arith, if◌then◌else◌, leb}
+use Rattle.std.proofs.Common.{◌≡◌, ℕ, ◌+◌, ◌-◌, Bool, List, [], ◌∷◌, ◌++◌, length, map, Option, Some, None, refl, sym, ◌∙◌, ap, subst, append_assoc, append-nil, arith, if◌then◌else◌, leb}
 use Rattle.std.specs.Prelude.{option_and_then, option_map}
 use Rattle.std.proofs.lemmas.Bool.{le-leb, and_from}
 use Rattle.std.proofs.lemmas.List.{map-append, length-append, take_at, drop_at}
 use Rattle.std.proofs.lemmas.Slice.Eq.{bytes_eq-Decides}
 use Rattle.ud_passes.specs.diff.Hunks.{SignedLine, Hunk, old_lines, new_lines, turned_line, turned}
 use Rattle.ud_passes.specs.diff.DiffTexts.{names_text}
-use Rattle.ud_passes.specs.diff.Patching.{rest_after, is_within, patched_from, patched, Turns, nothing, stay, change, IsDiff}
+use Rattle.ud_passes.specs.diff.Patching.{rest_after, patched_from, patched, Turns, nothing, stay, change, IsDiff}
 use Rattle.ud_passes.specs.diff.Scripts.{IsScript, AppendsHunks}
 
 -- The hunks, applied to the lines `old`, before which `m` lines come, give the lines `new`, before
@@ -62,26 +62,13 @@ abbrev made : Bool → List (List ℕ) → Option (List (List ℕ)) → (List (L
 made inside front found f news =
     if inside then option_and_then (λ (rest : List (List ℕ)). option_map (λ (w : List (List ℕ)). front ++ (news ++ w)) (f rest)) found else None
 
--- A hunk makes the lines before it, its new ones, and what the later hunks make.
-made_is : (inside : Bool) (front : List (List ℕ)) (found : Option (List (List ℕ))) (f : List (List ℕ) → Option (List (List ℕ)))
-    (ls rest news later : List (List ℕ)) → inside ≡ true → front ≡ ls → found ≡ Some rest → f rest ≡ Some later →
-    made inside front found f news ≡ Some (ls ++ (news ++ later))
-made_is inside front found f ls rest news later a b d e = grind arith
-
 -- Hunks that turn lines into others make these of them.
 makes : (m n : ℕ) (hunks : List Hunk) (old new : List (List ℕ)) → TurnsFrom m n hunks old new → patched_from m hunks old ≡ Some new
 makes _ _ _ _ _ (done m n ls) = refl
 makes _ _ _ _ _ (next m n h hunks ls old new a b r) =
     let so_many : length ls ≡ h.old_before - m = omega arith in
     let all = length-append ls (old_lines h.lines ++ old) in
-    made_is (is_within m h (ls ++ (old_lines h.lines ++ old))) (take (h.old_before - m) (ls ++ (old_lines h.lines ++ old)))
-    (rest_after (old_lines h.lines) (drop (h.old_before - m) (ls ++ (old_lines h.lines ++ old))))
-    (patched_from (h.old_before + length (old_lines h.lines)) hunks) ls old (new_lines h.lines) new
-    (and_from (leb m h.old_before) (leb (h.old_before - m) (length (ls ++ (old_lines h.lines ++ old))))
-    (le-leb m h.old_before (omega arith)) (le-leb (h.old_before - m) (length (ls ++ (old_lines h.lines ++ old))) (omega arith)))
-    (take_at ls (old_lines h.lines ++ old) (h.old_before - m) so_many)
-    (ap (rest_after (old_lines h.lines)) (drop_at ls (old_lines h.lines ++ old) (h.old_before - m) so_many) ∙ rest_after_at (old_lines h.lines) old)
-    (makes (h.old_before + length (old_lines h.lines)) (h.new_before + length (new_lines h.lines)) hunks old new r)
+    grind (arith, and_from (leb m h.old_before) (leb (h.old_before - m) (length (ls ++ (old_lines h.lines ++ old)))) (le-leb m h.old_before (omega arith)) (le-leb (h.old_before - m) (length (ls ++ (old_lines h.lines ++ old))) (omega arith)), take_at ls (old_lines h.lines ++ old) (h.old_before - m) so_many, ap (rest_after (old_lines h.lines)) (drop_at ls (old_lines h.lines ++ old) (h.old_before - m) so_many) ∙ rest_after_at (old_lines h.lines) old, makes (h.old_before + length (old_lines h.lines)) (h.new_before + length (new_lines h.lines)) hunks old new r)
 
 -- Hunks that turn a text into another one make that of it.
 turns_makes : (hunks : List Hunk) (old new : List (List ℕ)) → Turns hunks old new → patched hunks old ≡ Some new

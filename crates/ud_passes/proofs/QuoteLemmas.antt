@@ -9,7 +9,6 @@ use Rattle.ud_model.specs.text.Scans.{Scan}
 use Rattle.ud_model.specs.text.Splicing.{content, spliced_part}
 use Rattle.ud_model.specs.text.Scanning.{content_cells, scan_after}
 use Rattle.ud_model.specs.sections.Directives.{Directive, directive, content_of}
-use Rattle.ud_model.specs.aids.DirectiveParts.{HasDirective}
 use Rattle.ud_model.specs.conditions.Table.{Argument}
 use Rattle.ud_model.specs.conditions.Conditions.{Rules}
 use Rattle.ud_simplified.specs.ResidualTexts.{is_literal}
@@ -55,17 +54,11 @@ goes_on : (a : ℕ) (rest : List ℕ) → GoesOn (lexeme_at a rest).kind (lexeme
 unfolding lexeme_at
 goes_on a rest = grind arith
 
-inside_quiet : (k : LexemeKind) (n : ℕ) (a : ℕ) → GoesOn k (suc n) → IsQuiet k a
-inside_quiet k n a g = grind arith
-
-less : (k : LexemeKind) (n : ℕ) → GoesOn k (suc n) → GoesOn k n
-less k n g = grind arith
-
 quiet_from : (k : LexemeKind) (n : ℕ) (text : List ℕ) → GoesOn k n → AreQuiet (lex_from k n text)
 unfolding lex_from
 quiet_from k n [] g = tt
 quiet_from k zero (a ∷ rest) g = (quiet_at a rest, quiet_from (lexeme_at a rest).kind (lexeme_at a rest).more rest (goes_on a rest))
-quiet_from k (suc n) (a ∷ rest) g = (inside_quiet k n a g, quiet_from k n rest (less k n g))
+quiet_from k (suc n) (a ∷ rest) g = (grind (arith, g), quiet_from k n rest (grind (arith, g)))
 
 pub quiet_lex : (text : List ℕ) → AreQuiet (lex text)
 unfolding lex
@@ -143,15 +136,11 @@ words [] e = refl
 words (b ∷ bytes) e = let p = and_parts (is_word_byte b) (are_word_bytes bytes) e in
     ap (λ (q : Bool). q || list_any is_quote bytes) (word_no_quote b p.0) ∙ words bytes p.1
 
--- Without a quote after the keyword, a directive's line has none.
-front_no_quote : (scan : Scan) (d : Directive) → HasDirective scan d → list_any is_quote d.after ≡ false → list_any is_quote scan.masked ≡ false
-front_no_quote scan d i e = grind (arith, any_append, words, whites)
-
 module _ (table : List Argument) (rules : Rules) (l : Line) (scan : Scan) (d : Directive) (s : scan ≡ scan_after [] C l) (h : content_of scan ≡ directive d) where
   -- A line without a quote after the keyword has no literal there.
   pub no_literal : list_any is_quote d.after ≡ false → list_any is_literal (condition_cells l d) ≡ false
   no_literal e = none_after (keyword_end d) (content_cells [] l)
-      (none_lex (length (content l)) (spliced_part l) (ap (list_any is_quote) (sym (masked-content_cells [] l) ∙ ap (λ (x : Scan). x.masked) (sym s)) ∙ front_no_quote scan d ((directive_is scan d).0 h) e))
+      (none_lex (length (content l)) (spliced_part l) (ap (list_any is_quote) (sym (masked-content_cells [] l) ∙ ap (λ (x : Scan). x.masked) (sym s)) ∙ (grind (arith, any_append, words, whites, (directive_is scan d).0 h, e))))
 
   -- A quote after the keyword begins a literal there.
   pub a_literal : list_any is_quote d.after ≡ true → list_any is_literal (condition_cells l d) ≡ true

@@ -1,12 +1,12 @@
 -- Restored texts: a byte more, a line without a vertical tab, and a line more.
-use Rattle.std.proofs.Common.{◌≡◌, ℕ, ◌≤◌, List, [], ◌∷◌, ◌++◌, length, map, drop, true, false, if◌then◌else◌, refl, sym, ◌∙◌, ap, append_assoc, append-nil, arith}
+use Rattle.std.proofs.Common.{◌≡◌, ℕ, ◌≤◌, List, [], ◌∷◌, ◌++◌, length, map, drop, false, if◌then◌else◌, refl, sym, ◌∙◌, ap, append_assoc, append-nil, arith}
 use Rattle.std.specs.List.{flat_map}
 use Rattle.std.proofs.lemmas.Grind.{flat_map-append}
 use Rattle.std.proofs.lemmas.List.{map-append, at_drop_all}
 use Rattle.std.proofs.lemmas.List.Folds.{flat_map-map}
 use Rattle.ud_model.specs.text.Lines.{Line, text_of, lines_of}
 use Rattle.ud_model.specs.text.Scans.{Scan, Reading}
-use Rattle.ud_model.specs.text.Scanning.{scan_after_run, next_reading, readings_after}
+use Rattle.ud_model.specs.text.Scanning.{next_reading, readings_after}
 use Rattle.ud_model.specs.aids.ReadAs.{read_as, in_mode}
 use Rattle.ud_simplified.specs.FoldedTexts.{has_tab, fits, restored_body, restored_line, restored_text}
 use Rattle.ud_model.specs.declared.kind.Mode.TheVariants.{C}
@@ -33,15 +33,6 @@ without_tab ending (b ∷ bytes) (m ∷ masked) h = grind (arith, without_tab en
 
 -- 2. A line.
 
-pub line_without_tab : (l : Line) → has_tab l.body ≡ false → restored_line l ≡ text_of l
-line_without_tab l h = grind (arith, without_tab)
-
-pub line_restored : (l : Line) → fits l ≡ true → restored_line l ≡ restored_body l.ending l.body (scan_after_run [] l).masked ++ l.ending
-line_restored l h = grind arith
-
-pub long_restored : (l : Line) → fits l ≡ false → restored_line l ≡ text_of l
-long_restored l h = grind arith
-
 pub renumbered : (l : Line) (n : ℕ) → restored_line (record l { number = n }) ≡ restored_line l
 renumbered l n = let k : Line = record l { number = n } in
     ap (λ (s : Scan). if fits l then restored_body l.ending l.body s.masked ++ l.ending else text_of l) (scan_after-same [] [] C k l refl refl refl)
@@ -51,9 +42,6 @@ renumbered l n = let k : Line = record l { number = n } in
 pub line_more : (text start : List ℕ) (walk : Walk) (out : List ℕ) (s : Restored text start walk out) (next : Walk) (more : List ℕ) (k : Line) →
     Walked C text (s.read ++ read_after C s.read k ∷ []) next.rest.now next.scanner → more ≡ out ++ restored_line k → Restored text start next more
 line_more text start walk out s next more k w e = grind (arith, renumbered, append-nil, append_assoc, flat_map-append)
-
-pub none_restored : (text start : List ℕ) (walk : Walk) → Walked C text [] walk.rest.now walk.scanner → Restored text start walk start
-none_restored text start walk w = grind (arith, append-nil)
 
 pub lines_read : (acc : List Reading) (ls : List Line) → map (λ (r : Reading). r.line) (readings_after acc (map (in_mode C) ls)) ≡ map (λ (r : Reading). r.line) acc ++ ls
 lines_read acc [] = sym (append-nil (map (λ (r : Reading). r.line) acc))

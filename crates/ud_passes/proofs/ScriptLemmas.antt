@@ -19,10 +19,6 @@ pub side-append : (is_in : Sign → Bool) (xs ys : List DiffLine) →
     side is_in (signed_lines (xs ++ ys)) ≡ side is_in (signed_lines xs) ++ side is_in (signed_lines ys)
 side-append is_in xs ys = grind (arith, map-append, filter-append)
 
--- A script that is extended twice is extended.
-pub extends_twice : (s t u : Script) → Extends s t → Extends t u → Extends s u
-extends_twice s t u a b = grind (arith, common_steps, side-append)
-
 -- An empty text has no lines.
 texts_of-nil : (t : List ℕ) → t ≡ [] → texts_of t ≡ []
 unfolding split_lines

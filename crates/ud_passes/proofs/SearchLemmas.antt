@@ -29,7 +29,7 @@ use Rattle.ud_passes.specs.declared.remaining.search.Search.{Search}
 use Rattle.ud_passes.specs.declared.remaining.search.Place.{Place}
 use Rattle.ud_passes.specs.declared.walk.Walk.{Walk}
 use Rattle.ud_passes.proofs.DefinitionLemmas.{clear_drop, DefineNothing, lines_clear}
-use Rattle.ud_passes.proofs.MentionLemmas.{end_of_text, taken_long, joins_long}
+use Rattle.ud_passes.proofs.MentionLemmas.{end_of_text, taken_long}
 use Rattle.ud_passes.proofs.NameLemmas.{has_word-newline}
 use Rattle.ud_passes.proofs.WalkLemmas.{walk_ends}
 
@@ -235,7 +235,7 @@ module _ (table : List Argument) (mode : Mode) (name text : List ℕ) (start old
         )
 
     pub long_searched : fits k ≡ false → mid.after.items ≡ old.after.items → EndsLine table name place.begun false mid new next.begun → Searched table mode name text start new next on
-    long_searched f a e = line_searched place.begun false (ap (begun_as place.begun) a ∙ sym (taken_long table begun_before seen f), sym (joins_long seen f)) e
+    long_searched f a e = line_searched place.begun false (ap (begun_as place.begun) a ∙ sym (taken_long table begun_before seen f), sym (grind (arith, f))) e
 
 -- 5. The whole text.
 

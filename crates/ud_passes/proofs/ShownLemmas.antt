@@ -21,12 +21,6 @@ use Rattle.ud_passes.specs.folding.LogicalLines.{is_line_shown}
 
 -- 0. Tests.
 
-all_but : (a b c d : Bool) → c ≡ false → (a && b && c && d) ≡ false
-all_but a b c d e = grind arith
-
-if_all : (a b c d : Bool) → a ≡ true → b ≡ true → c ≡ true → (a && b && c && d) ≡ d
-if_all a b c d p q r = grind arith
-
 pub joins_next : (scan : Scan) (bytes : List ℕ) → scan.joins_after ≡ true → is_shown_as scan bytes ≡ false
 joins_next scan bytes e = grind arith
 
@@ -75,7 +69,7 @@ module _ (k : Line) (no : NoNewline k.body) (end : IsEnd k.ending) (bytes : List
 
     module _ (shown : List ℕ) where
       pub other_ending : bytes_eq e.ending k.ending ≡ false → is_line_shown k shown ≡ false
-      other_ending n = grind (arith, all_but, keeps)
+      other_ending n = grind (arith, keeps)
 
       pub shown_by : e.ending ≡ k.ending → is_empty k.ending ≡ false → fits k ≡ true → is_shown_as (scan_after_run [] e) shown ≡ is_line_shown k shown
       shown_by s some f =
@@ -83,4 +77,4 @@ module _ (k : Line) (no : NoNewline k.body) (end : IsEnd k.ending) (bytes : List
           let body : e.body ≡ k.body = same_cut e.body k.body k.ending text in
           let scan : scan_after_run [] e ≡ scan_after_run [] k = scan_after-same [] [] C e k refl body s in
           ap (λ (x : Scan). is_shown_as x shown) scan
-          ∙ sym (if_all (not (is_empty k.ending)) (fits k) (keeps_ending k) (is_shown_as (scan_after_run [] k) shown) (ap not some) f (keeps ∙ (bytes_eq-Decides e.ending k.ending).1 s))
+          ∙ sym (grind (arith, ap not some, f, keeps ∙ (bytes_eq-Decides e.ending k.ending).1 s))

@@ -20,9 +20,6 @@ use Rattle.std.proofs.lemmas.Slice.Eq.{bytes_eq-Decides}
 use Rattle.ud_passes.specs.names.NameTables.{NameCount, count_of, rows_with, row_cmp, IsTable}
 use Rattle.ud_passes.specs.names.RowViews.{AreCounts}
 
-flip : (xs ys : List ℕ) → bytes_eq xs ys ≡ false → bytes_eq ys xs ≡ false
-flip xs ys e = grind (arith, bytes_eq-Decides)
-
 -- 1. Counts.
 
 module _ {X : Type 0} (p : X → Bool) where
@@ -54,10 +51,6 @@ module _ {X : Type 0} (p : X → Bool) where
       by false h z r zero m = h
       by false h z r (suc k) m = r (omega (arith, z)) k (omega arith)
 
--- A name many times.
-count-replicate : (n x : List ℕ) (k : ℕ) → count_of n (replicate k x) ≡ (if bytes_eq x n then k else 0)
-count-replicate n x k = grind (arith, sum_by-replicate)
-
 pub replicated : {X : Type 0} (f : X → List ℕ) (x : List ℕ) (ps : List X) → ((k : ℕ) → k < length ps → (d : X) → bytes_eq (f (get_or ps k d)) x ≡ true) → map f ps ≡ replicate (length ps) x
 replicated f x [] h = refl
 replicated f x (p ∷ ps) h =
@@ -76,11 +69,11 @@ module _ (names : List (List ℕ)) (rows : List NameCount) (x : List ℕ) (k : �
       no_row = h.once x ∙ ap (λ (n : ℕ). min 1 n) z
 
       all : (n : List ℕ) → count_of n (names ++ replicate k x) ≡ count_of n names + (if bytes_eq x n then k else 0)
-      all n = count-append (λ m. bytes_eq m n) names (replicate k x) ∙ ap (λ (c : ℕ). count_of n names + c) (count-replicate n x k)
+      all n = count-append (λ m. bytes_eq m n) names (replicate k x) ∙ ap (λ (c : ℕ). count_of n names + c) (grind (arith, sum_by-replicate))
 
       old : All (λ r. r.count ≡ count_of r.name (names ++ replicate k x)) rows
       old = λ i d l.
-          let apart : bytes_eq x (get_or rows i d).name ≡ false = flip (get_or rows i d).name x (none-counted (λ r. bytes_eq r.name x) rows no_row i d l) in
+          let apart : bytes_eq x (get_or rows i d).name ≡ false = (grind (arith, bytes_eq-Decides, (none-counted (λ r. bytes_eq r.name x) rows no_row i d l))) in
           h.counts i d l ∙ omega arith ∙ sym (all (get_or rows i d).name ∙ ap (λ (b : Bool). count_of (get_or rows i d).name names + (if b then k else 0)) apart)
 
       new : k ≡ count_of x (names ++ replicate k x)

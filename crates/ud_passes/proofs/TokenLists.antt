@@ -13,14 +13,11 @@ by_next text x e = grind (arith, tokens_of-prepend_token)
 first_of : (u t : Token) (o : Option (List Token)) (tokens : List Token) → are_tokens (option_map (λ ts. u ∷ ts) o) (t ∷ tokens) ≡ (same_token u t && are_tokens o tokens)
 first_of u t o tokens = grind arith
 
-and_true : (a b : Bool) → a ≡ true → (a && b) ≡ b
-and_true a b e = grind arith
-
 module _ (text : List ℕ) (t : Token) where
   -- The first token is this one.
   pub same_first : (u : Token) (rest : List ℕ) → next_token text ≡ found u rest → same_token u t ≡ true → (tokens : List Token) →
       are_tokens (tokens_of text) (t ∷ tokens) ≡ are_tokens (tokens_of rest) tokens
-  same_first u rest e s tokens = grind (arith, by_next, first_of, and_true)
+  same_first u rest e s tokens = grind (arith, by_next, first_of)
 
   -- The first token is another one.
   pub other_first : (u : Token) (rest : List ℕ) → next_token text ≡ found u rest → same_token u t ≡ false → (tokens : List Token) →
@@ -34,16 +31,6 @@ module _ (text : List ℕ) (t : Token) where
   pub unread_first : next_token text ≡ unreadable → (tokens : List Token) → are_tokens (tokens_of text) (t ∷ tokens) ≡ false
   unread_first e tokens = grind (arith, by_next)
 
--- No tokens.
-pub none_at_end : (text : List ℕ) → next_token text ≡ at_end → are_tokens (tokens_of text) [] ≡ true
-none_at_end text e = grind (arith, tokens_of-prepend_token)
-
-pub some_found : (text : List ℕ) (u : Token) (rest : List ℕ) → next_token text ≡ found u rest → are_tokens (tokens_of text) [] ≡ false
-some_found text u rest e = grind (arith, tokens_of-prepend_token)
-
-pub none_unread : (text : List ℕ) → next_token text ≡ unreadable → are_tokens (tokens_of text) [] ≡ false
-none_unread text e = grind (arith, tokens_of-prepend_token)
-
 -- The tokens of a text that begins with a token.
 pub record Splits (t : Token) (rest : List ℕ) (tokens : List Token) : Type 0 where
   pub others : List Token
@@ -53,15 +40,9 @@ pub record Splits (t : Token) (rest : List ℕ) (tokens : List Token) : Type 0 w
 pub splits : (text : List ℕ) (t : Token) (rest : List ℕ) (tokens : List Token) → next_token text ≡ found t rest → tokens_of text ≡ Some tokens → Splits t rest tokens
 splits text t rest tokens e f = grind (arith, tokens_of-prepend_token)
 
-pub ends_none : (text : List ℕ) (tokens : List Token) → next_token text ≡ at_end → tokens_of text ≡ Some tokens → length tokens ≡ 0
-ends_none text tokens e f = grind (arith, by_next)
-
-pub unread_none : (text : List ℕ) (tokens : List Token) → next_token text ≡ unreadable → tokens_of text ≡ Some tokens → ⊥
-unread_none text tokens e f = grind (arith, tokens_of-prepend_token)
-
 -- A text that begins with no token has none.
 pub ends_first : (text : List ℕ) → next_token text ≡ at_end → (t : Token) (tokens : List Token) → tokens_of text ≡ Some (t ∷ tokens) → ⊥
-ends_first text e t tokens f = let n : length (t ∷ tokens) ≡ 0 = ends_none text (t ∷ tokens) e f in cc
+ends_first text e t tokens f = let n : length (t ∷ tokens) ≡ 0 = (grind (arith, by_next, e, f)) in cc
 
 -- The token at which a list goes on.
 pub record Begins (tokens : List Token) : Type 0 where

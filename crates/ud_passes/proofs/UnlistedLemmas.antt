@@ -1,6 +1,6 @@
 -- Unlisted conditions: those of one line more, and of many text lines more.
-use Rattle.std.proofs.Common.{◌≡◌, ℕ, ◌+◌, List, [], ◌∷◌, ◌++◌, length, length-append, append_assoc, append-nil, map, take, drop, take-append-drop, Bool, true, false, if◌then◌else◌, refl, sym, ◌∙◌, ap, arith}
-use Rattle.std.specs.List.{filter, concat}
+use Rattle.std.proofs.Common.{◌≡◌, ℕ, ◌+◌, List, [], ◌∷◌, ◌++◌, length, length-append, append_assoc, append-nil, take, drop, take-append-drop, Bool, true, false, if◌then◌else◌, refl, sym, ◌∙◌, ap, arith}
+use Rattle.std.specs.List.{filter}
 use Rattle.std.proofs.lemmas.List.Elements.{filter-append}
 use Rattle.std.proofs.lemmas.List.Sums.{sum_by-append}
 use Rattle.std.proofs.lemmas.Grind.{flat_map-append}
@@ -12,7 +12,7 @@ use Rattle.ud_text.specs.lines.LinesState.{UpToNewline}
 use Rattle.ud_simplified.specs.FoldedTexts.{restored_line}
 use Rattle.ud_model.specs.text.Scans.{Reading}
 use Rattle.ud_model.specs.sections.Directives.{text, content_of}
-use Rattle.ud_passes.specs.Passes.{fits, numbered_line}
+use Rattle.ud_passes.specs.Passes.{numbered_line}
 use Rattle.ud_passes.specs.Walks.{read_after, AreTexts, HaveBytes, Walked}
 use Rattle.ud_passes.specs.folding.LogicalLines.{plain_lines}
 use Rattle.ud_passes.specs.declared.names.texts.File.{File}
@@ -116,9 +116,6 @@ module _ (file : File) (text start : List ℕ) (found : Found) (walk : Walk) (ou
         more ≡ out ++ (if file.lists then numbered_line file.name.now found.number (shown_body file.folded k) else []) → Listed file text start after next more
     line_found e counts more m = more_lines (r ∷ []) w after (grind arith) number_after more
         (grind (arith, append-nil, shown_renumbered file.folded k (1 + length l.read)))
-
-pub long_line : (r : Reading) → fits r.line ≡ false → is_unlisted_line r ≡ false
-long_line r e = grind arith
 
 pub first_place : (file : File) (all start : List ℕ) (walk : Walk) → Walked file.mode all [] walk.rest.now walk.scanner → Listed file all start (record { count = 0; number = 1 }) walk start
 first_place file all start walk w = grind (arith, append-nil)

@@ -1,9 +1,8 @@
 -- Single calls: which files they leave as they are.
-use Rattle.std.proofs.Common.{◌≡◌, ℕ, List, ◌++◌, take, true, false, Some, refl, arith}
+use Rattle.std.proofs.Common.{◌≡◌, ℕ, List, true, false, refl, arith}
 use Rattle.std.specs.Prelude.{bytes_eq}
 use Rattle.std.proofs.lemmas.Slice.Eq.{bytes_eq-Decides}
-use Rattle.std.proofs.lemmas.Bool.{cond-true}
-use Rattle.ud_replace.specs.Calls.{Call, appended}
+use Rattle.ud_replace.specs.Calls.{Call}
 use Rattle.ud_replace.specs.Moments.{Files, after, touches}
 
 pub same_name : (n : List ℕ) → bytes_eq n n ≡ true
@@ -15,7 +14,3 @@ name_of_test n m = (bytes_eq-Decides n m).0
 -- a call leaves a file as it is that it doesn't touch
 pub untouched : (c : Call) (f : Files) (n : List ℕ) → touches c n ≡ false → after c f n ≡ f n
 untouched c f n h = grind arith
-
--- appended bytes follow those that the file had
-pub extended : (m rest : List ℕ) (k : ℕ) (f : Files) (t : List ℕ) → f m ≡ Some t → after (appended m rest (Some k)) f m ≡ Some (t ++ take k rest)
-extended m rest k f t e = grind (arith, cond-true, same_name)

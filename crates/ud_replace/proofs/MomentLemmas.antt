@@ -12,7 +12,7 @@ use Rattle.ud_replace.specs.TextOutcomes.{TextOptions, TextOutcome, HasTextOutco
 use Rattle.ud_replace.specs.Filling.{FileTakes, nothing, part, AppendsAll, all, stopped, LooksAgain, Confirms, confirmed, not_read, other_text, other_facts, other_version, Fills, filled, not_taken, not_given, not_synced, not_confirmed, not_renamed}
 use Rattle.ud_replace.specs.Replacing.{Renames, renames, removes, unrenamed, unrenamed_writes, not_made, locked, denied, denied_writes, Puts, several, read_only, one_link, several_writes, Judges, no_memory, faulty, same, differs, Replaces}
 use Rattle.ud_replace.specs.Moments.{Files, content, AreTrue, EachCall, no_call, then_call, OldOrNew, touches}
-use Rattle.ud_replace.proofs.CallLemmas.{same_name, name_of_test, untouched, extended}
+use Rattle.ud_replace.proofs.CallLemmas.{same_name, name_of_test, untouched}
 
 -- each call so far left each file as it was after `old`
 record Quiet (o : TextOptions) (name : List ℕ) (first : Files) (old calls : List Call) : Type 0 where
@@ -92,7 +92,7 @@ bytes_of_takes : (fresh : List ℕ) (first : Files) {base : List Call} (bytes : 
     content first base fresh ≡ Some [] → FileTakes fresh base bytes calls → content first calls fresh ≡ Some bytes
 bytes_of_takes fresh first bytes calls e nothing = e
 bytes_of_takes fresh first _ _ e (part {bytes = before} {calls = earlier} rest n taken fits) =
-    extended fresh rest n (content first earlier) before (bytes_of_takes fresh first before earlier e taken)
+    grind (arith, cond-true, same_name, bytes_of_takes fresh first before earlier e taken)
 
 bytes_of_looks : (fresh : List ℕ) (first : Files) {name text : List ℕ} {stat : FileStat} {base new : List Call} {found : Bool} →
     content first base fresh ≡ Some text → LooksAgain name stat base new found → content first new fresh ≡ Some text
@@ -130,13 +130,6 @@ true_fills first h t = grind (arith, true_filled, true_at, true_appends)
 apart : (fresh : List ℕ) {o : TextOptions} {name : List ℕ} {first : Files} {old calls : List Call} → Quiet o name first old calls → content first calls fresh ≡ None → Apart first old fresh
 apart fresh q free n bytes h = grind (arith, name_of_test)
 
--- the rename of a fresh file with the output
-renamed_moment : {o : TextOptions} {name text : List ℕ} (fresh : List ℕ) (first : Files) {old calls : List Call} (a : TextOutcome) →
-    HasTextOutcome o text a → a.fault ≡ None → content first old name ≡ Some text → Apart first old fresh → Quiet o name first old calls →
-    content first calls fresh ≡ Some a.output → OldOrNew o name first old (renamed fresh name true ∷ calls)
-renamed_moment fresh first a has sound read away q full n bytes h =
-    grind (arith, cond-false, name_of_test, same_Some, cond-true)
-
 -- what a replacement shows at each of its moments
 abbrev Moments : TextOptions → List ℕ → Files → List Call → List Call → Type 0
 Moments o name first old new = EachCall (λ (c : Call) (earlier : List Call). OldOrNew o name first old (c ∷ earlier)) old new
@@ -157,7 +150,7 @@ moments_filled {fresh = fresh} {first = first} {base = base} a has sound read q 
     let quiet = quiet_filled taken away (quiet_made away q) h l in
     let empty = cond-true (bytes_eq fresh fresh) (Some []) (content first base fresh) (same_name fresh) in
     let full = bytes_of_confirms fresh first (bytes_of_appends fresh first empty h) l in
-    moments_at is (then_call quiet.each (renamed_moment fresh first a has sound read away quiet full))
+    moments_at is (then_call quiet.each (grind (arith, cond-false, name_of_test, same_Some, cond-true, has, sound, read, away, quiet, full)))
 
 moments_renames : {o : TextOptions} {name fresh text : List ℕ} {stat : FileStat} {first : Files} {old base new : List Call} {r : Result Update ReplaceError} (a : TextOutcome) →
     HasTextOutcome o text a → a.fault ≡ None → content first old name ≡ Some text → Quiet o name first old base → AreTrue first new →
@@ -183,13 +176,9 @@ moments_puts {name = name} a has sound read q t (read_only may is) = (quiet_at i
 moments_puts {name = name} a has sound read q t (one_link few h) = moments_renames a has sound read (quiet_next (asked name true) q (λ n bytes h. refl)) t h
 moments_puts a has sound read q t (several_writes many into h) = absurd (true≢false (sym into))
 
-true_renames : (first : Files) {name fresh before text : List ℕ} {stat : FileStat} {base new : List Call} {r : Result Update ReplaceError} →
-    Renames false name fresh before text stat base new r → AreTrue first new → AreTrue first base
-true_renames first h t = grind (arith, true_fills, true_at)
-
 true_puts : (first : Files) {name fresh before text : List ℕ} {stat : FileStat} {base new : List Call} {r : Result Update ReplaceError} →
     Puts false name fresh before text stat base new r → AreTrue first new → AreTrue first base
-true_puts first h t = grind (arith, true_at, true_renames)
+true_puts first h t = grind (arith, true_at, true_fills)
 
 -- nothing was asked but to read the file
 quiet_read : (o : TextOptions) (name : List ℕ) (first : Files) (old : List Call) (text : List ℕ) (seen : Option FileStat) → Quiet o name first old (was_read name text seen ∷ old)

@@ -25,28 +25,20 @@ fails_whole o unsqueezed_memory = over_memory
 pub fails_squeezing : (o : TextOptions) (text : List ℕ) {e : ReplaceError} → e ≡ OutOfMemory → FailsOver o text e
 fails_squeezing o text is = subst (λ (x : ReplaceError). FailsOver o text x) (sym is) over_memory
 
--- An output that doesn't differ stays.
-same_stays : (o : TextOptions) (r : TextOutcome) → r.differs ≡ false → goes_squeezed o r ≡ false
-same_stays o r e = grind arith
-
 pub same_whole : (o : TextOptions) {text old new : List ℕ} {ran : TextRun} → ran.differs ≡ false → RunsUnsqueezed o text old new ran → RunsOver o text old new ran
 same_whole o e h = record {
   outcome = h.outcome;
-  runs = as_it_is h.runs (same_stays o h.outcome (sym h.differs_is ∙ e));
+  runs = as_it_is h.runs (grind (arith, sym h.differs_is ∙ e));
   faultless = h.faultless;
   appended = h.appended;
   differs_is = h.differs_is;
   edited_is = h.edited_is;
 }
 
--- So does any output, unless blank lines are to be squeezed.
-off_stays : (o : TextOptions) (r : TextOutcome) → o.squeezes ≡ false → goes_squeezed o r ≡ false
-off_stays o r e = grind arith
-
 pub off_whole : (o : TextOptions) {text old new : List ℕ} {ran : TextRun} → o.squeezes ≡ false → RunsUnsqueezed o text old new ran → RunsOver o text old new ran
 off_whole o e h = record {
   outcome = h.outcome;
-  runs = as_it_is h.runs (off_stays o h.outcome e);
+  runs = as_it_is h.runs (grind (arith, e));
   faultless = h.faultless;
   appended = h.appended;
   differs_is = h.differs_is;

@@ -9,7 +9,7 @@ use Rattle.ud_replace.specs.declared.stat.FileStat.{FileStat}
 use Rattle.ud_replace.specs.Calls.{Call, synced, given, renamed}
 use Rattle.ud_replace.specs.TextOutcomes.{TextOptions}
 use Rattle.ud_replace.specs.Filling.{AppendsAll, LooksAgain, Confirms, Fills, filled, not_renamed}
-use Rattle.ud_replace.specs.Replacing.{Overwrites, Renames, Judges}
+use Rattle.ud_replace.specs.Replacing.{Overwrites, Judges}
 
 pub looks_from : {name : List ℕ} {stat : FileStat} {old base new : List Call} {b : Bool} → old ≡ base → LooksAgain name stat old new b → LooksAgain name stat base new b
 looks_from {name = name} {stat = stat} {new = new} {b = b} e h = subst (λ (l : List Call). LooksAgain name stat l new b) e h
@@ -26,10 +26,6 @@ pub overwrites_from : {name before text : List ℕ} {stat : FileStat} {old base 
     {r : Result Update ReplaceError} → old ≡ base → Overwrites name before text stat old new r →
     Overwrites name before text stat base new r
 overwrites_from {name = name} {before = before} {text = text} {stat = stat} {new = new} {r = r} e h = subst (λ (l : List Call). Overwrites name before text stat l new r) e h
-
-pub renames_from : {into : Bool} {name fresh before text : List ℕ} {stat : FileStat} {old base new : List Call} {r : Result Update ReplaceError} → old ≡ base →
-    Renames into name fresh before text stat old new r → Renames into name fresh before text stat base new r
-renames_from e h = grind arith
 
 pub judges_from : {o : TextOptions} {into : Bool} {name fresh text : List ℕ} {stat : FileStat} {old base new : List Call} {r : Result Update ReplaceError} → old ≡ base →
     Judges o into name fresh text stat old new r → Judges o into name fresh text stat base new r

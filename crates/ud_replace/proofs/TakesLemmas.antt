@@ -30,10 +30,6 @@ takes_more name old calls new bytes rest n t fits is = record {
     to_end : take (length rest - n) (drop n rest) ≡ drop n rest
     to_end = grind (arith, common_steps)
 
--- with nothing left, all was taken
-pub takes_all : (name : List ℕ) (old new : List Call) (bytes rest : List ℕ) → TakesAllBut name old bytes rest new → rest ≡ [] → FileTakes name old bytes new
-takes_all name old new bytes rest t none = grind (arith, common_steps)
-
 -- a slice of length 0 is empty
 pub empty_of : (rest : List ℕ) → true ≡ (length rest == 0) → rest ≡ []
 empty_of rest e = nil_from_length rest ((Decides-eqb (length rest) 0).0 (sym e))

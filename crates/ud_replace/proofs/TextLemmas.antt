@@ -4,14 +4,12 @@ use Rattle.std.specs.Prelude.{nat_lt, not}
 use Rattle.std.proofs.lemmas.Slice.Eq.{bytes_eq-Decides}
 use Rattle.ud_model.specs.declared.settings.Listing.TheVariants.{Off}
 use Rattle.ud_model.proofs.output.Changed.{changed}
-use Rattle.ud_io.specs.Watched.{AppendsAllOrPrefix}
-use Rattle.ud_model.specs.conditions.Conditions.{Rules}
 use Rattle.ud_model.specs.sections.Items.{Options, rules_of}
 use Rattle.ud_engine.specs.declared.fault.RunFault.{RunFault}
 use Rattle.ud_engine.specs.declared.fault.RunFault.TheVariants.{Text as TextFault, Section, Read as ReadFault, Write as WriteFault}
 use Rattle.ud_engine.specs.Finishing.{RunAnswers}
 use Rattle.ud_engine.specs.Runs.{ErrorMatchesStreams}
-use Rattle.ud_passes.specs.pruning.PrunedTexts.{pruned_text, edited_count}
+use Rattle.ud_passes.specs.pruning.PrunedTexts.{edited_count}
 use Rattle.ud_replace.specs.declared.error.ReplaceError.{ReplaceError}
 use Rattle.ud_replace.specs.declared.error.ReplaceError.TheVariants.{Text, OutOfMemory}
 use Rattle.ud_replace.specs.declared.text_plan.TextRun.{TextRun}
@@ -24,12 +22,6 @@ use Rattle.ud_model.specs.answer.Outcomes.{Outcome, HasOutcome}
 use Rattle.ud_model.proofs.sections.Soundness.{one_run}
 use Rattle.std.proofs.lemmas.Bool.{false≢true}
 use Rattle.ud_replace.proofs.StepLemmas.{works}
-
--- A run that ended without an error is the outcome of the text.
-pub runs_unpruned : (o : Options) (input text before left : List ℕ) (reader writer d : Bool) → input ≡ text →
-    ErrorMatchesStreams reader writer (Ok d) → (reader ≡ false → writer ≡ false → RunAnswers o input (Some before) (Some left) (Ok d)) →
-    RunsUnpruned o text before left d
-runs_unpruned o input text before left reader writer d e m ran = grind arith
 
 -- A run that ended at the text's fault, while its reader and its writer worked.
 faulty_run : (o : Options) (input text : List ℕ) (before left : Option (List ℕ)) (reader writer : Bool) (f : RunFault) → input ≡ text →
@@ -124,16 +116,6 @@ stays_itself o input text before left reader writer d spared unnumbered unlisted
           differs_is = differs ∙ neither a.differs (edited_count o.run.table (rules_of o.run.settings) a.output) u.unedited;
           edited_is = sym u.unedited;
         }
-
--- Bytes were written.
-pub all_written : (old new given : List ℕ) (failed : Bool) → failed ≡ false → AppendsAllOrPrefix failed (Some old) (Some new) given → new ≡ old ++ given
-all_written old new given failed unfailed written = grind arith
-
--- The text that the pass made of another one was appended.
-pub prunes_into : (o : Options) {text old new given buffer start : List ℕ} {n : ℕ} (rules : Rules) → rules ≡ rules_of o.settings →
-    new ≡ old ++ given → given ≡ buffer → start ≡ [] →
-    (buffer ≡ start ++ pruned_text o.table rules text) × (n ≡ edited_count o.table rules text) → PrunesInto o text old new n
-prunes_into o rules is written given none h = grind arith
 
 -- With pruning, the output of the run went through the pass.
 pub runs_pruned : (o : Options) {text start whole seen before left : List ℕ} {d : Bool} {n : ℕ} (ran : TextRun) → ran.differs ≡ (d || nat_lt 0 n) →

@@ -33,12 +33,9 @@ versions : (a b : FileVersion) → same_version a b ≡ true → a ≡ b
 unfolding version
 versions a b h = grind (arith, common_steps, and_parts, Decides-eqb, times, version)
 
-same_versions : (a : FileVersion) → same_version a a ≡ true
-same_versions a = grind (arith, and_from, Decides-eqb, same_times)
-
 -- the comparison of a look
 pub looks : (name : List ℕ) (stat seen : FileStat) (old new : List Call) (b : Bool) → b ≡ same_version seen.version stat.version →
     new ≡ looked name (Some seen) ∷ old → LooksAgain name stat old new b
 looks name stat seen old new true e is = seen_same (Some seen) (versions seen.version stat.version (sym e)) is
 looks name stat seen old new false e is =
-    seen_other (Some seen) (λ v. true≢false (sym (same_versions stat.version) ∙ ap (λ x. same_version x stat.version) (sym v) ∙ sym e)) is
+    seen_other (Some seen) (λ v. true≢false (sym (grind (arith, and_from, Decides-eqb, same_times)) ∙ ap (λ x. same_version x stat.version) (sym v) ∙ sym e)) is

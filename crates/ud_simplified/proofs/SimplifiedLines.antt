@@ -13,7 +13,7 @@ use Rattle.ud_model.specs.sections.Directives.{Content, cut_keyword, directive, 
 use Rattle.ud_model.specs.aids.DirectiveParts.{HasDirective}
 use Rattle.ud_model.specs.conditions.Table.{Argument}
 use Rattle.ud_model.specs.conditions.Conditions.{Rules}
-use Rattle.ud_simplified.specs.SimplifiedTexts.{keyword_end, condition_cells, same_if, has_condition, left_cells_of, left_line, may_change, line_by, simplified_line}
+use Rattle.ud_simplified.specs.SimplifiedTexts.{keyword_end, condition_cells, has_condition, left_cells_of, left_line, may_change, line_by, simplified_line}
 use Rattle.ud_model.specs.declared.kind.Kind.{Kind}
 use Rattle.ud_model.specs.declared.kind.Kind.TheVariants.{If, Elif}
 use Rattle.ud_model.specs.declared.kind.Mode.TheVariants.{C}

@@ -1,5 +1,5 @@
 -- Which files of a run are processed before it ends.
-use Rattle.std.proofs.Common.{◌≡◌, ℕ, ◌<◌, List, Bool, true, false, length, get_or, take, refl, sym, ap, ◌∙◌, subst, arith}
+use Rattle.std.proofs.Common.{◌≡◌, ℕ, List, Bool, true, false, refl, ap, ◌∙◌, arith}
 use Rattle.std.proofs.lemmas.List.{get_or-take, length-take}
 use Rattle.std.specs.List.{AllPairs}
 use Rattle.ud_io.specs.Streams.{Stream, Sends}
@@ -26,13 +26,8 @@ pub all_unfailed : {args : Arguments} {failed : Bool} {files done : List Found} 
 all_unfailed all_done off = refl
 all_unfailed (stopped n shows is) off = absurd cc
 
--- The first ones of some files are in their order.
-first_before : (n : ℕ) (files : List Found) → AllPairs IsBefore files →
-    AllPairs IsBefore (take n files)
-first_before n files h i j d below within = grind (arith, common_steps, length-take, get_or-take)
-
 -- The files that were processed are in their order.
 pub done_before : {args : Arguments} {failed : Bool} {files done : List Found} →
     IsDone args failed files done → AllPairs IsBefore files → AllPairs IsBefore done
 done_before all_done h = h
-done_before {files = files} (stopped n shows is) h = first_before n files h
+done_before {files = files} (stopped n shows is) h = grind (arith, common_steps, length-take, get_or-take, h)

@@ -4,7 +4,7 @@ use Rattle.std.proofs.lemmas.List.{take_more, get_or_default, map-id}
 use Rattle.std.proofs.lemmas.List.Elements.{All-weaker, All-contains, All-push, All-nil, Contains-push, Contains-get_or}
 use Rattle.std.proofs.lemmas.Cmp.{nat_list_cmp_total}
 use Rattle.std.specs.List.{All, Contains}
-use Rattle.std.specs.Ordering.{is_lt, nat_cmp, ordering_then, ordering_reverse}
+use Rattle.std.specs.Ordering.{is_lt, nat_cmp, ordering_then}
 use Rattle.std.specs.Cmp.Lexicographic.{slice_cmp}
 use Rattle.std.specs.Prelude.{string_bytes, not, IsSorted}
 use Rattle.std.specs.BTreeSet.{BTreeSet, contains}
@@ -20,9 +20,6 @@ less_is_none e = absurd cc
 greater_is_none : Greater ≡ Equal → ⊥
 greater_is_none e = absurd cc
 
-nat_same : (a b : ℕ) → nat_cmp a b ≡ Equal → a ≡ b
-nat_same a b e = grind arith
-
 both_equal : (r s : Ordering) → ordering_then r s ≡ Equal → (r ≡ Equal) × (s ≡ Equal)
 both_equal r s e = grind arith
 
@@ -31,13 +28,9 @@ same_lists [] [] e = refl
 same_lists [] (y ∷ ys) e = absurd (less_is_none e)
 same_lists (x ∷ xs) [] e = absurd (greater_is_none e)
 same_lists (x ∷ xs) (y ∷ ys) e = let both = both_equal (nat_cmp x y) (slice_cmp nat_cmp xs ys) e in
-    let head : x ≡ y = nat_same x y both.0 in
+    let head : x ≡ y = (grind (arith, both.0)) in
     let tail : xs ≡ ys = same_lists xs ys both.1 in
     cc
-
--- If a file isn't before another one, which isn't before a third, it isn't before that.
-not_before_then : (f g h : Found) → ¬ (IsBefore g f) → ¬ (IsBefore h g) → ¬ (IsBefore h f)
-not_before_then f g h a b c = grind (arith, common_steps, nat_list_cmp_total)
 
 -- If neither of two files is before the other, they have the same path.
 same_path : (f g : Found) → ¬ (IsBefore f g) → ¬ (IsBefore g f) → string_bytes f.path ≡ string_bytes g.path
@@ -51,7 +44,7 @@ sorted_before cmp all test sorted zero x within is = All-nil (λ f. ¬ (IsBefore
 sorted_before cmp all test sorted (suc n) x within is =
     subst (λ (fs : List Found). All (λ f. ¬ (IsBefore x f)) fs) (sym (ap (λ (i : ℕ). take i all) next_index ∙ take_more all n x (omega arith)))
     (All-push (λ f. ¬ (IsBefore x f)) (take n all) (get_or all n x)
-    (All-weaker (λ f. ¬ (IsBefore (get_or all n x) f)) (λ f. ¬ (IsBefore x f)) (λ f k. not_before_then f (get_or all n x) x k next) (take n all)
+    (All-weaker (λ f. ¬ (IsBefore (get_or all n x) f)) (λ f. ¬ (IsBefore x f)) (λ f k. (grind (arith, common_steps, nat_list_cmp_total, k, next))) (take n all)
     (sorted_before cmp all test sorted n (get_or all n x) (omega arith) (get_or_default all n x (get_or all n x) (omega arith)))) next)
   where
     next_index : suc n ≡ n + 1

@@ -18,7 +18,6 @@ use Rattle.std.specs.Prelude.{string_bytes, filter}
 use Rattle.ud_model.specs.conditions.Table.{Argument}
 use Rattle.ud_cond.specs.symbols.SymbolTable.{TableRepresents}
 use Rattle.ud_passes.specs.declared.remaining.listing.Listing.TheVariants.{Texts}
-use Rattle.ud_passes.specs.remaining.ListedNames.{names_listed}
 use Rattle.ud_passes.specs.remaining.Mentions.{Mention}
 use Rattle.ud_passes.specs.remaining.RemainingLists.{lines_for, named_count}
 use Rattle.ud_replace.specs.declared.stat.FileStat.{FileStat}

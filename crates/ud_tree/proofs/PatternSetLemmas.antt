@@ -1,5 +1,5 @@
 -- Sets: where they end, whatever byte is asked for.
-use Rattle.std.proofs.Common.{◌≡◌, ℕ, zero, suc, ◌≤◌, ◌||◌, List, [], ◌∷◌, length, Bool, true, false, cond, Option, Some, None, option_map, refl, ap, subst, arith}
+use Rattle.std.proofs.Common.{◌≡◌, ℕ, zero, suc, ◌≤◌, ◌||◌, List, [], ◌∷◌, length, Bool, true, false, cond, Option, Some, None, option_map, refl, ap, arith}
 use Rattle.std.proofs.lemmas.Grind.{common_steps}
 use Rattle.ud_tree.specs.Patterns.{SetTest, ends_set, item_high, item_after, within, set_within, set_from, opposite, negates, set_after}
 
@@ -62,9 +62,3 @@ within_end (suc n) first f c rest b few e = grind arith
 pub within_none : (n : ℕ) (first f : Bool) (b : ℕ) → set_within n first f [] b ≡ None
 within_none zero first f b = refl
 within_none (suc n) first f b = refl
-
--- The set that goes on is the one that the code reads.
-pub next_is : {whole : Option SetTest} {f : Bool} {after : List ℕ} (b : ℕ) (found : Bool) (rest : List ℕ) (now : Option SetTest) → whole ≡ now →
-    (m : ℕ) × (length after ≤ m) × (now ≡ set_within m false f after b) → found ≡ f → rest ≡ after →
-    (m : ℕ) × (length rest ≤ m) × (whole ≡ set_within m false found rest b)
-next_is b found rest now is h e r = grind arith

@@ -5,8 +5,6 @@ use Rattle.std.proofs.lemmas.Option.{slice_get_within, slice_get-get_or}
 use Rattle.std.specs.List.{slice_get, All, AllPairs, Contains}
 use Rattle.std.specs.Ordering.{is_lt, nat_cmp}
 use Rattle.std.specs.Cmp.Lexicographic.{slice_cmp}
-use Rattle.std.specs.declared.cmp.Ordering.{Ordering}
-use Rattle.std.specs.declared.cmp.Ordering.TheVariants.{Less}
 use Rattle.std.proofs.lemmas.List.{get_or_default}
 use Rattle.std.proofs.lemmas.List.Elements.{All-weaker, All-contains_itself, All-contains, All-push, Contains-push, Contains-append_left}
 use Rattle.std.proofs.lemmas.List.Quantifiers.{all_pairs_push}
@@ -95,14 +93,11 @@ from_more found all files next inside h k = All-weaker (OldOrThis found files) (
     each f (inl old) = All-contains (Contains all) files f h old
     each f (inr this) = subst (λ (g : Found). Contains all g) (sym this) inside
 
-is_less : (r : Ordering) → is_lt r ≡ true → r ≡ Less
-is_less r e = grind arith
-
 -- A file after the element that `last` returns comes after all.
 pub after_got : (files : List Found) (last found : Found) (r : Bool) → AllPairs IsBefore files → Some last ≡ slice_get files (length files - 1) →
     r ≡ is_lt (slice_cmp nat_cmp (string_bytes last.path) (string_bytes found.path)) → r ≡ true → All (λ f. IsBefore f found) files
 after_got files last found r ascend got test holds =
-    grind (arith, slice_get_within, slice_get-get_or, after_last, is_less)
+    grind (arith, slice_get_within, slice_get-get_or, after_last)
 
 -- A file that isn't after the element that `last` returns.
 pub before_got : (files : List Found) (last found : Found) (r : Bool) → Some last ≡ slice_get files (length files - 1) →
@@ -125,10 +120,6 @@ pub record PickedSome (seen : BTreeSet Key) (files found yielded : List Found) :
   pub from : All (Contains found) files
   pub within : All (Contains yielded) files
   pub kept : All (IsKept files) yielded
-
--- None was yet.
-pub picked_begun : (seen : BTreeSet Key) (files found : List Found) → seen.keys ≡ [] → files ≡ [] → PickedSome seen files found []
-picked_begun seen files found none empty = grind arith
 
 -- One file more was looked at.
 pub picked_next : {seen new : BTreeSet Key} {files after found yielded : List Found} (x : Found) →

@@ -104,15 +104,11 @@ finds_at_once {args = args} {text = text} {old = old} wanted lost adds removes =
 pub found_in : {args : Arguments} {text seen : List ℕ} {old new : ReportState} → seen ≡ text → FindsNames args seen old new → FindsAll args (text ∷ []) [] old new
 found_in {args = args} {old = old} {new = new} e h = subst (λ (t : List ℕ). FindsAll args (t ∷ []) [] old new) e (finds_text h)
 
-adds_both : {table : List Argument} {args : Arguments} {s t u : RemainingState} (xs ys : List Output) →
-    AddsOutputs table args xs s t → AddsOutputs table args ys t u → AddsOutputs table args (xs ++ ys) s u
-adds_both xs ys h k = grind (arith, common_steps, flat_map-append, sum_by-append)
-
 -- The conditions of more outputs were added.
 pub finds_then : {args : Arguments} {a b c : ReportState} (ts us : List (List ℕ)) (xs ys : List Output) → FindsAll args ts xs a b → FindsAll args us ys b c → FindsAll args (ts ++ us) (xs ++ ys) a c
 finds_then {args = args} {a = a} ts us xs ys h k = record {
   kept = λ lost. k.kept (h.kept lost);
-  added = λ whole wanted calls r. adds_both xs ys (h.added (false_before k.kept whole) wanted calls r) (k.added whole wanted calls r);
+  added = λ whole wanted calls r. (grind (arith, common_steps, flat_map-append, sum_by-append, h.added (false_before k.kept whole) wanted calls r, k.added whole wanted calls r));
   same = λ off. k.same off ∙ h.same off;
   unnamed = λ whole calls r.
       k.unnamed whole calls r ∙ ap (unnamed_in calls args us) (h.unnamed (false_before k.kept whole) calls r)

@@ -16,7 +16,7 @@ use Rattle.ud_tree.specs.declared.arguments.Arguments.{Arguments}
 use Rattle.ud_tree.specs.declared.arguments.Task.{Task}
 use Rattle.ud_tree.specs.declared.arguments.Task.TheVariants.{Names}
 use Rattle.ud_tree.specs.Fates.{fate_of, is_changed, is_same, is_faulty, no_edits}
-use Rattle.ud_tree.specs.Runs.{FileResult, Unshown, EachFile, no_file, then_file, changed_in, faulty_in, edited_in, removed_in, shown_of, told_of, Counted, names_of, nothing_listed, listed_of, outputs_of, texts_of}
+use Rattle.ud_tree.specs.Runs.{FileResult, Unshown, EachFile, no_file, then_file, changed_in, faulty_in, edited_in, removed_in, told_of, Counted, names_of, nothing_listed, listed_of, outputs_of, texts_of}
 use Rattle.ud_tree.specs.Remainders.{FindsAll, listing_of, list_of, count_of, defined_of, unnamed_in}
 use Rattle.ud_tree.specs.Unnamed.{Seeks}
 use Rattle.ud_tree.specs.Others.{FindsOthers}
@@ -50,14 +50,6 @@ pub count_push : (p : Fate → Bool) (results : List FileResult) (r : FileResult
     count_by (λ s. p (fate_of s.update)) (results ++ r ∷ []) ≡ count_by (λ s. p (fate_of s.update)) results + cond (p (fate_of r.update)) 1 0
 count_push p results r = sum_by_push (λ (s : FileResult). cond (p (fate_of s.update)) 1 0) results r
 
--- The diff of one file more follows.
-shown_push : (results : List FileResult) (r : FileResult) → shown_of (results ++ r ∷ []) ≡ shown_of results ++ r.shown
-shown_push results r = grind (arith, common_steps, flat_map-append)
-
--- The message of one file more follows.
-told_push : (results : List FileResult) (r : FileResult) → told_of (results ++ r ∷ []) ≡ told_of results ++ r.told
-told_push results r = grind (arith, common_steps, flat_map-append)
-
 -- No file has been processed yet.
 counted_none : {P : List ℕ → List Call → List Call → FileResult → Type 0} {old : List Call} (counts : Counts) →
     counts.changed ≡ 0 → counts.unchanged ≡ 0 → counts.faulty ≡ 0 → counts.edits ≡ no_edits → Counted P old [] old counts [] []
@@ -76,11 +68,6 @@ counted_none counts a b c d =
       told_is = refl;
     }
 
--- The path of a file more follows those of the files before.
-pub names_push : (files : List Found) (i : ℕ) (f : Found) → i < length files → f ≡ get_or files i f →
-    names_of (take (i + 1) files) ≡ names_of (take i files) ++ string_bytes f.path ∷ []
-names_push files i f within is = grind (arith, common_steps, take_more, map-append)
-
 -- The edits of one file more are counted.
 edits_push : (s t b n a : ℕ) → t ≡ s + n → (s < 2 ^ 64 → b ≡ s) → (b + n < 2 ^ 64 → a ≡ b + n) → t < 2 ^ 64 → a ≡ t
 edits_push s t b n a e f g small = grind arith
@@ -97,7 +84,7 @@ counted_push : {P : List ℕ → List Call → List Call → FileResult → Type
     Counted P old (names_of (take (i + 1) files)) new after (shown ++ r.shown) (told ++ r.told)
 counted_push {P = P} {old = old} {mid = mid} {new = new} {before = before} {shown = shown} files i f name r after within is named h p t a b c d e =
     let named_names : names_of (take i files) ++ name ∷ [] ≡ names_of (take (i + 1) files) =
-    ap (λ (n : List ℕ). names_of (take i files) ++ n ∷ []) named ∙ sym (names_push files i f within is) in
+    ap (λ (n : List ℕ). names_of (take i files) ++ n ∷ []) named ∙ sym (grind (arith, common_steps, take_more, map-append, within, is)) in
     let each : EachFile P old (names_of (take i files) ++ name ∷ []) new (h.results ++ r ∷ []) = then_file h.each p t in
     let k = h.counts_are in
     record {
@@ -115,17 +102,13 @@ counted_push {P = P} {old = old} {mid = mid} {new = new} {before = before} {show
             edits_push (removed_in h.results) (removed_in (h.results ++ r ∷ [])) before.edits.lines r.edits.lines
             after.edits.lines (sum_by_push (λ (s : FileResult). s.edits.lines) h.results r) k.removed e;
       };
-      shown_is = ap (λ (x : List ℕ). x ++ r.shown) h.shown_is ∙ sym (shown_push h.results r);
-      told_is = ap (λ (x : List ℕ). x ++ r.told) h.told_is ∙ sym (told_push h.results r);
+      shown_is = ap (λ (x : List ℕ). x ++ r.shown) h.shown_is ∙ sym (grind (arith, common_steps, flat_map-append));
+      told_is = ap (λ (x : List ℕ). x ++ r.told) h.told_is ∙ sym (grind (arith, common_steps, flat_map-append));
     }
 
 -- Nothing was added.
 pub adds_none : (lists : NameLists) → Adds lists lists nothing_listed
 adds_none lists = grind (arith, common_steps)
-
--- One file more was listed, and its names and conditions were added.
-adds_push : {old mid new : NameLists} (results : List FileResult) (r : FileResult) → Adds old mid (listed_of results) → Adds mid new r.listed → Adds old new (listed_of (results ++ r ∷ []))
-adds_push results r h k = grind (arith, common_steps, flat_map-append, sum_by_push)
 
 -- No file has been processed, and nothing was written.
 pub writes_none : {args : Arguments} {P : List ℕ → List Call → List Call → FileResult → Type 0} {m : Stage} (lists : NameLists) (counts : Counts) →
@@ -142,17 +125,10 @@ writes_none {m = m} lists counts a b c d =
       finds = finds_none refl (λ lost. lost) refl;
     }
 
--- The conditions of the output for one file more were added, and names were looked for in its text.
-outputs_push : (results : List FileResult) (r : FileResult) → outputs_of results ++ r.outputs ≡ outputs_of (results ++ r ∷ [])
-outputs_push results r = grind (arith, common_steps, flat_map-append)
-
-texts_push : (results : List FileResult) (r : FileResult) → texts_of results ++ r.texts ≡ texts_of (results ++ r ∷ [])
-texts_push results r = grind (arith, common_steps, flat_map-append)
-
 finds_push : {args : Arguments} {a b c : ReportState} (results : List FileResult) (r : FileResult) → FindsAll args (texts_of results) (outputs_of results) a b → FindsAll args r.texts r.outputs b c →
     FindsAll args (texts_of (results ++ r ∷ [])) (outputs_of (results ++ r ∷ [])) a c
 finds_push results r h k =
-    finds_same (texts_push results r) (outputs_push results r) (finds_then (texts_of results) r.texts (outputs_of results) r.outputs h k)
+    finds_same (grind (arith, common_steps, flat_map-append)) (grind (arith, common_steps, flat_map-append)) (finds_then (texts_of results) r.texts (outputs_of results) r.outputs h k)
 
 -- One file more is processed, and what is shown and told of it was written, after the number of
 -- files was shown.
@@ -178,7 +154,7 @@ writes_push files i f name update edits fate after within is named h progress sc
       counted = counted_push files i f name result after within is named h.counted (w.does t.message) t.is_of (rw e at a) (rw e at b) (rw e at c) d l;
       sent = sends_then h.sent w.sent;
       writes = writes_then h.writes (writes_then (writes_then progress.writes (writes_kept screen)) t.tells.writes);
-      adds = adds_push h.counted.results result h.adds p.adds;
+      adds = grind (arith, common_steps, flat_map-append, sum_by_push, h.adds, p.adds);
       finds = finds_push h.counted.results result h.finds
           (finds_then [] w.texts [] w.outputs (finds_kept progress.keeps)
           (finds_same (append-nil w.texts) (append-nil w.outputs) (finds_then w.texts [] w.outputs [] w.finds (finds_kept t.tells.keeps))));

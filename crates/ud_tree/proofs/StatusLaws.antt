@@ -1,18 +1,9 @@
 -- A run whose status isn't 2: nothing failed.
 use Rattle.std.proofs.Common.{◌≡◌, ℕ, ◌+◌, ◌<◌, ◌≤◌, ◌^◌, List, [], length, Bool, true, false, inl, inr, refl, arith}
 use Rattle.std.proofs.lemmas.Grind.{common_steps}
-use Rattle.ud_model.specs.declared.settings.ExitMode.{ExitMode}
-use Rattle.ud_tree.specs.declared.arguments.Task.{Task}
 use Rattle.ud_tree.specs.Messages.{output_messages}
-use Rattle.ud_tree.specs.Statuses.{tree_status}
 use Rattle.ud_tree.proofs.DoneLemmas.{all_unfailed}
-use Rattle.ud_tree.specs.Runs.{changed_in}
 use Rattle.ud_tree.specs.TreeRuns.{Run, IsRun, IsClean}
-
--- The status is 2 if there is a fault, or if the error stream has failed.
-none_by_status : (task : Task) (mode : ExitMode) (unheard : Bool) (faults changed status : ℕ) →
-    status ≡ tree_status task mode unheard faults changed → ¬ (status ≡ 2) → (faults ≡ 0) × (unheard ≡ false)
-none_by_status task mode unheard faults changed status is other = grind arith
 
 -- There is a message if the output failed.
 unfailed : (lost failed : Bool) → length (output_messages lost failed) ≡ 0 → failed ≡ false
@@ -37,7 +28,7 @@ run_clean run other few (inr h) = let e = h.ends in
     let s = e.has_status in
     let failed = run.ending.streams.failed in
     let none : (e.tally.faults ≡ 0) × (run.ending.streams.unheard ≡ false) =
-    none_by_status run.args.task run.args.plan.run.settings.exit_mode run.ending.streams.unheard e.tally.faults (changed_in e.does.results) run.ending.status s.status_is other in
+    (grind (arith, s.status_is, other)) in
     let most : length (output_messages e.is_lost failed) ≤ 2 = at_most_two e.is_lost failed in
     let sum = s.faults_are (omega (arith, few, most, s.reported, none.0)) in
     let works : failed ≡ false = unfailed e.is_lost failed (omega (arith, sum, none.0)) in

@@ -1,5 +1,5 @@
 -- Lines from their parts.
-use Rattle.std.proofs.Common.{◌≡◌, ℕ, ◌+◌, ◌<◌, List, [], ◌∷◌, ◌++◌, length, get_or, take, map, Bool, true, false, cond, None, Some, refl, sym, ap, ◌∙◌, subst, append_assoc, append-nil, codes, decimal, ◌==◌, ◌&&◌, eqb-true, arith}
+use Rattle.std.proofs.Common.{◌≡◌, ℕ, ◌+◌, ◌<◌, List, [], ◌∷◌, ◌++◌, length, get_or, take, map, Bool, true, false, None, Some, refl, sym, ap, ◌∙◌, subst, append_assoc, append-nil, codes, decimal, ◌&&◌, arith}
 use Rattle.std.proofs.lemmas.Grind.{common_steps, flat_map-append}
 use Rattle.std.proofs.lemmas.List.{take_more, map-append, length-map}
 use Rattle.std.specs.List.{flat_map, slice_get}
@@ -11,7 +11,7 @@ use Rattle.ud_tree.specs.declared.walk.Found.{Found}
 use Rattle.ud_tree.specs.Runs.{names_of}
 use Rattle.ud_tree.specs.declared.arguments.Task.TheVariants.{Names}
 use Rattle.ud_io.specs.Streams.{Stream, Sends}
-use Rattle.ud_tree.specs.Summaries.{line_of, changes_line, files_text, hidden_text, summary, remaining_text, remaining_line, removed_line, removed_text, edited_line, edited_text, defined_line, defined_text, unnamed_line, others_line, others_text, TellsEnd}
+use Rattle.ud_tree.specs.Summaries.{line_of, changes_line, files_text, hidden_text, summary, remaining_text, remaining_line, removed_line, removed_text, edited_line, edited_text, defined_line, unnamed_line, others_line, others_text, TellsEnd}
 use Rattle.ud_tree.specs.Visible.{visible}
 use Rattle.ud_io.proofs.StreamLemmas.{sends_none, sends_same, sends_then}
 
@@ -43,10 +43,6 @@ and_false : (b : Bool) → (b && false) ≡ false
 and_false true = refl
 and_false false = refl
 
--- No condition names a symbol, and they aren't listed.
-pub remaining_none : (listed : Bool) (count : ℕ) → count ≡ 0 → listed ≡ false → remaining_line listed count ≡ []
-remaining_none listed count p q = grind arith
-
 -- The line of conditions that are listed.
 pub remaining_listed : (listed : Bool) (count : ℕ) (text : List ℕ) → listed ≡ true → text ≡ remaining_text count → line_of ((decimal count ++ text) ++ []) ≡ remaining_line listed count
 remaining_listed listed count text on p = grind (arith, common_steps, and_false)
@@ -55,10 +51,6 @@ remaining_listed listed count text on p = grind (arith, common_steps, and_false)
 pub remaining_told : (listed : Bool) (count : ℕ) (text : List ℕ) → listed ≡ false → ¬ (count ≡ 0) → text ≡ remaining_text count →
     line_of ((decimal count ++ text) ++ codes "; -r lists them") ≡ remaining_line listed count
 remaining_told listed count text off some p = grind (arith, common_steps)
-
--- No line was removed.
-pub removed_none : (count : ℕ) → count ≡ 0 → removed_line count ≡ []
-removed_none count none = grind arith
 
 -- The line with the number of removed lines.
 pub removed_told : (count : ℕ) (text : List ℕ) → ¬ (count ≡ 0) → text ≡ removed_text count → line_of ((decimal count ++ text) ++ []) ≡ removed_line count
@@ -71,14 +63,6 @@ edited_none prunes count off = subst (λ (b : Bool). edited_line b count ≡ [])
 -- The line with the number of edited conditions.
 pub edited_told : (prunes : Bool) (count : ℕ) (text : List ℕ) → prunes ≡ true → text ≡ edited_text count → line_of ((decimal count ++ text) ++ []) ≡ edited_line prunes count
 edited_told prunes count text on q = grind (arith, common_steps)
-
--- No line defines a symbol.
-pub defined_none : (listed : Bool) (count : ℕ) → count ≡ 0 → defined_line listed count ≡ []
-defined_none listed count none = grind arith
-
--- The line with the number of lines that define a symbol.
-pub defined_told : (listed : Bool) (count : ℕ) (text : List ℕ) → ¬ (count ≡ 0) → text ≡ defined_text listed count → line_of ((decimal count ++ text) ++ []) ≡ defined_line listed count
-defined_told listed count text some q = grind (arith, common_steps)
 
 -- The bytes for one element more follow.
 flat_push : {A : Type 0} (f : A → List ℕ) (g : List ℕ → List ℕ) (xs : List A) (i : ℕ) (x : A) → i < length xs → x ≡ get_or xs i x →

@@ -1,5 +1,5 @@
 -- The calls of a whole run: what they touch, the files after each of them, and the diffs.
-use Rattle.std.proofs.Common.{◌≡◌, ◌⊎◌, inl, inr, ℕ, ◌<◌, List, [], ◌∷◌, ◌++◌, length, get_or, map, Bool, true, false, Option, Some, Result, refl, sym, ◌∙◌, subst, true≢false, arith, length-append}
+use Rattle.std.proofs.Common.{◌≡◌, ◌⊎◌, inl, inr, ℕ, ◌<◌, List, [], ◌∷◌, ◌++◌, length, get_or, map, Bool, true, false, Option, Some, Result, sym, ◌∙◌, subst, true≢false, arith, length-append}
 use Rattle.std.proofs.lemmas.List.{get_or_append_left, get_or-append_right, get_or-map, length-map}
 use Rattle.std.proofs.lemmas.List.Elements.{Contains-append_left, Contains-push}
 use Rattle.std.specs.List.{Contains, AllPairs}
@@ -65,15 +65,11 @@ lists_touch : {plan : TextPlan} {lists : Bool} {old : List Call} {names : List (
     EachCall TouchesNothing old new
 lists_touch h = reads_touch (λ name old new result k. read_touches k.does.reads) h
 
-reads_by : (args : Arguments) (t : Task) → args.task ≡ t → ¬ (t ≡ Replace) → {old : List Call} {names : List (List ℕ)} {new : List Call} {results : List FileResult} →
-    EachFile (DoesBy t args) old names new results → EachCall TouchesNothing old new
-reads_by args t is other h = grind (arith, shows_touch, lists_touch)
-
 pub run_reads : (run : Run) → ¬ (run.args.task ≡ Replace) → IsRun run →
     EachCall TouchesNothing run.old run.new
 run_reads run other (inl h) = each_at h.walk.are (walk_touches h.walk.calls run.old)
 run_reads run other (inr h) = each_then (each_at h.is_walk.are (walk_touches h.is_walk.calls run.old))
-    (each_then (reads_by run.args run.args.task refl other h.ends.does.each) h.ends.seeks.touches)
+    (each_then (grind (arith, shows_touch, lists_touch, other, h.ends.does.each)) h.ends.seeks.touches)
 
 -- Replacing a file touches no file but the new one, up to the rename.
 replace_touches : {o : TextOptions} {plan : TextPlan} {name text : List ℕ} {old new : List Call} {update : Result Update ReplaceError} → IsPlanned plan o →
@@ -91,18 +87,13 @@ replaces_touch p (then_file h k t) = each_then (replaces_touch p h) (replace_tou
 nothing_touched : {o : TextOptions} {old new : List Call} → EachCall TouchesNothing old new → EachCall (TouchesFreshOrNone o) old new
 nothing_touched h = each_weaker (λ c earlier t. inl t) h
 
-replaces_by : {o : TextOptions} (args : Arguments) (t : Task) → IsPlanned args.plan o → args.write_into ≡ false → {old : List Call} {names : List (List ℕ)} {new : List Call}
-    {results : List FileResult} → EachFile (DoesBy t args) old names new results → EachCall (TouchesFreshOrNone o) old new
-replaces_by args t p into h =
-    grind (arith, replaces_touch, nothing_touched, shows_touch, lists_touch)
-
 pub run_renames : (o : TextOptions) (run : Run) → IsPlanned run.args.plan o →
     run.args.write_into ≡ false → IsRun run → EachCall (TouchesFreshOrNone o) run.old run.new
 run_renames o run p into (inl h) =
     nothing_touched (each_at h.walk.are (walk_touches h.walk.calls run.old))
 run_renames o run p into (inr h) =
     each_then (nothing_touched (each_at h.is_walk.are (walk_touches h.is_walk.calls run.old)))
-    (each_then (replaces_by run.args run.args.task p into h.ends.does.each) (nothing_touched h.ends.seeks.touches))
+    (each_then (grind (arith, replaces_touch, nothing_touched, shows_touch, lists_touch, p, into, h.ends.does.each)) (nothing_touched h.ends.seeks.touches))
 
 -- Calls that touch nothing leave each file as it is.
 same_after : (c : Call) (f : Files) (n : List ℕ) → ¬ (touches c n ≡ true) → after c f n ≡ f n

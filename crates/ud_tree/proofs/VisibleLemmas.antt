@@ -1,8 +1,7 @@
 -- Messages with visible control bytes, and messages that are written at once.
-use Rattle.std.proofs.Common.{◌≡◌, ℕ, List, [], ◌∷◌, ◌++◌, Bool, false, Option, Some, sym, ap, ◌∙◌, refl, arith}
+use Rattle.std.proofs.Common.{◌≡◌, ℕ, List, [], ◌∷◌, ◌++◌, false, Some, sym, ap, ◌∙◌, refl, arith}
 use Rattle.std.specs.List.{flat_map}
 use Rattle.std.proofs.lemmas.Grind.{flat_map-append}
-use Rattle.ud_io.specs.Watched.{AppendsAllOrPrefix}
 use Rattle.unifdef.specs.RunMessages.{fault_message}
 use Rattle.ud_engine.specs.declared.fault.RunFault.{RunFault}
 use Rattle.ud_tree.specs.Reports.{ReportState, Tells, TellsOf}
@@ -22,13 +21,9 @@ pub visible_sent : {a b : Stream} (text : List ℕ) → Sends a b (flat_map visi
 unfolding visible
 visible_sent text h = h
 
--- All is appended to an empty buffer, if no write fails.
-appended_all : (failed : Bool) (o p : Option (List ℕ)) {x y : List ℕ} → AppendsAllOrPrefix failed o p x → failed ≡ false → o ≡ Some [] → p ≡ Some y → y ≡ x
-appended_all failed o p h works first now = grind arith
-
 -- The contents are all that was written to an empty buffer.
 pub written_all : {s t : Stream} {x y : List ℕ} → Sends s t x → s.failed ≡ false → t.failed ≡ false → s.contents ≡ Some [] → t.contents ≡ Some y → y ≡ x
-written_all {s = s} {t = t} h was works first now = appended_all t.failed s.contents t.contents (sent_as was refl h) works first now
+written_all {s = s} {t = t} h was works first now = grind (arith, sent_as was refl h, works, first, now)
 
 -- The message of a fault of a text was written, with the visible name.
 pub text_visible : {a b : ReportState} (name shown : List ℕ) (f : RunFault) → shown ≡ visible name → Tells a b (fault_message shown f) → TellsOf (IsTextMessage name f) a b

@@ -3,7 +3,6 @@ use Rattle.std.proofs.Common.{◌≡◌, ◌⊎◌, inl, inr, ℕ, List, [], ◌
 use Rattle.std.proofs.lemmas.List.{map-append}
 use Rattle.std.proofs.lemmas.List.Elements.{All-weaker, All-contains, All-contains_itself, All-push, Contains-append_left, Contains-append_right}
 use Rattle.std.specs.List.{All, Contains}
-use Rattle.std.specs.Prelude.{string_bytes}
 use Rattle.ud_replace.specs.declared.node.Node.{Node}
 use Rattle.ud_replace.specs.declared.node.NodeKind.TheVariants.{File}
 use Rattle.ud_replace.specs.declared.node.Lookup.TheVariants.{Present}
@@ -49,11 +48,6 @@ finds_then {old = old} {a = a} {b = b} {c = c} h k = record {
   each = All-weaker (Origin k.calls b) (Origin (k.calls ++ h.calls) a) (later_origin h.calls k.calls a b h.each) c k.each;
 }
 
--- The call that found a file met it.
-met_now : (node : Node) (f : Found) (path : List ℕ) → node.kind ≡ File → string_bytes f.path ≡ path → f.id ≡ node.id →
-    WasMet (met path (Present node) ∷ []) f
-met_now node f path file named same = grind arith
-
 -- A file was found and added.
 pub finds_file : {old new : List Call} {before after : List Found} (path : List ℕ) (node : Node) → new ≡ walked (met path (Present node)) ∷ old →
     node.kind ≡ File → Adds before path node.id after → Finds old new before after
@@ -62,7 +56,7 @@ finds_file {before = before} {after = after} path node is file (adds_one f named
   calls = met path (Present node) ∷ [];
   are = is;
   each = subst (All here) (sym added) (All-push here before f
-      (same_origin (met path (Present node) ∷ []) before) (inr (met_now node f path file named id)));
+      (same_origin (met path (Present node) ∷ []) before) (inr (grind (arith, file, named, id))));
 }
   where
     here : Found → Type 0

@@ -237,11 +237,6 @@ name_listed f xs i x name within is named =
     subst (λ (y : List ℕ). Contains (map f xs) y) (get_or-map f xs i x (f x) within ∙ ap f (sym is) ∙ sym named)
     (Contains-get_or (map f xs) i (f x) (subst (λ (n : ℕ). i < n) (sym (length-map xs f)) within))
 
--- The names of an equal list were listed.
-pub names_same : {X : Type 0} (f : X → List ℕ) (xs ys : List X) {directory : List ℕ} {calls calls' : List Call} {r r' : ReportState} → ys ≡ xs → ReportsNames directory (map f xs) calls calls' r r' →
-    ReportsNames directory (map f ys) calls calls' r r'
-names_same f xs ys is h = grind arith
-
 -- A name of a directory that was listed vanished, and nothing was written.
 walk_gone : {directory name : List ℕ} {names : List (List ℕ)} {calls mid calls' : List Call} {a b : ReportState} → ReportsNames directory names calls mid a b → Contains names name →
     calls' ≡ walked (met (directory ++ name) Absent) ∷ mid → ReportsNames directory names calls calls' a b

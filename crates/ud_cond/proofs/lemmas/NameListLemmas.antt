@@ -1,11 +1,10 @@
 -- A text that is an expression has the names of its tree.
 use Rattle.std.proofs.Common.{◌≡◌, ℕ, List, [], ◌∷◌, ◌++◌, append_assoc, append-nil, true, false, Option, Some, None, is_some, refl, ◌∙◌, ap, arith}
 use Rattle.std.specs.Option.{option_to_list}
-use Rattle.ud_model.specs.conditions.Tokens.{Token, at_end, unreadable, found, next_token}
+use Rattle.ud_model.specs.conditions.Tokens.{Token, found, next_token}
 use Rattle.ud_model.specs.conditions.Expressions.{Expression, constant, named, is_defined, unary, binary, parens, spelling}
-use Rattle.ud_model.specs.conditions.Parsing.{tokens_of, reads, needs, Meaning, expression_of}
+use Rattle.ud_model.specs.conditions.Parsing.{tokens_of, expression_of}
 use Rattle.ud_model.specs.conditions.Names.{names_in, names_in_tree}
-use Rattle.ud_model.proofs.conditions.Readings.{reads_meaning}
 use Rattle.ud_model.proofs.conditions.TokenLemmas.{tokens_of_only}
 use Rattle.ud_model.proofs.conditions.OneExpression.{expression_is}
 use Rattle.ud_cond.specs.list_names.NameLists.{name_in_token, names_in_tokens, names_in_all, names_in_text}

@@ -1,5 +1,5 @@
 -- Further symbols: a table with more entries leaves a known value as it is, or makes it unknown.
-use Rattle.std.proofs.Common.{◌≡◌, ◌≢◌, ℕ, List, Bool, true, false, not, ◌&&◌, ◌||◌, Option, Some, None, if◌then◌else◌, ◌⊎◌, inl, inr, ℤ, pos, refl, sym, ◌∙◌, ap, ap₂, subst, arith}
+use Rattle.std.proofs.Common.{◌≡◌, ◌≢◌, ℕ, List, Bool, true, false, not, ◌&&◌, ◌||◌, Option, Some, None, ◌⊎◌, inl, inr, ℤ, pos, refl, sym, ◌∙◌, ap, ap₂, subst, arith}
 use Rattle.std.proofs.lemmas.Option.{none-some}
 use Rattle.ud_model.specs.conditions.Table.{Argument, Entry, entry_in}
 use Rattle.ud_model.specs.conditions.Symbols.{defined_text, text_in, ResolvesTo, at_text, by_name, resolve}

@@ -5,7 +5,7 @@
 use Rattle.std.proofs.Common.{◌≡◌, Bool, true, false, if◌then◌else◌, refl, ◌⊎◌, ◌↔◌, pos, List, arith}
 use Rattle.ud_model.specs.conditions.Table.{Argument}
 use Rattle.ud_model.specs.conditions.Expressions.{Expression, constant, named, is_defined, unary, binary, parens}
-use Rattle.ud_model.specs.conditions.Conditions.{Rules, negate}
+use Rattle.ud_model.specs.conditions.Conditions.{Rules}
 use Rattle.ud_model.specs.conditions.Values.{truth}
 use Rattle.ud_model.specs.laws.CValues.{Number, signed, IsTruth, IsZero}
 use Rattle.ud_model.specs.aids.Residuals.{Residual, is_unit, settled, joined_if, joined, negated, alone, residual}

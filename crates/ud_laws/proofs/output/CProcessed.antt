@@ -15,7 +15,7 @@ use Rattle.ud_model.specs.aids.SoFar.{verdict_so_far, nodes_so_far, groups_so_fa
 use Rattle.ud_model.specs.sections.Items.{Options}
 use Rattle.ud_laws.specs.output.CSelection.{MayBe}
 use Rattle.ud_model.specs.laws.WrittenConditions.{condition_in, Condition, condition_with, condition_on}
-use Rattle.ud_laws.specs.output.Processing.{expression_written, Preprocessor, over_readings, DecidesAsC, AgreesAs, NoneTrue, first_false, elif_false}
+use Rattle.ud_laws.specs.output.Processing.{Preprocessor, over_readings, DecidesAsC, AgreesAs, NoneTrue, first_false, elif_false}
 use Rattle.ud_laws.proofs.conditions.SpacedTexts.{condition_spaced}
 use Rattle.ud_model.proofs.output.Each.{Pairwise, pairwise_parts}
 use Rattle.ud_laws.proofs.output.CConditions.{item_fits}

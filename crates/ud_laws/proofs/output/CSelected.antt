@@ -23,7 +23,7 @@ use Rattle.ud_laws.proofs.output.CConditions.{item_fits}
 use Rattle.ud_model.proofs.output.Changed.{as_many_nodes, as_many_groups, as_many_elifs}
 use Rattle.ud_model.proofs.sections.Growth.{Adds}
 use Rattle.ud_model.proofs.sections.Soundness.{reading_of-item_of, sound_lines}
-use Rattle.ud_model.proofs.sections.Stages.{Stage, stage, verdict_at, verdict_by_stage}
+use Rattle.ud_model.proofs.sections.Stages.{verdict_by_stage}
 use Rattle.ud_model.proofs.sections.Stays.{marks_more, length_marks, marks_so_far_same}
 use Rattle.ud_model.proofs.sections.Unique as Trees
 

@@ -1,11 +1,10 @@
 -- The list of names, stated for arguments, an input and the answer to them.
 use Rattle.std.proofs.Common.{◌≡◌, ◌≢◌, ℕ, List, None, refl, subst, arith}
 use Rattle.ud_model.specs.sections.Items.{Options}
-use Rattle.ud_model.specs.answer.CommandLine.{usage_fault, options_of, display_name}
-use Rattle.ud_model.specs.answer.Answer.{Answer, IsAnswer, refused, ran, run_answer}
-use Rattle.ud_model.specs.answer.Outcomes.{Outcome, HasOutcome}
+use Rattle.ud_model.specs.answer.CommandLine.{usage_fault, options_of}
+use Rattle.ud_model.specs.answer.Answer.{Answer, IsAnswer, refused, ran}
+use Rattle.ud_model.specs.answer.Outcomes.{HasOutcome}
 use Rattle.ud_laws.specs.output.ListedNames.{with_listing, AgreeOnListed}
-use Rattle.ud_model.specs.declared.settings.Settings.{Settings}
 use Rattle.ud_laws.proofs.output.AnswerLaws.{faultless}
 use Rattle.ud_laws.proofs.output.ListComplete.{list_complete}
 

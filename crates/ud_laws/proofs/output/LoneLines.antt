@@ -1,7 +1,6 @@
 -- Lone lines: a blank line and a `#line`, inserted between logical lines, are scanned by
 -- themselves, and end between lines.
-use Rattle.std.proofs.Common.{◌≡◌, ◌≢◌, ℕ, ◌+◌, ◌-◌, ◌^◌, ◌%◌, ◌<◌, List, [], ◌∷◌, ◌++◌, length, take, map, Bool, true, false, not, ◌&&◌, ◌==◌, nat_eq, if◌then◌else◌, inl, inr, codes, decimal, refl, sym, ◌∙◌, ap, subst, append_assoc, append-nil, length-append, arith}
-use Rattle.std.specs.List.{ends_with}
+use Rattle.std.proofs.Common.{◌≡◌, ◌≢◌, ℕ, ◌+◌, ◌-◌, ◌^◌, ◌%◌, ◌<◌, List, [], ◌∷◌, ◌++◌, length, take, map, Bool, true, false, ◌==◌, if◌then◌else◌, inl, inr, codes, decimal, refl, sym, ◌∙◌, ap, subst, append_assoc, append-nil, length-append, arith}
 use Rattle.std.proofs.lemmas.Bool.Decides.{Decides-eqb}
 use Rattle.std.proofs.lemmas.Slice.Eq.{ends_is}
 use Rattle.std.proofs.lemmas.List.{take_at}
@@ -9,7 +8,7 @@ use Rattle.std.proofs.lemmas.Fmt.{decimal_by_steps}
 use Rattle.ud_model.specs.text.Bytes.{is_quote, slash, backslash, newline}
 use Rattle.ud_model.specs.text.Lines.{NoNewline, IsWhole, ending_of, Line, line_at}
 use Rattle.ud_model.specs.text.Scans.{Reading, plain_scan}
-use Rattle.ud_model.specs.text.Splicing.{is_empty, is_spliced, content, stays_open, c_run_of}
+use Rattle.ud_model.specs.text.Splicing.{is_spliced, content, stays_open, c_run_of}
 use Rattle.ud_model.specs.text.Scanning.{scan_after}
 use Rattle.ud_model.specs.aids.LexStates.{in_text, state_after_line}
 use Rattle.ud_model.specs.sections.Tree.{Item}

@@ -162,9 +162,6 @@ none_there : {A : Type 0} (x : A) → Contains [] x → ⊥
 none_there x h = omega (arith, h.1)
 
 -- The first element, and the others.
-one_is : {A : Type 0} (x y : A) → Contains (x ∷ []) y → x ≡ y
-one_is x y h = ⊎_elim (λ a. absurd (none_there y a)) (λ e. e) (Contains-push_cases [] x y h)
-
 is_first : {A : Type 0} (x : A) (xs : List A) → Contains (x ∷ xs) x
 is_first x xs = Contains-append_left (x ∷ []) xs x (Contains-push [] x)
 
@@ -172,7 +169,7 @@ is_later : {A : Type 0} (x : A) (xs : List A) (y : A) → Contains xs y → Cont
 is_later x xs y h = Contains-append_right (x ∷ []) xs y h
 
 first_or_later : {A : Type 0} (x : A) (xs : List A) (y : A) → Contains (x ∷ xs) y → (x ≡ y) ⊎ Contains xs y
-first_or_later x xs y h = ⊎_elim (λ a. inl (one_is x y a)) (λ b. inr b) (Contains-append_cases (x ∷ []) xs y h)
+first_or_later x xs y h = ⊎_elim (λ a. inl (⊎_elim (λ n. absurd (none_there y n)) (λ e. e) (Contains-push_cases [] x y a))) (λ b. inr b) (Contains-append_cases (x ∷ []) xs y h)
 
 module _ {A B : Type 0} (f : A → B) where
   -- An element of an image is the image of an element.

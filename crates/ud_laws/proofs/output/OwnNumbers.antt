@@ -1,5 +1,5 @@
 -- A text without a `#line`: each line's presumed number is its own.
-use Rattle.std.proofs.Common.{◌≡◌, ℕ, suc, ◌+◌, List, [], ◌∷◌, ◌++◌, length, map, Bool, true, None, refl, sym, ◌∙◌, ap, subst, append_assoc, append-nil, length-append, arith}
+use Rattle.std.proofs.Common.{◌≡◌, ℕ, suc, ◌+◌, List, [], ◌∷◌, ◌++◌, length, map, Bool, true, None, refl, sym, ◌∙◌, ap, subst, append-nil, arith}
 use Rattle.std.proofs.lemmas.List.{map-append, length-map}
 use Rattle.ud_model.specs.text.Lines.{Line, lines_of, texts_of}
 use Rattle.ud_model.specs.text.Scans.{Reading}

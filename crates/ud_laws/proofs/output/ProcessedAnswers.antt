@@ -1,10 +1,9 @@
 -- The outputs of files are processed as the files.
-use Rattle.std.proofs.Common.{◌≡◌, ◌≢◌, ℕ, List, [], ◌∷◌, Bool, true, Some, refl, sym, ◌∙◌, ap, subst, arith, ◌⊎◌, inl, inr}
+use Rattle.std.proofs.Common.{◌≡◌, ◌≢◌, ℕ, List, [], ◌∷◌, Bool, true, refl, sym, ◌∙◌, ap, subst, arith, ◌⊎◌, inl, inr}
 use Rattle.ud_model.specs.text.Scans.{Scan, Reading}
-use Rattle.ud_model.specs.sections.Directives.{Content}
-use Rattle.ud_model.specs.sections.Tree.{Item, Nodes, Tree, text_line, closed, lines_of_nodes, with_lines}
+use Rattle.ud_model.specs.sections.Tree.{Item, Nodes, Tree, closed, lines_of_nodes, with_lines}
 use Rattle.ud_model.specs.sections.Pruning.{Mark}
-use Rattle.ud_model.specs.sections.Items.{Options, reading_of, item_by, item_of, mode_after, read_after, next_item, rules_of}
+use Rattle.ud_model.specs.sections.Items.{Options, reading_of, item_of, mode_after, read_after, next_item, rules_of}
 use Rattle.ud_model.specs.answer.CommandLine.{options_of}
 use Rattle.ud_model.specs.answer.Answer.{Answer, IsAnswer, refused, ran}
 use Rattle.ud_model.specs.declared.verdict.Verdict.TheVariants.{Keep}
@@ -30,7 +29,7 @@ use Rattle.ud_laws.proofs.output.ProcessedPruned.{HasOutput, is_pruned, is_kept,
 use Rattle.ud_model.proofs.output.RereadLaws.{reread, seen_alike}
 use Rattle.ud_model.proofs.output.EachLines.{IsOf, from_items, AnyOpener}
 use Rattle.ud_model.proofs.output.PrunedTree.{closed_same}
-use Rattle.ud_model.proofs.output.SeenLines.{scanned, left_seen, text_scan_by, with_lines-twice}
+use Rattle.ud_model.proofs.output.SeenLines.{scanned, left_seen, with_lines-twice}
 use Rattle.ud_laws.proofs.output.SelectedAgain.{clear_run}
 use Rattle.std.proofs.lemmas.Grind.{common_steps}
 

@@ -4,7 +4,7 @@ use Rattle.std.proofs.lemmas.Bool.{or_parts}
 use Rattle.ud_model.specs.text.Lines.{Line, text_of, lines_of}
 use Rattle.ud_model.specs.text.Scans.{Scan, Reading}
 use Rattle.ud_model.specs.text.Splicing.{is_spliced, spliced_text, spliced_part}
-use Rattle.ud_model.specs.text.Lexemes.{LexemeKind, kind_at_end, Cell, shown}
+use Rattle.ud_model.specs.text.Lexemes.{kind_at_end, Cell, shown}
 use Rattle.ud_model.specs.text.Scanning.{is_block, comment_at, scan_after_run}
 use Rattle.ud_model.specs.sections.Directives.{Directive, content_of, is_outside}
 use Rattle.ud_model.specs.aids.DirectiveParts.{HasDirective}

@@ -4,14 +4,13 @@
 -- operator on two known operands is one on numbers (KnownNumbers). A value with an unknown operand
 -- is known only if the other one decides `&&` or `||`. C then gives the same value, whichever
 -- operand decides it there.
-use Rattle.std.proofs.Common.{◌≡◌, ℕ, Bool, true, false, not, ◌&&◌, ◌||◌, List, Option, Some, None, refl, sym, ◌∙◌, ap, arith, ℤ, pos, nat_lt, ◌≢◌, ◌^◌, ◌<◌, if◌then◌else◌, subst, ◌<ℤ◌, ◌≤ℤ◌, int_lt, int_le, int_div, Decides}
+use Rattle.std.proofs.Common.{◌≡◌, ℕ, Bool, true, false, not, ◌&&◌, ◌||◌, List, Option, Some, None, refl, sym, ◌∙◌, ap, arith, ℤ, pos, nat_lt, ◌≢◌, ◌^◌, ◌<◌, if◌then◌else◌, subst, ◌<ℤ◌, ◌≤ℤ◌, int_lt, int_le, Decides}
 use Rattle.std.proofs.lemmas.Option.{none-some, same_Some}
 use Rattle.std.proofs.lemmas.Bool.{false≢true, or_left, or_right}
-use Rattle.ud_model.specs.conditions.Table.{Argument, Entry, entry_in}
+use Rattle.ud_model.specs.conditions.Table.{Argument}
 use Rattle.ud_model.specs.conditions.Constants.{has_u, constant_number}
-use Rattle.ud_model.specs.conditions.Symbols.{resolve}
 use Rattle.ud_model.specs.conditions.Expressions.{Expression}
-use Rattle.ud_model.specs.conditions.Values.{fits, truth, is_zero, apply_binary_known, short_circuits, apply_binary, apply_unary, limited, constant_value, name_value_by, name_value, defined_value_by, defined_value, number_of, has_unsigned, value_of, fit, equal_numbers, apply_unary_known}
+use Rattle.ud_model.specs.conditions.Values.{fits, truth, is_zero, apply_binary_known, short_circuits, apply_binary, apply_unary, limited, constant_value, name_value, defined_value, number_of, has_unsigned, value_of, fit, equal_numbers, apply_unary_known}
 use Rattle.ud_model.specs.laws.CValues.{Number, signed, number, IsTruth, IsZero, Gives, GivesUnary, IsConstantValue, plain, by_suffix, by_size, CValue, of_constant, of_known_name, of_open_name, of_known_defined, of_open_defined, of_unary, of_binary, of_and_left, of_and_both, of_or_left, of_or_both, of_parens, IsCValue, unsigned, GivesSigned, GivesUnsigned}
 use Rattle.ud_model.specs.declared.operator.Operator.{Operator}
 use Rattle.ud_model.specs.declared.operator.Operator.TheVariants.{Or, And, BitOr, BitXor, BitAnd, Equal, NotEqual, Less, LessEqual, Greater, GreaterEqual, Plus, Minus, Times, Over, Remainder}
@@ -62,9 +61,6 @@ same_decides a b = grind arith
 divided : (b : Bool) (o : Option ℤ) (n : ℤ) → (if b then None else o) ≡ Some n → o ≡ Some n
 divided b o n e = grind arith
 
-in_range : (b : Bool) (o : Option ℤ) (n : ℤ) → (if b then o else None) ≡ Some n → o ≡ Some n
-in_range b o n e = grind arith
-
 -- The case of two known operands of intmax_t.
 pub signed_agrees : (u : Bool) (o : Operator) (a b n : ℤ) (c : Number) → apply_binary_known u o a b ≡ Some n → GivesSigned o a b c → Agrees u n c
 unfolding apply_binary_known
@@ -81,7 +77,7 @@ signed_agrees u Plus a b n c e g = as_signed u n c _ g.1 (fit_is u _ n e)
 signed_agrees u Minus a b n c e g = as_signed u n c _ g.1 (fit_is u _ n e)
 signed_agrees u Times a b n c e g = as_signed u n c _ g.1 (fit_is u _ n e)
 signed_agrees u Over a b n c e g = as_signed u n c _ g.1.1 (fit_is u _ n (divided (is_zero b) _ n e))
-signed_agrees u Remainder a b n c e g = as_signed u n c _ g.2 (fit_is u _ n (in_range (fits u (int_div a b)) _ n (divided (is_zero b) _ n e)))
+signed_agrees u Remainder a b n c e g = as_signed u n c _ g.2 (fit_is u _ n (grind (arith, divided (is_zero b) _ n e)))
 signed_agrees _ _ _ _ n _ _ g = absurd g
 
 -- The case of two known operands, one of them of uintmax_t.
@@ -104,13 +100,9 @@ gives_agrees u o a b n (unsigned s) (signed t) c p q e g =
 gives_agrees u o a b n (unsigned s) (unsigned t) c p q e g =
     gives_by u o a b n c s t p.2 p.1 q.1 (ap (cast_unsigned w64) p.0) (ap (cast_unsigned w64) q.0) e g
 
--- The test for 0 decides.
-pub zero_decides : (a : ℤ) → Decides (is_zero a) (a ≡ pos 0)
-zero_decides a = grind arith
-
 -- A known number is 0 exactly if C's is.
 pub zero_agrees : (u : Bool) (a : ℤ) (x : Number) → Agrees u a x → Decides (is_zero a) (number x ≡ pos 0)
-zero_agrees u a x p = grind (arith, agrees_number, zero_decides)
+zero_agrees u a x p = grind (arith, agrees_number)
 
 -- The result of C's operator before an operand agrees with the known one.
 pub changes_agrees : (u : Bool) (o : Operator) (a n : ℤ) (x c : Number) → Agrees u a x → apply_unary_known u o a ≡ Some n → GivesUnary o x c → Agrees u n c
@@ -130,20 +122,14 @@ constant_known u w c (plain h l) v n e = limited_is u (constant_number w) n e
 constant_known u w c (by_suffix h l) v n e = let p : (pos (constant_number w) ≡ n) × (fits u n ≡ true) = limited_is u (constant_number w) n e in (p.0, p.1, v h)
 constant_known u w c (by_size h d l m) v n e = grind arith
 
-entry_fits : (u : Bool) (end : Option (List ℕ)) (o : Option Entry) (n : ℤ) → name_value_by u end o ≡ Some n → fits u n ≡ true
-entry_fits u end o n e = grind arith
-
 -- The known value of a name is in range.
 name_fits : (table : List Argument) (u : Bool) (name : List ℕ) (n : ℤ) → name_value table u name ≡ Some n → fits u n ≡ true
 unfolding name_value
-name_fits table u name n e = entry_fits u (resolve table name) (entry_in table name) n e
-
-defined_value_fits : (u : Bool) (o : Option Entry) (n : ℤ) → defined_value_by o ≡ Some n → fits u n ≡ true
-defined_value_fits u o n e = grind arith
+name_fits table u name n e = grind (arith, e)
 
 defined_known : (table : List Argument) (u : Bool) (name : List ℕ) (z n : ℤ) → defined_value table name ≡ Some z → defined_value table name ≡ Some n → Agrees u n (signed z)
 unfolding defined_value
-defined_known table u name z n d e = (same_Some z n (sym d ∙ e), defined_value_fits u (entry_in table name) n e)
+defined_known table u name z n d e = (same_Some z n (sym d ∙ e), grind (arith, e))
 
 unary_known : (u : Bool) (o : Operator) (v : Option ℤ) (x c : Number) → Knows u v x → GivesUnary o x c → Knows u (apply_unary u o v) c
 unary_known u o None x c f g n e = absurd (none-some n e)

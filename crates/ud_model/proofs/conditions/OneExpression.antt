@@ -3,8 +3,8 @@ use Rattle.std.proofs.Common.{◌≡◌, ℕ, List, [], Option, Some, None, refl
 use Rattle.std.proofs.lemmas.Option.{none-some, same_Some}
 use Rattle.ud_model.specs.conditions.Tokens.{Token, AreTokens, number, name, defined, operator, opening, closing}
 use Rattle.ud_model.specs.conditions.Expressions.{Expression, spelling, HasPrecedence, IsWritten, unary, binary, parens, precedence, is_prefix}
-use Rattle.ud_model.specs.conditions.Parsing.{needs, parse_all_tokens, tokens_of, reads, itself, expression_of, Frame, left, before, paren, ParseState, has, asks, asks_inside, asks_end, stuck, reduce, close, step, alone, finish, parse_tokens}
-use Rattle.ud_model.proofs.conditions.ParsingComplete.{complete_alone, meaning_itself, level_most}
+use Rattle.ud_model.specs.conditions.Parsing.{needs, parse_all_tokens, tokens_of, reads, itself, expression_of, Frame, left, before, paren, ParseState, has, asks, asks_inside, asks_end, stuck, reduce, step, finish, parse_tokens}
+use Rattle.ud_model.proofs.conditions.ParsingComplete.{complete_alone, meaning_itself}
 use Rattle.ud_model.proofs.conditions.TokenLemmas.{tokens_of_only, tokens_of_are}
 use Rattle.ud_model.specs.declared.operator.Operator.{Operator}
 
@@ -43,7 +43,7 @@ Holds us stuck = Unit {0}
 -- A tree of the tightest precedence is of each precedence.
 loosen : (k : ℕ) (x : Expression) → HasPrecedence 10 x → HasPrecedence k x
 loosen k (unary o a) i = i
-loosen k (binary o a b) i = let h : precedence o ≤ 9 = level_most o in let l : 10 ≤ precedence o = i.0 in absurd (omega arith)
+loosen k (binary o a b) i = let h : precedence o ≤ 9 = (grind arith) in let l : 10 ≤ precedence o = i.0 in absurd (omega arith)
 loosen k (parens a) i = i
 loosen _ _ _ = tt
 
@@ -72,10 +72,6 @@ reduced j x s h g k = grind arith
 pushed : (us vs ws xs : List Token) → us ++ vs ≡ ws → us ++ (vs ++ xs) ≡ ws ++ xs
 pushed us vs ws xs e = sym (append_assoc us vs xs) ∙ ap (λ ys. ys ++ xs) e
 
-close_holds : (x : Expression) (s : List (Frame Expression)) (us : List Token) (r : Expression × List (Frame Expression)) →
-    written s ++ spelling x ≡ us → Reduced 0 x s r → Holds (us ++ closing ∷ []) (close itself r)
-close_holds x s us r e q = grind (arith, append_assoc)
-
 -- One more token is a token of the state after it.
 step_holds : (us : List Token) (st : ParseState Expression) (t : Token) → Holds us st → Holds (us ++ t ∷ []) (step itself st t)
 step_holds us (needs s) (number w) h = (h.0, tt, ap (λ ys. ys ++ number w ∷ []) h.1)
@@ -84,19 +80,15 @@ step_holds us (needs s) defined h = (h.0, ap (λ ys. ys ++ defined ∷ []) h.1)
 step_holds us (needs s) (operator o) h = grind arith
 step_holds us (needs s) opening h = (h.0, ap (λ ys. ys ++ opening ∷ []) h.1)
 step_holds us (has x s) (operator o) h = grind (arith, pushed, reduced, loosen)
-step_holds us (has x s) closing h = close_holds x s us (reduce itself 0 x s) h.2 (reduced 0 x s h.0 (loosen (hole s) x h.1) (loosen 0 x h.1))
+step_holds us (has x s) closing h = grind (arith, append_assoc, h.2, reduced 0 x s h.0 (loosen (hole s) x h.1) (loosen 0 x h.1))
 step_holds us (asks s) (name n false) h = (h.0, tt, pushed (written s) (defined ∷ []) us (name n false ∷ []) h.1)
 step_holds us (asks s) opening h = (h.0, pushed (written s) (defined ∷ []) us (opening ∷ []) h.1)
 step_holds us (asks_inside s) (name n false) h = (h.0, pushed (written s) (defined ∷ opening ∷ []) us (name n false ∷ []) h.1)
 step_holds us (asks_end n s) closing h = (h.0, tt, pushed (written s) (defined ∷ opening ∷ name n false ∷ []) us (closing ∷ []) h.1)
 step_holds _ _ _ _ = tt
 
-alone_holds : (e x : Expression) (s : List (Frame Expression)) (us : List Token) (r : Expression × List (Frame Expression)) →
-    written s ++ spelling x ≡ us → Reduced 0 x s r → alone itself r ≡ Some e → HasPrecedence 1 e × (spelling e ≡ us)
-alone_holds e x s us r w q a = grind arith
-
 finish_holds : (us : List Token) (st : ParseState Expression) (e : Expression) → Holds us st → finish itself st ≡ Some e → HasPrecedence 1 e × (spelling e ≡ us)
-finish_holds us (has x s) e h f = alone_holds e x s us (reduce itself 0 x s) h.2 (reduced 0 x s h.0 (loosen (hole s) x h.1) (loosen 0 x h.1)) f
+finish_holds us (has x s) e h f = grind (arith, h.2, reduced 0 x s h.0 (loosen (hole s) x h.1) (loosen 0 x h.1), f)
 finish_holds _ _ e _ f = absurd (none-some e f)
 
 run_holds : (ts us : List Token) (st : ParseState Expression) (e : Expression) → Holds us st → parse_tokens itself st ts ≡ Some e → HasPrecedence 1 e × (spelling e ≡ us ++ ts)

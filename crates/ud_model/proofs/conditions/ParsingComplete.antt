@@ -10,21 +10,9 @@ abbrev pub Stops : ℕ → List Token → Type 0
 Stops k (operator o ∷ ts) = precedence o ≤ k
 Stops _ _ = Unit {0}
 
--- Each precedence between two operands is below that of an operator before one.
-pub level_most : (o : Operator) → precedence o ≤ 9
-level_most o = grind arith
-
--- A stack that takes no operand before precedence `j` takes none before a tighter one.
-pub below_more : {A : Type 0} (j k : ℕ) (s : List (Frame A)) → j ≤ k → Below j s → Below k s
-below_more j k h l b = grind arith
-
 -- If nothing tighter than precedence `j` comes next, nothing tighter than a tighter one does.
 pub stops_more : (j k : ℕ) (ts : List Token) → j ≤ k → Stops j ts → Stops k ts
 stops_more j k ts l b = grind arith
-
--- After a prefix operator every operator stops.
-stops_ten : (ts : List Token) → Stops 10 ts
-stops_ten ts = grind arith
 
 module _ {A : Type 0} (m : Meaning A) where
   -- An operator takes its right operand if no tighter one comes next.
@@ -40,10 +28,10 @@ module _ {A : Type 0} (m : Meaning A) where
   pub complete : (e : Expression) (k : ℕ) → 1 ≤ k → HasPrecedence k e → (s : List (Frame A)) → Below k s → (ts : List Token) → Stops k ts →
       parse_tokens m (needs s) (spelling e ++ ts) ≡ parse_tokens m (has (meaning m e) s) ts
   complete (unary o a) k l i s b ts h =
-      grind (arith, complete a 10 (omega arith) i.1 (before o ∷ s) (omega arith) ts (stops_ten ts))
+      grind (arith, complete a 10 (omega arith) i.1 (before o ∷ s) (omega arith) ts (grind arith))
   complete (binary o a b) k l i s f ts h =
       let more : 1 ≤ precedence o = let d : k ≤ precedence o = i.0 in omega arith in
-      let under : Below (precedence o) s = below_more k (precedence o) s i.0 f in
+      let under : Below (precedence o) s = (grind (arith, i.0, f)) in
       let stop : Stops (precedence o) ts = stops_more k (precedence o) ts i.0 h in
       ap (λ us. parse_tokens m (needs s) us) (append_assoc (spelling a) (operator o ∷ spelling b) ts)
       ∙ complete a (precedence o) more i.1 s under (operator o ∷ spelling b ++ ts) (omega arith)

@@ -37,14 +37,9 @@ pub data SameFront : List ℕ → List ℕ → Type 0 where
   no_front : SameFront [] []
   front : {u t : List ℕ} (b : ℕ) → is_white b ≡ false → IsSpread false u t → SameFront (b ∷ u) (b ∷ t)
 
-skip_kept : {u t : List ℕ} (b : ℕ) (w : Bool) → is_white b ≡ w → IsSpread w u t →
-    SameFront (skip_white u) (skip_white t) →
-    SameFront (if w then skip_white u else b ∷ u) (if w then skip_white t else b ∷ t)
-skip_kept b w h g k = grind (arith, front)
-
 pub skipped : {w : Bool} {u t : List ℕ} → IsSpread w u t → SameFront (skip_white u) (skip_white t)
 skipped nothing = no_front
-skipped (kept b s) = skip_kept b (is_white b) refl s (skipped s)
+skipped (kept b s) = grind (arith, front, s, skipped s)
 skipped (behind {u = u} {t = t} b e s) = grind (arith, skipped s)
 skipped (in_front {u = u} {t = t} b e f s) = grind (arith, skipped s)
 

@@ -64,23 +64,15 @@ without_other : (n m : List ℕ) → bytes_eq n m ≡ false → (t : List Argume
 without_other n m d [] e = refl
 without_other n m d (a ∷ t) e = without_other_by n m d a t e (λ f. without_other n m d t f) (bytes_eq a.name n) refl
 
-without_none_by : (n : List ℕ) (a : Argument) (t : List Argument) → entry_in (without n t) n ≡ None → (b : Bool) → bytes_eq a.name n ≡ b →
-    entry_in (if b then without n t else a ∷ without n t) n ≡ None
-without_none_by n a t before b h = grind arith
-
 -- They have no entry for the name.
 without_none : (n : List ℕ) (t : List Argument) → entry_in (without n t) n ≡ None
 without_none n [] = refl
-without_none n (a ∷ t) = without_none_by n a t (without_none n t) (bytes_eq a.name n) refl
-
-most_by : (n : List ℕ) (a : Argument) (t : List Argument) → length (without n t) ≤ length t → (b : Bool) →
-    length (if b then without n t else a ∷ without n t) ≤ suc (length t)
-most_by n a t h b = grind arith
+without_none n (a ∷ t) = grind (arith, without_none n t)
 
 -- They are no more than all.
 without_most : (n : List ℕ) (t : List Argument) → length (without n t) ≤ length t
 without_most n [] = omega arith
-without_most n (a ∷ t) = most_by n a t (without_most n t) (bytes_eq a.name n)
+without_most n (a ∷ t) = grind (arith, without_most n t)
 
 fewer_by : (n : List ℕ) (a : Argument) (t : List Argument) (e : Option Entry) (x : Entry) → length (without n t) ≤ length t →
     ((f : Option Entry) → entry_from f t n ≡ Some x → (f ≡ Some x) ⊎ (length (without n t) < length t)) →
@@ -96,10 +88,6 @@ without_fewer n (a ∷ t) e x h = fewer_by n a t e x (without_most n t) (λ f. w
 
 fewer : (n w : List ℕ) (t : List Argument) → defined_text t n ≡ Some w → length (without n t) < length t
 fewer n w t d = grind (arith, without_fewer)
-
--- The table of all arguments follows that of those that name another.
-follows : (n : List ℕ) (t : List Argument) → Follows (without n t) t
-follows n t m w d = grind (arith, bytes_eq, bytes_eq-Decides, without_none, without_other)
 
 -- A path of so many steps that ends avoids a name, or its rest begins there.
 abbrev pub Splits : ℕ → List Argument → List ℕ → List ℕ → List ℕ → Type 0
@@ -128,11 +116,7 @@ same_follows t n w d = d
 -- One step, and then a path over fewer arguments.
 soon_behind : (t : List Argument) (n w v : List ℕ) → defined_text t n ≡ Some w → is_identifier w ≡ true → resolve_within (length (without n t)) (without n t) w ≡ Some v →
     resolve_within (length t) t n ≡ Some v
-soon_behind t n w v d i e = grind (arith, fewer, ends_more, follows, ends_behind)
-
-soon_split : (most : ℕ) (t : List Argument) → ((n w : List ℕ) → defined_text t n ≡ Some w → Soon (without n t)) → SoonWithin most t →
-    (k : ℕ) (n w v : List ℕ) → k ≤ most → defined_text t n ≡ Some w → is_identifier w ≡ true → Splits k t n w v → resolve_within (length t) t n ≡ Some v
-soon_split most t smaller within k n w v l d i h = grind (arith, soon_behind)
+soon_behind t n w v d i e = grind (arith, fewer, ends_more, bytes_eq, bytes_eq-Decides, without_none, without_other, ends_behind)
 
 soon_step : (most : ℕ) (t : List Argument) → ((n w : List ℕ) → defined_text t n ≡ Some w → Soon (without n t)) → SoonWithin most t →
     (k : ℕ) (n v : List ℕ) → k ≤ most → Goes t k n v → resolve_within (length t) t n ≡ Some v
@@ -141,7 +125,7 @@ soon_step most t smaller within k n v l g = by g.on
     by : ((is_identifier g.text ≡ false) × (g.text ≡ v)) ⊎ ((is_identifier g.text ≡ true) × (resolve_within k t g.text ≡ Some v)) → resolve_within (length t) t n ≡ Some v
     by (inl p) = let q : length (without n t) < length t = fewer n g.text t g.sets in
         ends_more 1 (length t) t t (same_follows t) n v (omega arith) (ends_here t 0 n g.text g.sets p.0 ∙ ap Some p.1)
-    by (inr p) = soon_split most t smaller within k n g.text v l g.sets p.0 (split k t n g.text v p.1)
+    by (inr p) = grind (arith, soon_behind, smaller, within, l, g.sets, p.0, split k t n g.text v p.1)
 
 soon_within : (t : List Argument) → ((n w : List ℕ) → defined_text t n ≡ Some w → Soon (without n t)) → (most : ℕ) → SoonWithin most t
 soon_within t smaller most zero n v l e = absurd (none-some v e)

@@ -1,4 +1,6 @@
 -- Changed: some line of a text differs exactly if the output isn't the input.
+use Rattle.std.proofs.lemmas.List.Folds.{concat-append}
+use Rattle.std.proofs.lemmas.List.{map-append}
 use Rattle.std.proofs.Common.{◌≡◌, ℕ, ◌+◌, ◌≤◌, List, [], ◌∷◌, ◌++◌, length, map, Bool, true, false, not, ◌&&◌, bytes_eq, Option, None, refl, sym, ◌∙◌, ap, ap₂, subst, arith, append-nil, append_assoc, length-append, rules}
 use Rattle.std.specs.List.{concat}
 use Rattle.ud_model.specs.text.Lines.{Line, text_of, lines_of}
@@ -25,8 +27,8 @@ use Rattle.ud_model.proofs.text.ScanBytes.{length-masked, content-prefix}
 use Rattle.ud_model.proofs.sections.Stays.{marks_so_far_same}
 use Rattle.ud_model.proofs.sections.Soundness.{sound_lines}
 use Rattle.ud_model.proofs.output.KeywordSizes.{HasWord, HasKeyword, has_keyword}
-use Rattle.ud_model.proofs.output.Sizes.{out, whole, Fits, Loose, fits-append, loose_fits, fits_loose, loose_closed, fits_one, loose_one, fits_none, fits_all, fits_differs}
-use Rattle.ud_model.proofs.output.Edits.{is_past, Moves, opener_moves, endif_past, KeepsOrGoes, endif_keeps, if_keeps, removed_size, keeps_size, AtMost, edited_size, turned_size}
+use Rattle.ud_model.proofs.output.Sizes.{out, whole, Fits, Loose, fits-append, loose_fits, fits_loose, fits_one, fits_none, fits_all, fits_differs}
+use Rattle.ud_model.proofs.output.Edits.{is_past, Moves, opener_moves, endif_past, KeepsOrGoes, endif_keeps, if_keeps, removed_size, keeps_size, AtMost, edited_size}
 use Rattle.ud_model.proofs.answer.Onward.{judged_more}
 
 -- Each line has one mark.
@@ -92,7 +94,7 @@ module _ (blank : Bool) where
   opener_step xs ms x true false v e w m a = let q : false ≡ true = m.1 in cc
   opener_step xs ms x true true v e w m a = let q : v ≡ Remove = m.0 in cc
   opener_step xs ms x false true ToEndif e w m a =
-      then_loose xs (x ∷ []) ms (marked true ToEndif ∷ []) e a (loose_one f (judged_line x (marked true ToEndif)) (word_size x w ToEndif))
+      then_loose xs (x ∷ []) ms (marked true ToEndif ∷ []) e a (grind (arith, append-nil, word_size x w ToEndif))
   opener_step xs ms x false false ToEndif e w m a = let q : false ≡ true = m in cc
   opener_step xs ms x false now v e w m a = to_held now (xs ++ x ∷ []) (ms ++ marked true v ∷ [])
       (items_then xs (x ∷ []) ms (marked true v ∷ []) e a (fits_one f (judged_line x (marked true v)) (word_size x w v)))
@@ -109,7 +111,7 @@ module _ (blank : Bool) where
       KeepsOrGoes v → (past ≡ true → v ≡ Remove) → Held (kept && past) xs ms → ItemsFit (xs ++ x ∷ []) (ms ++ marked kept v ∷ [])
   endif_step false past xs ms x v e w k h a = items_then xs (x ∷ []) ms (marked false Remove ∷ []) e a (one_fits x false Remove tt)
   endif_step true false xs ms x v e w k h a = items_then xs (x ∷ []) ms (marked true v ∷ []) e a (one_fits x true v k)
-  endif_step true true xs ms x v e w k h a = grind (arith, judged_more, loose_closed, closing_size)
+  endif_step true true xs ms x v e w k h a = grind (arith, judged_more, append-nil, map-append, concat-append, length-append, closing_size)
 
   more_long : (xs : List (Item Reading)) (ms : List Mark) (x : Item Reading) (m : Mark) → length xs ≡ length ms → length (xs ++ x ∷ []) ≡ length (ms ++ m ∷ [])
   more_long xs ms x m e = simp length-append (omega (arith, e))
@@ -177,7 +179,7 @@ pieces_lone b c n before [] e = refl
 pieces_lone b c n before (j ∷ js) e = grind (arith, pieces_lone b c n (before ++ j ∷ []) js e)
 
 nodes_lone : (b c : Bool) (ns : Nodes Reading) → Each HasKeyword (lines_of_nodes ns) → Fits (lone b c) (judged_lines (lines_of_nodes ns) (marks (closed ns)))
-nodes_lone b true ns h = fits_all (lone b true) (judged_lines (lines_of_nodes ns) (marks (closed ns))) (λ j. turned_size b j)
+nodes_lone b true ns h = fits_all (lone b true) (judged_lines (lines_of_nodes ns) (marks (closed ns))) (λ j. (grind (arith, keeps_size)))
 nodes_lone b false ns h =
     subst (λ (ms : List Mark). Fits (lone b false) (judged_lines (lines_of_nodes ns) ms)) (sym (marks_so_far_same true (closed ns))) (nodes_fit b true ns h)
 

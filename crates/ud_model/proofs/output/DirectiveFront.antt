@@ -61,9 +61,6 @@ each_white P p q r s t b e = grind arith
 abbrev is_inert : ℕ → Bool
 is_inert c = not (c == slash) && not (is_quote c) && not (c == newline)
 
-inert_byte : (c : ℕ) → is_inert c ≡ true → IsInert c
-inert_byte c e = grind arith
-
 -- Each of the bytes begins no comment and no literal.
 abbrev pub are_inert : List ℕ → Bool
 are_inert [] = true
@@ -72,7 +69,7 @@ are_inert (c ∷ w) = is_inert c && are_inert w
 -- Such bytes begin nothing.
 pub inert_word : (w : List ℕ) → are_inert w ≡ true → Each IsInert w
 inert_word [] e = tt
-inert_word (c ∷ w) e = let p : (is_inert c ≡ true) × (are_inert w ≡ true) = and_parts (is_inert c) (are_inert w) e in (inert_byte c p.0, inert_word w p.1)
+inert_word (c ∷ w) e = let p : (is_inert c ≡ true) × (are_inert w ≡ true) = and_parts (is_inert c) (are_inert w) e in (grind (arith, p.0), inert_word w p.1)
 
 -- The byte begins nothing and isn't white, as the bytes of a word.
 abbrev pub is_quiet : ℕ → Bool

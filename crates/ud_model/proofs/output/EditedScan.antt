@@ -2,7 +2,7 @@
 -- So another keyword in its place changes nothing of what follows.
 use Rattle.std.proofs.Common.{◌≡◌, ℕ, ◌==◌, List, [], ◌∷◌, ◌++◌, Bool, true, false, ◌||◌, if◌then◌else◌, refl, sym, ◌∙◌, ap, append-nil, append_assoc, ◌⊎◌, inl, arith}
 use Rattle.std.proofs.Math.Bool.{or-true, or_assoc}
-use Rattle.ud_model.specs.text.Bytes.{slash, star, space, newline, is_quote}
+use Rattle.ud_model.specs.text.Bytes.{slash, space, is_quote}
 use Rattle.ud_model.specs.aids.LexStates.{LexState, in_text, at_slash, in_block, at_star, in_line, in_literal, at_backslash, next_state, opens_comment, masked_byte, stays_white, blank_last}
 use Rattle.ud_model.proofs.text.LexStateLemmas.{blank_last-last}
 use Rattle.ud_model.proofs.text.ScanLaws.{place_after, white_after, masked_after}
@@ -83,31 +83,12 @@ Shown (in_literal q) m = has_quote m ≡ true
 Shown (at_backslash q) m = has_quote m ≡ true
 Shown _ _ = Unit {0}
 
-shown_quoted : (w : LexState) (m : List ℕ) → Shown w m → Quoted w m
-shown_quoted w m h = grind arith
-
-from_text : (s q : Bool) (m : List ℕ) (b : ℕ) → (b == slash) ≡ s → is_quote b ≡ q → Shown (if s then at_slash else if q then in_literal b else in_text) (m ++ b ∷ [])
-from_text s q m b e f = grind (arith, slash-last, quote-append, or-true)
-
-from_slash : (t s q : Bool) (m : List ℕ) (b : ℕ) → (b == star) ≡ t → (b == slash) ≡ s → is_quote b ≡ q →
-    Shown (if t then in_block else if s then in_line else if q then in_literal b else in_text) ((if t || s then blank_last m else m) ++ (if t then space else if s then space else b) ∷ [])
-from_slash t s q m b e f g = grind (arith, quote-append, or-true)
-
-from_block : (t : Bool) (m : List ℕ) → Shown (if t then at_star else in_block) m
-from_block t m = grind arith
-
-from_star : (s t : Bool) (m : List ℕ) → Shown (if s then in_text else if t then at_star else in_block) m
-from_star s t m = grind arith
-
-from_line : (t : Bool) (m : List ℕ) → Shown (if t then in_text else in_line) m
-from_line t m = grind arith
-
 shown_step : (w : LexState) (m : List ℕ) (b : ℕ) → Quoted w m → Shown (next_state w b) ((if opens_comment w b then blank_last m else m) ++ masked_byte w b ∷ [])
-shown_step in_text m b h = from_text (b == slash) (is_quote b) m b refl refl
-shown_step at_slash m b h = from_slash (b == star) (b == slash) (is_quote b) m b refl refl refl
-shown_step in_block m b h = from_block (b == star) (m ++ space ∷ [])
-shown_step at_star m b h = from_star (b == slash) (b == star) (m ++ space ∷ [])
-shown_step in_line m b h = from_line (b == newline) (m ++ (if b == newline then b else space) ∷ [])
+shown_step in_text m b h = grind (arith, slash-last, quote-append, or-true)
+shown_step at_slash m b h = grind (arith, quote-append, or-true)
+shown_step in_block m b h = grind arith
+shown_step at_star m b h = grind arith
+shown_step in_line m b h = grind arith
 shown_step (in_literal q) m b h = grind (arith, quote-append)
 shown_step (at_backslash q) m b h = grind (arith, quote-append)
 
@@ -116,4 +97,4 @@ pub shown_all : (b : ℕ) (bytes : List ℕ) (w : LexState) (m : List ℕ) → Q
 shown_all b [] w m h = shown_step w m b h
 shown_all b (c ∷ bytes) w m h =
     let n : List ℕ = (if opens_comment w b then blank_last m else m) ++ masked_byte w b ∷ [] in
-    shown_all c bytes (next_state w b) n (shown_quoted (next_state w b) n (shown_step w m b h))
+    shown_all c bytes (next_state w b) n (grind (arith, shown_step w m b h))

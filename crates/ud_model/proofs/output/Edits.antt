@@ -1,16 +1,15 @@
 -- Edits: the output for a text is no longer than the text, but that a directive that becomes the
 -- `#endif` may grow by a byte.
-use Rattle.std.proofs.Common.{◌≡◌, ℕ, suc, ◌+◌, ◌≤◌, List, [], ◌∷◌, ◌++◌, length, Bool, true, false, not, ◌&&◌, if◌then◌else◌, refl, arith, length-append, length-take, length-drop}
+use Rattle.std.proofs.Common.{◌≡◌, ℕ, suc, ◌+◌, ◌≤◌, List, [], ◌∷◌, ◌++◌, length, Bool, true, false, not, ◌&&◌, refl, arith, length-append, length-take, length-drop}
 use Rattle.ud_model.specs.text.Lines.{Line, text_of}
 use Rattle.ud_model.specs.sections.Directives.{Span}
 use Rattle.ud_model.specs.sections.Pruning.{Part, an_if, any_true, gives_way, ends_with_first_true, endif_verdict}
 use Rattle.ud_model.specs.aids.SoFar.{verdict_so_far}
-use Rattle.ud_model.specs.answer.Printing.{Judged, opener_keyword, piece_alone, complemented}
+use Rattle.ud_model.specs.answer.Printing.{piece_alone}
 use Rattle.ud_model.specs.declared.cond.Cond.{Cond}
 use Rattle.ud_model.specs.declared.cond.Cond.TheVariants.{Yes, No}
 use Rattle.ud_model.specs.declared.verdict.Verdict.{Verdict}
 use Rattle.ud_model.specs.declared.verdict.Verdict.TheVariants.{Keep, Remove, ToEndif}
-use Rattle.ud_model.proofs.output.Sizes.{whole}
 
 -- A group has come after the first true one, and after the one whose opener became the `#endif`.
 abbrev pub is_past : List Cond → Bool
@@ -43,12 +42,9 @@ KeepsOrGoes Keep = Unit {0}
 KeepsOrGoes Remove = Unit {0}
 KeepsOrGoes _ = ⊥
 
-endif_by : (g a e : Bool) → KeepsOrGoes (if g then Remove else if not a then Keep else if e then Keep else Remove)
-endif_by g a e = grind arith
-
 -- Each `#endif` stays or is removed.
 pub endif_keeps : (cs : List Cond) → KeepsOrGoes (endif_verdict cs)
-endif_keeps cs = endif_by (gives_way cs) (any_true cs) (ends_with_first_true cs)
+endif_keeps cs = grind arith
 
 -- The first opener stays or is removed.
 pub if_keeps : (c : Cond) → KeepsOrGoes (verdict_so_far [] an_if c)
@@ -68,16 +64,7 @@ abbrev pub AtMost : Verdict → ℕ → ℕ → Type 0
 AtMost ToEndif n m = n ≤ suc m
 AtMost _ n m = n ≤ m
 
--- The keyword of a first directive isn't longer than a keyword of four bytes at least, which it
--- replaces.
-if_size : (n : ℕ) → 4 ≤ n → length (opener_keyword n) ≤ n
-if_size n h = grind arith
-
 -- The case of a directive whose keyword has four bytes at least.
 pub edited_size : (blank : Bool) (v : Verdict) (k : Span) (l : Line) → 4 ≤ k.len → k.at + k.len ≤ length l.body →
     AtMost v (length (piece_alone blank (record { line = l; verdict = v; keyword = k }))) (length (text_of l))
-edited_size blank v k l e h = grind (arith, length-append, length-take, length-drop, if_size)
-
--- A complemented line doesn't grow.
-pub turned_size : (blank : Bool) (j : Judged) → length (piece_alone blank (complemented j)) ≤ length (whole j)
-turned_size blank j = grind (arith, keeps_size)
+edited_size blank v k l e h = grind (arith, length-append, length-take, length-drop)

@@ -32,13 +32,10 @@ abbrev Calm : Option Entry → Type 0
 Calm None = Unit {0}
 Calm (Some e) = e.ignoring ≡ false
 
-calm_if : (b : Bool) (e : Entry) (earlier : Option Entry) → e.ignoring ≡ false → Calm earlier → Calm (if b then Some e else earlier)
-calm_if b e earlier h c = grind arith
-
 calm_from : (earlier : Option Entry) (table : List Argument) (name : List ℕ) → Calm earlier → NoneIgnores table → Calm (entry_from earlier table name)
 calm_from earlier [] name c n = c
 calm_from earlier (a ∷ table) name c n =
-    calm_from (if bytes_eq a.name name then Some a.entry else earlier) table name (calm_if (bytes_eq a.name name) a.entry earlier n.0 c) n.1
+    calm_from (if bytes_eq a.name name then Some a.entry else earlier) table name (grind (arith, n.0, c)) n.1
 
 by_content : (o : Options) (r : Reading) (c : Content) → NoneIgnores o.table → Heeds (item_by o r c)
 by_content o r c n = grind (arith, calm_from)

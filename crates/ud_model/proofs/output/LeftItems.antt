@@ -4,7 +4,7 @@ use Rattle.std.proofs.Common.{◌≡◌, ℕ, List, [], ◌∷◌, map, Option, 
 use Rattle.ud_model.specs.text.Scans.{Scan, Reading}
 use Rattle.ud_model.specs.sections.Directives.{Content, Directive, directive, content_of, role_of, test_of, may_split_keyword, kind_of, is_continued_outside_comment}
 use Rattle.ud_model.specs.conditions.Table.{Argument}
-use Rattle.ud_model.specs.conditions.Conditions.{Decision, Rules, decision_on, expression_cond, tree_cond_if, decision_by_test}
+use Rattle.ud_model.specs.conditions.Conditions.{Decision, Rules, decision_on, expression_cond, tree_cond_if}
 use Rattle.ud_model.specs.sections.Tree.{Item, if_line, item_with}
 use Rattle.ud_model.specs.sections.Items.{Options, rules_of, directive_item, item_by, item_of}
 use Rattle.ud_model.specs.laws.Pruned.{edited, kept_line}
@@ -153,10 +153,6 @@ cond_past b t table rules e = ap (λ (o : Option Expression). tree_cond_if o tab
 pub condition_past : (p : Test) (b : ℕ) (t : List ℕ) → is_white b ≡ true → condition_by_test p (b ∷ t) ≡ condition_by_test p t
 condition_past p b t e = grind (arith, expression_past)
 
--- The decision is the same with leading white space.
-pub decided_past : (p : Test) (b : ℕ) (t : List ℕ) (table : List Argument) (rules : Rules) → is_white b ≡ true → decision_by_test p (b ∷ t) table rules ≡ decision_by_test p t table rules
-decided_past p b t table rules e = grind (arith, cond_past)
-
 -- The second item is the output for the first one with this verdict.
 abbrev pub IsLeftOf : Verdict → Item Reading → Item Reading → Type 0
 IsLeftOf v x y = item_with scanned y ∷ [] ≡ map (item_with left_seen) (kept_line v x)
@@ -165,12 +161,7 @@ IsLeftOf v x y = item_with scanned y ∷ [] ≡ map (item_with left_seen) (kept_
 -- plain text under neither keyword.
 spaced_decision : (s q : Scan) (d : Directive) (k : Kind) (n : ℕ) (table : List Argument) (rules : Rules) → test_of k ≡ test_of d.kind →
     (decision_on s d table rules).cond ≡ Unknown → decision_on q (spaced d k n) table rules ≡ decision_on s d table rules
-spaced_decision s q d k n table rules e u = grind (arith, decided_past)
-
--- The condition is written as it was, but for white space before it.
-written_as : (r q : Reading) (d : Directive) (k : Kind) (n : ℕ) → content_of r.scan ≡ directive d → content_of q.scan ≡ directive (spaced d k n) → test_of k ≡ test_of d.kind →
-    q.scan.joins_after ≡ r.scan.joins_after → condition_on q ≡ condition_on r
-written_as r q d k n e f t j = grind (arith, f, t, j, e)
+spaced_decision s q d k n table rules e u = grind (arith, cond_past)
 
 same_seen : {a b : List ℕ} {c d : Option Expression} {e f : Condition} {g h : Option Scan} → a ≡ b → c ≡ d → e ≡ f → g ≡ h →
     ◌≡◌ {A = Seen} (record { bytes = a; condition = c; written = e; text = g }) (record { bytes = b; condition = d; written = f; text = h })
@@ -189,7 +180,7 @@ module _ (o : Options) where
       q.scan.joins_after ≡ r.scan.joins_after → line_bytes q ≡ edited_bytes (edited ToIf r) → IsLeftOf ToIf (item_of o r) (item_of o q)
   if_item r q d k n e h u f g t j b =
       let c : condition_in q ≡ condition_in r = simp (condition_past, f, j, t, e) in
-      let w : condition_on q ≡ condition_on r = written_as r q d k n e f t j in
+      let w : condition_on q ≡ condition_on r = (grind (arith, f, t, j, e)) in
       let s : scanned q ≡ left_seen (edited ToIf r) = grind (arith, same_seen) in
       ap (λ (y : Item Reading). item_with scanned y ∷ []) (item_as q (spaced d k n) IfGroup f g)
       ∙ ap₂ (λ (t : Seen) (c : Decision). if_line (record { line = t; cond = c.cond; ignoring = c.ignoring }) ∷ []) s

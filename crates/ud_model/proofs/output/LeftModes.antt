@@ -1,6 +1,6 @@
 -- The output for a line, read again: in plain mode, and in C mode if the lines before and the output
 -- for them end in the same state.
-use Rattle.std.proofs.Common.{◌≡◌, List, ◌++◌, take, false, codes, ◌∙◌, ap, subst, arith, ◌≢◌, ℕ, [], ◌∷◌, map, Bool, true, ◌||◌, refl, sym}
+use Rattle.std.proofs.Common.{◌≡◌, List, ◌++◌, take, false, codes, ◌∙◌, ap, subst, arith, ◌≢◌, ℕ, [], ◌∷◌, map, Bool, true, refl, sym}
 use Rattle.ud_model.specs.text.Lines.{Line, text_of}
 use Rattle.ud_model.specs.text.Scans.{Reading, plain_scan, Scan, is_spanning}
 use Rattle.ud_model.specs.sections.Directives.{Content, Span, content_of, Directive, directive}
@@ -18,9 +18,8 @@ use Rattle.ud_model.proofs.output.LeftScans.{plain_if, plain_cut, SeenAsIf, Seen
 use Rattle.ud_model.proofs.output.Suited.{Suits}
 use Rattle.std.proofs.lemmas.Bool.{or_parts}
 use Rattle.ud_model.specs.text.Bytes.{backslash}
-use Rattle.ud_model.specs.text.Splicing.{is_spliced, content, stays_open, spliced_part, spliced_text, c_run_of}
-use Rattle.ud_model.specs.text.Lexemes.{LexemeKind, kind_at_end}
-use Rattle.ud_model.specs.text.Scanning.{is_block, comment_at, scan_after_run, scan_after}
+use Rattle.ud_model.specs.text.Splicing.{content, stays_open, c_run_of}
+use Rattle.ud_model.specs.text.Scanning.{scan_after_run, scan_after}
 use Rattle.ud_model.specs.aids.LexStates.{LexState, in_text, state_after_line, white_after_line}
 use Rattle.ud_model.proofs.sections.Soundness.{reading_of-item_of}
 use Rattle.ud_model.proofs.output.DirectiveFront.{quiet_word}
@@ -48,13 +47,10 @@ module _ (o : Options) (xs ys : List (Item Reading)) (l k : Line) where
 
 -- C mode.
 
-calm_by : (s : Bool) (k : LexemeKind) → (s || is_block k) ≡ false → is_in_block (comment_at s k) ≡ false
-calm_by s k e = grind arith
-
 -- A line that joins nothing doesn't end in a comment.
 calm_alone : (run : List Line) (l : Line) → (scan_after_run run l).joins_after ≡ false → is_in_block (scan_after_run run l).comment ≡ false
 unfolding scan_after_run
-calm_alone run l e = calm_by (is_spliced l) (kind_at_end (spliced_text run ++ spliced_part l)) (sym (joins_last run l) ∙ e)
+calm_alone run l e = grind (arith, sym (joins_last run l) ∙ e)
 
 -- A state under another name.
 leaves_as : {xs : List (Item Reading)} {w v : LexState} {a b c d : Bool} → w ≡ v → a ≡ b → c ≡ d → LeavesOff xs w a c → LeavesOff xs v b d

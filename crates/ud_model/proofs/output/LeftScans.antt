@@ -6,7 +6,7 @@ use Rattle.ud_model.specs.text.Scans.{Scan, plain_scan}
 use Rattle.ud_model.specs.text.Splicing.{is_spliced, content, stays_open}
 use Rattle.ud_model.specs.text.Lexemes.{LexemeKind, single}
 use Rattle.ud_model.specs.text.Scanning.{is_block, comment_at}
-use Rattle.ud_model.specs.aids.LexStates.{LexState, in_text, kind_in_state, state_after_line}
+use Rattle.ud_model.specs.aids.LexStates.{LexState, kind_in_state, state_after_line}
 use Rattle.ud_model.specs.sections.Directives.{Content, Directive, Span, directive, content_of, is_continued_outside_comment, is_outside}
 use Rattle.ud_model.specs.sections.Faults.{is_in_block}
 use Rattle.ud_model.specs.answer.Printing.{opener_keyword, keyword_in}
@@ -106,9 +106,6 @@ if_scan w white on l k d s e h =
       next = record { stays_is = t; place_is = x.place_is; white_is = x.white_is };
     }
 
-calm_in_text : (t : Bool) → kind_in_state (state_after_line t in_text) ≡ single
-calm_in_text t = grind arith
-
 -- A line that ends after its new keyword is scanned so.
 pub cut_seen : (w : LexState) (white on : Bool) (l k : Line) (d : Directive) (word : List ℕ) → Sane w white → content_of (scan_from w white on l) ≡ directive d →
     Each IsInert word → (EndsIn backslash (take d.keyword.at l.body ++ word) → ⊥) → k.body ≡ take d.keyword.at l.body ++ word →
@@ -119,7 +116,7 @@ cut_seen w white on l k d word s e i n b =
     let x = cut_scan w white on l k d word s e i (cut_line_content d.keyword l k within word n b) in
     let p : is_spliced k ≡ false = cut_splice d.keyword l k within word n b in
     let v : kind_in_state (state_after_line (stays_open k) (place_after w (content k))) ≡ single =
-    ap (λ (q : LexState). kind_in_state (state_after_line (stays_open k) q)) x.place_is ∙ calm_in_text (stays_open k) in
+    ap (λ (q : LexState). kind_in_state (state_after_line (stays_open k) q)) x.place_is ∙ (grind arith) in
     record {
       masked_is = x.masked_is;
       fresh_is = x.fresh_is;

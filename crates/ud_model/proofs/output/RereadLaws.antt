@@ -116,12 +116,9 @@ printed_bytes _ _ = refl
 pub plain_output : (o : Options) → IsPlain o → (xs : List (Item Reading)) (ms : List Mark) → printed_by o.settings xs ms ≡ concat (map left_piece (printed xs ms))
 plain_output o p xs ms = grind (arith, pieces_lone, printed_bytes)
 
-line_with : {A B : Type 0} (f : A → B) (y : Item A) → line_in (item_with f y) ≡ f (line_in y)
-line_with f h = grind arith
-
 map_lines : {A B : Type 0} (f : A → B) (ys : List (Item A)) → map line_in (map (item_with f) ys) ≡ map (λ y. f (line_in y)) ys
 map_lines f [] = refl
-map_lines f (y ∷ ys) = ap₂ (λ (a : _) (b : List _). a ∷ b) (line_with f y) (map_lines f ys)
+map_lines f (y ∷ ys) = ap₂ (λ (a : _) (b : List _). a ∷ b) (grind arith) (map_lines f ys)
 
 line_read : (y : Item Reading) → reading_of y ≡ line_in y
 line_read y = grind arith

@@ -1,6 +1,6 @@
 -- Sizes: the pieces of a text are as long as their lines, each by itself, or shorter than them
 -- together.
-use Rattle.std.proofs.Common.{◌≡◌, ℕ, suc, ◌+◌, ◌≤◌, ◌<◌, List, [], ◌∷◌, ◌++◌, length, map, Bool, true, false, not, ◌&&◌, ◌||◌, bytes_eq, refl, ap₂, arith, append-nil, length-append}
+use Rattle.std.proofs.Common.{◌≡◌, ℕ, suc, ◌≤◌, ◌<◌, List, [], ◌∷◌, ◌++◌, length, map, Bool, true, false, not, ◌&&◌, ◌||◌, bytes_eq, refl, ap₂, arith, append-nil, length-append}
 use Rattle.std.specs.List.{concat}
 use Rattle.std.proofs.lemmas.List.{map-append}
 use Rattle.std.proofs.lemmas.List.Folds.{concat-append}
@@ -50,17 +50,9 @@ loose_fits f js ks a b = grind (arith, map-append, concat-append, length-append,
 pub fits_loose : (f : Judged → List ℕ) (js ks : List Judged) → Fits f js → Loose f ks → Loose f (js ++ ks)
 fits_loose f js ks a b = grind (arith, map-append, concat-append, length-append, same_out)
 
--- The case of one byte more, and then a line that loses two.
-pub loose_closed : (f : Judged → List ℕ) (js : List Judged) (j : Judged) → Loose f js → length (f j) + 2 ≤ length (whole j) → Fits f (js ++ j ∷ [])
-loose_closed f js j a h = grind (arith, append-nil, map-append, concat-append, length-append)
-
 -- A line that doesn't grow fits.
 pub fits_one : (f : Judged → List ℕ) (j : Judged) → length (f j) ≤ length (whole j) → Fits f (j ∷ [])
 fits_one f j h = grind (arith, append-nil)
-
--- The case of a line that grows by a byte.
-pub loose_one : (f : Judged → List ℕ) (j : Judged) → length (f j) ≤ suc (length (whole j)) → Loose f (j ∷ [])
-loose_one f j h = grind (arith, append-nil)
 
 -- No lines fit.
 pub fits_none : (f : Judged → List ℕ) → Fits f []

@@ -1,20 +1,16 @@
 -- The position of a keyword is within the masked line, and so within the line's body.
-use Rattle.std.proofs.Common.{◌≡◌, ℕ, suc, ◌+◌, ◌≤◌, List, [], ◌∷◌, length, Bool, Option, Some, None, if◌then◌else◌, refl, arith, rules}
-use Rattle.ud_model.specs.text.Bytes.{leading_word, skip_word, is_word_byte}
+use Rattle.std.proofs.Common.{◌≡◌, ℕ, ◌+◌, ◌≤◌, List, [], ◌∷◌, length, Bool, Option, Some, None, if◌then◌else◌, refl, arith, rules}
+use Rattle.ud_model.specs.text.Bytes.{leading_word, skip_word}
 use Rattle.ud_model.specs.text.Scans.{Scan}
 use Rattle.ud_model.specs.sections.Directives.{Content, directive, text, content_of, skip_white_and_hash, skip_hash, content_after_hash, directive_at}
 use Rattle.ud_model.specs.answer.Printing.{keyword_in}
 use Rattle.ud_model.specs.declared.kind.Kind.{Kind}
 use Rattle.ud_model.proofs.text.ByteLemmas.{length-skip_white}
 
-word_one : (w : Bool) (b : ℕ) (bs word rest : List ℕ) → length word + length rest ≡ length bs →
-    length (if w then b ∷ word else []) + length (if w then rest else b ∷ bs) ≡ suc (length bs)
-word_one w b bs word rest h = grind arith
-
 -- A leading word and the rest after it are the text.
 pub word_and_rest : (t : List ℕ) → length (leading_word t) + length (skip_word t) ≡ length t
 word_and_rest [] = refl
-word_and_rest (b ∷ bs) = word_one (is_word_byte b) b bs (leading_word bs) (skip_word bs) (word_and_rest bs)
+word_and_rest (b ∷ bs) = grind (arith, word_and_rest bs)
 
 pub sign_le : (t rest : List ℕ) → skip_hash t ≡ Some rest → length rest ≤ length t
 sign_le t rest e = grind arith
@@ -24,21 +20,14 @@ abbrev pub Lies : ℕ → Content → Type 0
 Lies n (directive d) = (d.keyword.at + d.keyword.len ≤ n) × (length d.after ≤ n)
 Lies n _ = Unit {0}
 
-lies_at : (scan : Scan) (rest : List ℕ) (k : Option Kind) → length rest ≤ length scan.masked → Lies (length scan.masked) (directive_at scan rest k)
-lies_at scan rest k h = grind (arith, word_and_rest)
-
 lies_fresh : (scan : Scan) (fresh : Bool) (rest : List ℕ) (k : Option Kind) → length rest ≤ length scan.masked →
     Lies (length scan.masked) (if fresh then directive_at scan rest k else text)
-lies_fresh scan fresh rest k h = grind (arith, lies_at)
+lies_fresh scan fresh rest k h = grind (arith, word_and_rest)
 
 lies_behind : (scan : Scan) (sign : Option (List ℕ)) → skip_white_and_hash scan.masked ≡ sign → Lies (length scan.masked) (content_after_hash scan sign)
 lies_behind scan None e = tt
 lies_behind scan (Some rest) e = search (rules, length-skip_white, sign_le, lies_fresh)
 
--- A directive's keyword lies within the masked line, and so do the bytes after it.
-pub content_lies : (scan : Scan) → Lies (length scan.masked) (content_of scan)
-content_lies scan = grind (arith, lies_behind)
-
 -- The keyword lies within the masked line.
 pub keyword_lies : (scan : Scan) → (keyword_in (content_of scan)).at + (keyword_in (content_of scan)).len ≤ length scan.masked
-keyword_lies scan = grind (arith, content_lies)
+keyword_lies scan = grind (arith, lies_behind)

@@ -11,7 +11,6 @@ use Rattle.ud_model.specs.laws.Rereading.{AreRead, no_items, one_item, IsTreeOf}
 use Rattle.ud_model.specs.answer.Outcomes.{Outcome, FirstFaultAt, HasNoFault, ReadsAs, HasOutcome, ran_as, lines_so_far, line_so_far, RestBreaks, ReadsSoFar, HasOutcomeSoFar, came_as}
 use Rattle.ud_model.specs.answer.Outcomes.ReadsAs.{stops, ends}
 use Rattle.ud_model.specs.answer.Outcomes.ReadsSoFar.{stops as stops_so_far, breaks, goes_on}
-use Rattle.ud_model.specs.answer.Answer.{Answer, IsAnswer}
 use Rattle.ud_model.proofs.text.Pushes.{ByPush, none, push, by_push, push_not_nil}
 use Rattle.ud_model.proofs.sections.Unique.{unique}
 use Rattle.ud_model.proofs.sections.FaultStays.{reading_of-item_by, line_of-next_item}
@@ -198,7 +197,3 @@ reads_so_far_once {o = o} {given = given} (goes_on xs t a c) (goes_on ys u b d) 
 -- A text that goes on has one outcome at most so far.
 pub one_run_so_far : {o : Options} {given : List ℕ} {r s : Outcome} → HasOutcomeSoFar o given r → HasOutcomeSoFar o given s → r ≡ s
 one_run_so_far {o = o} (came_as {xs = xs} {t = t} {f = f} a) (came_as {xs = ys} {t = u} {f = g} b) = grind (arith, reads_so_far_once)
-
--- Arguments and an input have one answer at most.
-pub one_answer : {args : List (List ℕ)} {input : List ℕ} {a b : Answer} → IsAnswer args input a → IsAnswer args input b → a ≡ b
-one_answer h g = grind (arith, one_run)

@@ -16,9 +16,6 @@ past_white_then [] t h = refl
 past_white_then (b ∷ ws) t h =
     let p : (is_white b ≡ true) × (are_white ws ≡ true) = and_parts (is_white b) (are_white ws) h in cc (p.0, past_white_then ws t p.1)
 
-no_white : (t : List ℕ) → first_is is_white t ≡ false → skip_white t ≡ t
-no_white t h = grind arith
-
 no_word : (t : List ℕ) → first_is is_word_byte t ≡ false → (leading_word t ≡ []) × (skip_word t ≡ t)
 no_word t h = grind arith
 
@@ -81,7 +78,7 @@ computed : (p : DirectiveParts) (masked : List ℕ) → AreParts p masked → Co
 computed p masked h = let w = word_then p.word p.rest h.word h.word_ends in
     record {
       tail = ap skip_white_and_hash h.joined ∙ ap skip_hash (past_white_then p.white (number_sign ∷ (p.gap ++ (p.word ++ p.rest))) h.white);
-      behind = past_white_then p.gap (p.word ++ p.rest) h.gap ∙ no_white (p.word ++ p.rest) h.gap_ends;
+      behind = past_white_then p.gap (p.word ++ p.rest) h.gap ∙ (grind (arith, h.gap_ends));
       word = w.0;
       rest = w.1;
     }

@@ -1,28 +1,22 @@
 -- Stays: a line's mark is the same in every longer text, since no later group's condition changes
 -- an opener's verdict.
-use Rattle.std.proofs.Common.{◌≡◌, List, [], ◌∷◌, ◌++◌, length, Bool, true, not, ◌&&◌, if◌then◌else◌, refl, append_assoc, append-nil, subst, arith}
+use Rattle.std.proofs.Common.{◌≡◌, List, [], ◌∷◌, ◌++◌, length, Bool, true, ◌&&◌, refl, append_assoc, append-nil, subst, arith}
 use Rattle.ud_model.specs.declared.cond.Cond.{Cond}
 use Rattle.ud_model.specs.declared.cond.Cond.TheVariants.{Yes, No}
-use Rattle.ud_model.specs.declared.verdict.Verdict.TheVariants.{Keep, Remove, ToEndif}
+use Rattle.ud_model.specs.declared.verdict.Verdict.TheVariants.{Keep}
 use Rattle.ud_model.specs.sections.Tree.{Item, Nodes, Groups, Elifs, Head, Tree, nothing, text, section, conditional, otherwise, first, elif, closed, open_section, lines}
-use Rattle.ud_model.specs.sections.Pruning.{Part, an_if, an_elif, an_else, next_after, further_on, up_to_true, verdict_in_position, later_verdict, Mark, marked, is_kept, is_inside_kept, opener_verdict, endif_verdict, conds_of_elifs, conds_of_groups, marks_of_nodes, marks_of_groups, marks_of_elifs, marks_in, marks}
+use Rattle.ud_model.specs.sections.Pruning.{Part, an_if, an_elif, an_else, Mark, marked, is_kept, is_inside_kept, opener_verdict, endif_verdict, conds_of_elifs, conds_of_groups, marks_of_nodes, marks_of_groups, marks_of_elifs, marks_in, marks}
 use Rattle.ud_model.specs.aids.SoFar.{verdict_so_far, nodes_so_far, groups_so_far, elifs_so_far, head_so_far, marks_so_far}
 use Rattle.ud_model.proofs.text.Pushes.{by_push}
 use Rattle.ud_model.proofs.sections.Growth.{Adds, adds_text, adds_if, elif_after_if, elif_after_elif, else_after_if, else_after_elif, adds_endif, adds_under, complete}
 use Rattle.ud_model.proofs.sections.Unique.{length_by, stay_by}
-
--- The table is taken by its rows, if the section doesn't give way and some group before is kept.
-after_first : (some ends : Bool) (part : Part) (c : Cond) →
-    verdict_in_position (if not some then up_to_true c else if ends then next_after else further_on) part
-    ≡ (if not some then later_verdict part c else if ends then ToEndif else Remove)
-after_first some ends part c = grind arith
 
 -- The table over the whole section is that by the groups so far: the conditions of later groups
 -- change no opener's verdict.
 pub table_so_far : (before later : List Cond) (part : Part) (c : Cond) →
     opener_verdict (before ++ c ∷ later) before part c ≡ verdict_so_far before part c
 table_so_far (No ∷ bs) later part c = table_so_far bs later part c
-table_so_far before later part c = grind (arith, after_first)
+table_so_far before later part c = grind (arith)
 
 module _ {L : Type 0} where
   mutual

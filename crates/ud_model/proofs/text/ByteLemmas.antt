@@ -1,9 +1,9 @@
 -- White space and words, by std's functions for tests and positions.
-use Rattle.std.proofs.Common.{◌≡◌, ◌∙◌, ◌≤◌, ◌<◌, nat_lt, Some, None, unwrap_or, slice_get, arith, ℕ, ◌+◌, List, [], ◌∷◌, Bool, true, false, not, cond, length, take, drop, refl, ap, if◌then◌else◌, ◌&&◌, get_or, sym}
+use Rattle.std.proofs.Common.{◌≡◌, ◌∙◌, ◌≤◌, ◌<◌, Some, unwrap_or, slice_get, arith, ℕ, ◌+◌, List, [], ◌∷◌, Bool, true, false, not, cond, length, take, drop, refl, ap, if◌then◌else◌, ◌&&◌, get_or, sym}
 use Rattle.std.specs.List.{list_all, position, position_or_len}
 use Rattle.std.proofs.lemmas.List.Sums.{prefix_len-le-length}
 use Rattle.std.proofs.lemmas.Bool.Decides.{nat_tests}
-use Rattle.ud_model.specs.text.Bytes.{is_white, is_word_byte, are_word_bytes, is_digit, is_identifier, leading_word, skip_word, skip_white}
+use Rattle.ud_model.specs.text.Bytes.{is_word_byte, are_word_bytes, is_digit, is_identifier, leading_word, skip_word, skip_white}
 
 -- `all` with `is_word_byte` tests each byte for a word byte.
 pub list_all-word : (bytes : List ℕ) → list_all (λ b. is_word_byte b) bytes ≡ are_word_bytes bytes
@@ -20,9 +20,6 @@ take_one w n b bs prefix h = grind arith
 drop_one : (w : Bool) (n b : ℕ) (bs rest : List ℕ) → drop n bs ≡ rest → drop (cond (not (not w)) (1 + n) 0) (b ∷ bs) ≡ (if w then rest else b ∷ bs)
 drop_one w n b bs rest h = grind arith
 
-or_len : (n len : ℕ) → n ≤ len → unwrap_or (cond (nat_lt n len) (Some n) None) len ≡ n
-or_len n len h = grind (arith, nat_tests)
-
 -- The bytes before the first that is no word byte are the leading word.
 pub take-front_len : (bytes : List ℕ) → take (front_len bytes) bytes ≡ leading_word bytes
 take-front_len [] = refl
@@ -33,13 +30,10 @@ pub drop-front_len : (bytes : List ℕ) → drop (front_len bytes) bytes ≡ ski
 drop-front_len [] = refl
 drop-front_len (b ∷ bs) = drop_one (is_word_byte b) (front_len bs) b bs (skip_word bs) (drop-front_len bs)
 
-front_one : (w : Bool) (b n : ℕ) (word : List ℕ) → n ≡ length word → cond (not (not w)) (1 + n) 0 ≡ length (if w then b ∷ word else [])
-front_one w b n word h = grind arith
-
 -- The position of the first other byte is the length of the leading word.
 pub front_len-word : (bytes : List ℕ) → front_len bytes ≡ length (leading_word bytes)
 front_len-word [] = refl
-front_len-word (b ∷ bs) = front_one (is_word_byte b) b (front_len bs) (leading_word bs) (front_len-word bs)
+front_len-word (b ∷ bs) = grind (arith, front_len-word bs)
 
 -- So many bytes are the leading word, and the others follow it.
 pub word_and_rest : (bytes : List ℕ) (n : ℕ) → length (leading_word bytes) ≡ n → (n ≤ length bytes) × (take n bytes ≡ leading_word bytes) × (drop n bytes ≡ skip_word bytes)
@@ -60,24 +54,18 @@ word_of_four bytes count h e = absurd (omega (arith, h))
 
 -- The position of the first byte that passes, or the length if none does.
 pub unwrap_or-position : (p : ℕ → Bool) (bytes : List ℕ) → unwrap_or (position p bytes) (length bytes) ≡ position_or_len p bytes
-unwrap_or-position p bytes = or_len (position_or_len p bytes) (length bytes) (prefix_len-le-length (λ b. not (p b)) bytes)
+unwrap_or-position p bytes = grind (arith, nat_tests, (prefix_len-le-length (λ b. not (p b)) bytes))
 
 -- After a first byte that is no digit, an identifier has word bytes alone.
 pub is_identifier-first : (text : List ℕ) (first : ℕ) → slice_get text 0 ≡ Some first → is_digit first ≡ false → is_identifier text ≡ are_word_bytes text
 is_identifier-first text first e h = grind arith
 
-one_off : (w : Bool) (b : ℕ) (bs rest : List ℕ) → length rest ≤ length bs → length (if w then rest else b ∷ bs) ≤ length (b ∷ bs)
-one_off w b bs rest h = grind arith
-
 -- The rest after leading white space is no longer than the text.
 pub length-skip_white : (bytes : List ℕ) → length (skip_white bytes) ≤ length bytes
 length-skip_white [] = omega arith
-length-skip_white (b ∷ bs) = one_off (is_white b) b bs (skip_white bs) (length-skip_white bs)
-
-one_word : (w : Bool) (b : ℕ) (prefix : List ℕ) → is_word_byte b ≡ w → are_word_bytes prefix ≡ true → are_word_bytes (if w then b ∷ prefix else []) ≡ true
-one_word w b prefix e h = grind arith
+length-skip_white (b ∷ bs) = grind (arith, length-skip_white bs)
 
 -- The leading word has word bytes alone.
 pub leading_word-word : (bytes : List ℕ) → are_word_bytes (leading_word bytes) ≡ true
 leading_word-word [] = refl
-leading_word-word (b ∷ bs) = one_word (is_word_byte b) b (leading_word bs) refl (leading_word-word bs)
+leading_word-word (b ∷ bs) = grind (arith, leading_word-word bs)

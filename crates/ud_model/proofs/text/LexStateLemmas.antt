@@ -39,12 +39,9 @@ is_blank-append xs ys = list_all-append (λ (c : Cell). is_white (shown c)) xs y
 pub is_blank_last : (xs : List Cell) (c : Cell) → is_blank (xs ++ c ∷ []) ≡ (is_blank xs && is_white (shown c))
 is_blank_last xs c = is_blank-append xs (c ∷ []) ∙ ap (λ (b : Bool). is_blank xs && b) (and-true (is_white (shown c)))
 
-white-at_slash : (b : ℕ) (x : List Cell) → is_blank (open_line x (settles at_slash b)) ≡ stays_white at_slash (is_blank x) b
-white-at_slash b x = grind (arith, is_blank_last, and-false)
-
 -- The open line after a byte is white as `stays_white` computes it.
 pub white_step : (w : LexState) (b : ℕ) (x : List Cell) → is_blank (open_line x (settles w b)) ≡ stays_white w (is_blank x) b
-white_step w b x = grind (arith, white-at_slash, is_blank_last)
+white_step w b x = grind (arith, and-false, is_blank_last)
 
 -- One more byte takes the text to the next state.
 pub LexesTo-step : {text : List ℕ} {w : LexState} {white : Bool} (b : ℕ) → LexesTo text w white → LexesTo (text ++ b ∷ []) (next_state w b) (stays_white w white b)
@@ -146,10 +143,6 @@ mask_step text w white b r =
     ∙ opened w b (map shown r.settled) (masked_byte w b)
     ∙ ap (λ (l : List ℕ). (if opens_comment w b then blank_last l else l) ++ masked_byte w b ∷ []) (sym (mask_is text w white r))
 
-cond_drop : (o : Bool) (n : ℕ) (xs : List ℕ) (y : ℕ) → n ≤ length xs →
-    drop n ((if o then blank_last xs else xs) ++ y ∷ []) ≡ (if o then blank_last (drop n xs) else drop n xs) ++ y ∷ []
-cond_drop o n xs y h = grind (arith, drop-append-le, length-blank_last, blank_last-drop)
-
 -- The masked text after its first `n` bytes, with one more byte.
 pub Masks-step : {n : ℕ} {text : List ℕ} {w : LexState} {white : Bool} {masked : List ℕ} (b : ℕ) → Masks n text w white masked →
     Masks n (text ++ b ∷ []) (next_state w b) (stays_white w white b) ((if opens_comment w b then blank_last masked else masked) ++ masked_byte w b ∷ [])
@@ -157,6 +150,6 @@ Masks-step {n} {text} {w} {white} {masked} b m = record {
   reads = LexesTo-step b m.reads;
   within = let h : n ≤ length text = m.within in omega (arith, length-append text (b ∷ []));
   masked_is = ap (λ (l : List ℕ). (if opens_comment w b then blank_last l else l) ++ masked_byte w b ∷ []) m.masked_is
-      ∙ sym (cond_drop (opens_comment w b) n (mask text) (masked_byte w b) (subst (λ (k : ℕ). n ≤ k) (sym (length-mask text)) m.within))
+      ∙ sym (grind (arith, drop-append-le, length-blank_last, blank_last-drop, (subst (λ (k : ℕ). n ≤ k) (sym (length-mask text)) m.within)))
       ∙ ap (λ (l : List ℕ). drop n l) (sym (mask_step text w white b m.reads));
 }

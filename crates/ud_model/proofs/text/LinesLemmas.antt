@@ -21,10 +21,6 @@ pub some_front : (p q : List ℕ) → p ≢ [] → p ++ q ≢ []
 some_front [] q some e = some refl
 some_front (b ∷ bs) q some e = cc
 
--- The rest as a line, joined, is the rest.
-pub concat-last_line : (r : List ℕ) → concat (last_line r) ≡ r
-concat-last_line r = grind (arith, append-nil)
-
 -- If neither of two texts has a newline, both joined have none.
 pub no_newline-append : (p q : List ℕ) → NoNewline p → NoNewline q → NoNewline (p ++ q)
 no_newline-append [] q hp hq = hq
@@ -184,7 +180,7 @@ formed ls r h g = grind arith
 
 -- A text has lines.
 pub lines_exist : (t : List ℕ) → AreLines t (texts_of t)
-lines_exist t = grind (arith, parts_joined, concat-last_line, concat-append, formed, are_whole, partial_line-open)
+lines_exist t = grind (arith, parts_joined, append-nil, concat-append, formed, are_whole, partial_line-open)
 
 -- Formed lines are the lines of the text that they form when joined.
 pub texts_of-formed : (ls : List (List ℕ)) → AreFormed ls → ls ≡ texts_of (concat ls)

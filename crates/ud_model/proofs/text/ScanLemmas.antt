@@ -1,12 +1,12 @@
 -- Scans: the scan of a line, from the state after the text before it.
-use Rattle.std.proofs.Common.{◌≡◌, ℕ, suc, ◌+◌, List, [], ◌∷◌, ◌++◌, length, take, drop, map, Bool, true, false, ◌&&◌, ◌||◌, if◌then◌else◌, refl, sym, ◌∙◌, ap, append_assoc, append-nil, arith, length-append, length-drop}
+use Rattle.std.proofs.Common.{◌≡◌, ℕ, ◌+◌, List, [], ◌∷◌, ◌++◌, length, take, drop, map, Bool, true, false, ◌&&◌, ◌||◌, if◌then◌else◌, refl, sym, ◌∙◌, ap, append_assoc, append-nil, arith, length-append, length-drop}
 use Rattle.std.proofs.lemmas.List.{take_at, take_all, take-map, drop-map, drop-append-le, drop_all}
 use Rattle.std.proofs.lemmas.Grind.{flat_map-append}
 use Rattle.ud_model.specs.text.Bytes.{newline, slash, star, space, starts_with_byte}
 use Rattle.ud_model.specs.text.Lines.{Line}
 use Rattle.ud_model.specs.text.Scans.{Scan, Reading}
 use Rattle.ud_model.specs.text.Splicing.{is_spliced, content, stays_open, newline_of, spliced_part, spliced_text, extended_run, c_run_from, c_run_of, last_is_spliced}
-use Rattle.ud_model.specs.text.Lexemes.{LexemeKind, block_comment, line_comment, single, Cell, Extent, comment_size, line_comment_size, lexeme_at, lex_from, lex, shown, open_line, last_kind, kind_at_end}
+use Rattle.ud_model.specs.text.Lexemes.{LexemeKind, Cell, lexeme_at, lex_from, lex, shown, open_line, last_kind, kind_at_end}
 use Rattle.ud_model.specs.text.Scanning.{is_block, joins, comment_at, is_blank, scan_after_run}
 use Rattle.ud_model.specs.aids.LexStates.{LexState, in_text, at_slash, in_block, at_star, in_line, in_literal, at_backslash, cells_after, LexesTo, opens_comment, masked_byte, kind_in_state, fresh_at, state_after_line, white_after_line, blank_last, mask, Masks}
 use Rattle.ud_model.specs.declared.kind.Mode.TheVariants.{C}
@@ -42,13 +42,6 @@ fresh_clean text w white s r none =
     let size : length r.settled ≡ length text = omega (arith, settled_all r, ap (λ (cells : List Cell). length cells) none) in
     cc (r.splits s, take_at r.settled (cells_after w s) (length text) size, r.white_is)
 
-slash_first : (t c : Bool) (s : List ℕ) (x : List Cell) (m n : ℕ) → (let piece : Extent =
-    if t then record { kind = block_comment; more = m }
-    else if c then record { kind = line_comment; more = n }
-    else record { kind = single; more = 0 } in
-    is_blank (open_line x (cell piece.kind slash ∷ []))) ≡ (is_blank x && (t || c))
-slash_first t c s x m n = grind (arith, is_blank_last)
-
 fresh_slash : (text : List ℕ) (white : Bool) (s : List ℕ) (r : LexesTo text at_slash white) →
     is_blank (open_line [] (take (length text) (lex (text ++ s)))) ≡ (white && (starts_with_byte star s || starts_with_byte slash s))
 unfolding cells_after lex_from lexeme_at
@@ -58,7 +51,7 @@ fresh_slash text white s r = let first : List Cell = cell (lexeme_at slash s).ki
     ap (λ (cells : List Cell). is_blank (open_line [] (take (length text) cells))) (r.splits s ∙ sym (append_assoc r.settled first rest))
     ∙ ap (λ (cells : List Cell). is_blank (open_line [] cells)) (take_at (r.settled ++ first) rest (length text) size)
     ∙ ap is_blank (open_line-append [] r.settled first)
-    ∙ slash_first (starts_with_byte star s) (starts_with_byte slash s) s (open_line [] r.settled) (suc (comment_size (drop 1 s))) (suc (line_comment_size (drop 1 s)))
+    ∙ (grind (arith, is_blank_last))
     ∙ ap (λ (v : Bool). v && (starts_with_byte star s || starts_with_byte slash s)) (sym r.white_is)
 
 -- The line that follows a text is fresh, or it isn't, by the state after the text.
@@ -75,10 +68,6 @@ fresh_at_place text (at_backslash q) white s r = fresh_clean text (at_backslash 
 
 opens_comment-feed : (w : LexState) → opens_comment w newline ≡ false
 opens_comment-feed w = grind arith
-
--- The newline after a line doesn't change whether the line is fresh.
-pub fresh-close : (w : LexState) (white : Bool) (line : Line) → fresh_at w white (spliced_part line) ≡ fresh_at w white (content line)
-fresh-close w white line = grind arith
 
 -- The state after a line's content and its newline.
 pub LexesTo-close : (text : List ℕ) (line : Line) (w : LexState) (white : Bool) → LexesTo (text ++ content line) w white →
@@ -159,7 +148,7 @@ scan_behind_is run line masked w v white now_white before r j m =
     let at_end : kind_at_end (spliced_text run ++ spliced_part line) ≡ kind_in_state (state_after_line (stays_open line) v) =
     kind_at_place (LexesTo-close (spliced_text run) line v now_white m.reads) in
     same_scan (masked_is (spliced_text run) line m)
-    (fresh_at_place (spliced_text run) w white (spliced_part line) r ∙ fresh-close w white line)
+    (fresh_at_place (spliced_text run) w white (spliced_part line) r ∙ (grind arith))
     (sym j)
     (joins_last run line ∙ ap (λ (k : LexemeKind). is_spliced line || is_block k) at_end)
     (ap (λ (k : LexemeKind). comment_at (is_spliced line) k) at_end)

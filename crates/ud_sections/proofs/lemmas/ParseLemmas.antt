@@ -1,6 +1,5 @@
 -- ParseLemmas: what follows the `#` of a line is no longer than the line.
-use Rattle.std.proofs.Common.{◌≡◌, ◌≤◌, ◌+◌, ◌-◌, ℕ, List, length, take, drop, Some, ap, arith}
-use Rattle.std.proofs.lemmas.List.{length-drop, length-take-le}
+use Rattle.std.proofs.Common.{◌≡◌, ◌≤◌, ℕ, List, length, Some, ap, arith}
 use Rattle.ud_model.specs.text.Bytes.{skip_white}
 use Rattle.ud_model.specs.sections.Directives.{skip_white_and_hash}
 use Rattle.ud_model.proofs.text.ByteLemmas.{length-skip_white}

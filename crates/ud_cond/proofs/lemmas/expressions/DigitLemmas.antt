@@ -1,9 +1,9 @@
 -- Numbers grow with their digits, so a number that is too large stays too large.
-use Rattle.std.proofs.Common.{◌≡◌, ℕ, ℤ, pos, ◌≤◌, ◌<◌, ◌+◌, ◌*◌, ◌^◌, ◌==◌, List, [], ◌∷◌, length, get_or, Bool, Some, None, true, false, refl, sym, subst, arith}
+use Rattle.std.proofs.Common.{◌≡◌, ℕ, pos, ◌≤◌, ◌<◌, ◌+◌, ◌*◌, ◌^◌, ◌==◌, List, [], ◌∷◌, length, get_or, Bool, Some, None, true, false, refl, sym, subst, arith}
 use Rattle.std.proofs.lemmas.Bool.{eqb-true}
 use Rattle.ud_model.specs.text.Bytes.{is_digit}
 use Rattle.ud_model.specs.conditions.Constants.{constant_parts, suffix_sign, append_digits, digit_value}
-use Rattle.ud_model.specs.conditions.Values.{limited, text_value, text_has_u}
+use Rattle.ud_model.specs.conditions.Values.{limited}
 use Rattle.ud_cond.specs.expressions.Digits.{IsOneDigit}
 use Rattle.ud_cond.specs.declared.expressions.constants.Base.{Base}
 use Rattle.ud_cond.specs.CondViews.{base_of}

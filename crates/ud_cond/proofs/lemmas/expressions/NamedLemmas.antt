@@ -1,8 +1,8 @@
 -- The value of a name as an operand, by its entry in the table.
-use Rattle.std.proofs.Common.{◌≡◌, ℕ, List, length, Bool, true, false, ◌&&◌, Option, Some, None, is_some, ℤ, pos, IfSome, arith}
+use Rattle.std.proofs.Common.{◌≡◌, ℕ, List, Bool, true, false, ◌&&◌, Option, Some, None, is_some, ℤ, pos, IfSome, arith}
 use Rattle.ud_model.specs.text.Bytes.{is_identifier}
 use Rattle.ud_model.specs.conditions.Table.{Argument, Entry, entry_in}
-use Rattle.ud_model.specs.conditions.Symbols.{defined_text, at_text, resolve_within, resolve}
+use Rattle.ud_model.specs.conditions.Symbols.{defined_text, at_text, resolve}
 use Rattle.ud_model.specs.conditions.Values.{name_value, name_value_by, name_has_u, end_has_u}
 use Rattle.ud_model.specs.conditions.Conditions.{undefined_by}
 use Rattle.ud_model.proofs.conditions.SymbolLemmas.{end_found}

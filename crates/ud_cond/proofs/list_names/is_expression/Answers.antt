@@ -1,6 +1,5 @@
 use Rattle.ud_model.proofs.conditions.Readings.{reads_meaning}
-use Rattle.std.proofs.Common.{◌∙◌, ap, is_some, false, [], arith}
-use Rattle.ud_cond.specs.expressions.Evaluation.{value_meaning}
+use Rattle.std.proofs.Common.{◌∙◌, ap, is_some, arith}
 use Rattle.ud_cond.proofs.list_names.is_expression.Goals as goal
 
 pub returns : goal.returns

@@ -14,7 +14,7 @@ returns-then-left-line g c =
 pub returns : goal.returns
 returns g c = let differs : bytes_eq c.args.left.now (c.args.line.now.body.now ++ c.args.line.now.ending.now) ≡ false =
     sym (left_is_line c.args.left.now c.args.line.now.body.now c.args.line.now.ending.now c.requires.left) ∙ grind (arith, c.if-left-line.false) in (
-  sym (ap not differs),
-  takes_both c.args.out.now.failed c.append.new.out.failed c.append-2.new.out.failed (g.W.Write.contents c.args.out.now.inner) (g.W.Write.contents c.append.new.out.inner) (g.W.Write.contents c.append-2.new.out.inner)
-      c.args.output.now c.append.new.self c.append-2.new.self c.args.pending.now c.args.left.now c.append.ensures c.append-2.ensures,
-)
+      sym (ap not differs),
+      takes_both c.args.out.now.failed c.append.new.out.failed c.append-2.new.out.failed (g.W.Write.contents c.args.out.now.inner) (g.W.Write.contents c.append.new.out.inner) (g.W.Write.contents c.append-2.new.out.inner)
+          c.args.output.now c.append.new.self c.append-2.new.self c.args.pending.now c.args.left.now c.append.ensures c.append-2.ensures,
+    )

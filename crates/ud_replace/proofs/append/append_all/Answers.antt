@@ -1,6 +1,7 @@
-use Rattle.std.proofs.Common.{◌≡◌, rules}
+use Rattle.std.proofs.lemmas.Grind.{common_steps}
+use Rattle.std.proofs.Common.{◌≡◌, rules, arith}
 use Rattle.ud_replace.specs.Filling.{all, stopped}
-use Rattle.ud_replace.proofs.TakesLemmas.{takes_none, takes_more, takes_all, empty_of}
+use Rattle.ud_replace.proofs.TakesLemmas.{takes_none, takes_more, empty_of}
 use Rattle.ud_replace.proofs.append.append_all.Goals as goal
 
 pub loop-rest-init : goal.loop-rest-init
@@ -21,4 +22,4 @@ returns-in-Some-eq0 g c = let t = c.loop-rest.invariant in
 
 pub returns : goal.returns
 returns g c = let none = empty_of c.loop-rest.rest.now c.loop-rest-test.ensures in
-    all (takes_all c.args.name.now (g.F.Directory.history c.args.directory.now) (g.F.Directory.history c.loop-rest.directory) c.args.bytes.now c.loop-rest.rest.now c.loop-rest.invariant none)
+    all (grind (arith, common_steps, c.loop-rest.invariant, none))

@@ -1,5 +1,5 @@
 -- RenumberLemmas: the output for a line with numbers inserted, by whether the line is numbered.
-use Rattle.std.proofs.Common.{arith, ◌≡◌, List, ℕ, [], ◌++◌, Bool, true, false, not, ◌&&◌, if◌then◌else◌}
+use Rattle.std.proofs.Common.{arith, ◌≡◌, List, ℕ, [], ◌++◌, true, false, if◌then◌else◌}
 use Rattle.ud_model.specs.answer.Printing.{Judged, last_removed, number_line, piece_by, piece_after}
 use Rattle.ud_model.specs.sections.Pruning.{is_removed}
 use Rattle.ud_sections.specs.printing.Styles.{renumber_style}

@@ -1,12 +1,12 @@
 -- ActionLemmas: how a line changes the open sections of a text, and which mark it has.
-use Rattle.std.proofs.Common.{◌≡◌, ◌≤◌, ℕ, suc, ◌+◌, ◌-◌, List, [], ◌∷◌, ◌++◌, length, slice_get, Bool, true, false, not, ◌&&◌, ◌||◌, Option, Some, None, refl, sym, ◌∙◌, ap, ap₂, append_assoc, append-nil, length-append, arith, take, if◌then◌else◌}
+use Rattle.std.proofs.Common.{◌≡◌, ℕ, suc, ◌+◌, ◌-◌, List, [], ◌∷◌, ◌++◌, length, slice_get, Bool, true, false, not, ◌&&◌, ◌||◌, Option, Some, None, refl, sym, ◌∙◌, ap, ap₂, append_assoc, append-nil, length-append, arith, take, if◌then◌else◌}
 use Rattle.std.proofs.Math.Seq.{take-append_seam}
 use Rattle.ud_model.specs.declared.cond.Cond.{Cond}
 use Rattle.ud_model.specs.declared.cond.Cond.TheVariants.{Yes, No, Unknown}
 use Rattle.ud_model.specs.text.Scans.{Reading}
 use Rattle.ud_model.specs.sections.Tree.{Item, Opener, Nodes, Head, Tree, text_line, if_line, elif_line, else_line, endif_line, nothing, first, elif, if_head, elif_head, else_head, closed, open_section, opener_of_head, is_ignoring, innermost, depth}
 use Rattle.ud_model.specs.sections.Faults.{Fault, eof_in_comment, premature_eof, end_by}
-use Rattle.ud_model.specs.sections.Pruning.{Part, an_if, an_elif, an_else, Mark, marked, is_inside_kept, endif_verdict, conds_of_elifs, conds_of_head, any_true, all_false, gives_way, ends_with_first_true, is_false, is_kept, first_kept_verdict, later_verdict}
+use Rattle.ud_model.specs.sections.Pruning.{Part, an_elif, an_else, Mark, marked, is_inside_kept, endif_verdict, conds_of_elifs, conds_of_head, any_true, all_false, gives_way, ends_with_first_true, is_false, is_kept, first_kept_verdict, later_verdict}
 use Rattle.ud_model.specs.aids.SoFar.{verdict_so_far, nodes_so_far, groups_so_far, head_so_far, marks_so_far}
 use Rattle.ud_model.specs.sections.Items.{line_of}
 use Rattle.ud_model.proofs.sections.Growth.{Adds, adds_text, adds_if, elif_after_if, elif_after_elif, else_after_if, else_after_elif, adds_endif, adds_under, complete, conds-complete}

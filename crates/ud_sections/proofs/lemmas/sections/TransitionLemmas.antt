@@ -32,7 +32,6 @@ use Rattle.ud_sections.specs.sections.Transitions.{context_of, transition_with, 
 use Rattle.ud_sections.proofs.lemmas.sections.LineFaults.{cut_fault}
 use Rattle.ud_sections.proofs.lemmas.sections.ActionLemmas.{mark_of, innermost_level, depth_levels}
 use Rattle.ud_sections.proofs.lemmas.sections.CheckLemmas.{before_next, IsSeen, Follows, judged_well, judged_ill}
-use Rattle.ud_model.proofs.output.RereadMore.{last_removed}
 use Rattle.ud_model.proofs.sections.FaultStays.{line_of-next_item}
 
 -- the classified line of a line that carries this

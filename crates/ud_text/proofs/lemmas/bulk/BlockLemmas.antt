@@ -2,7 +2,7 @@
 use Rattle.std.proofs.Common.{◌≡◌, ℕ, ◌+◌, ◌-◌, ◌<◌, ◌≤◌, ◌==◌, List, [], ◌∷◌, ◌++◌, length, take, drop, Bool, true, false, refl, sym, ◌∙◌, ap, subst, append_assoc, arith, length-append, ne_eqb}
 use Rattle.std.proofs.lemmas.List.{take-append-drop, length-take-le}
 use Rattle.ud_model.specs.text.Lines.{NoNewline}
-use Rattle.ud_text.specs.bulk.BulkStates.{next_bulk_state, BulkState, code_state, stops_bulk, NoNewlineInBlock, bulk_state_after, inside_state, block_state, HasNoStop, Skipped}
+use Rattle.ud_text.specs.bulk.BulkStates.{next_bulk_state, BulkState, code_state, NoNewlineInBlock, bulk_state_after, inside_state, block_state, HasNoStop, Skipped}
 use Rattle.ud_text.proofs.lemmas.bulk.QuietLemmas.{bulk_state_after-append, HasNoStop-append, HasNoStop-feed}
 use Rattle.ud_text.proofs.lemmas.bulk.QuietLineLemmas.{passed_quiet, Skipped-append}
 use Rattle.ud_text.proofs.lemmas.bulk.ProgressLemmas.{begins-append, rest_of, read_on, read_base}

@@ -1,5 +1,5 @@
 -- Plain text: runs of bytes without a significant one, and the beginnings of lines.
-use Rattle.std.proofs.Common.{◌≡◌, ℕ, zero, suc, ◌+◌, ◌<◌, ◌==◌, List, [], ◌∷◌, ◌++◌, length, take, drop, get_or, Bool, false, not, cond, ◌||◌, refl, sym, ◌∙◌, ap, subst, arith}
+use Rattle.std.proofs.Common.{◌≡◌, ℕ, zero, suc, ◌+◌, ◌<◌, ◌==◌, List, [], ◌∷◌, ◌++◌, length, take, drop, get_or, Bool, false, not, cond, refl, sym, ◌∙◌, ap, subst, arith}
 use Rattle.std.specs.List.{position_or_len}
 use Rattle.std.proofs.lemmas.Bool.{eqb-true}
 use Rattle.std.proofs.lemmas.List.{take_more, take_all}
@@ -9,7 +9,7 @@ use Rattle.ud_model.specs.text.Lines.{NoNewline, split_lines, SplitLines}
 use Rattle.ud_model.specs.aids.LexStates.{LexState, in_text, stays_white}
 use Rattle.ud_model.proofs.text.LinesLemmas.{split_lines-append-line}
 use Rattle.ud_text.specs.bulk.BulkScanning.{AreWholeLines}
-use Rattle.ud_text.specs.bulk.BulkStates.{next_bulk_state, BulkState, code_state, stops_bulk, NoNewlineInBlock, bulk_state_after, HasNoStop}
+use Rattle.ud_text.specs.bulk.BulkStates.{next_bulk_state, BulkState, code_state, NoNewlineInBlock, bulk_state_after, HasNoStop}
 use Rattle.ud_text.proofs.lemmas.lines.NewlineLemmas.{no_newline_front}
 use Rattle.ud_text.specs.bulk.BulkLexemes.{after_newline, NoSignificant, at_start, NoComment, LastLineStarts, CodeLexeme, is_significant, IsLineStart}
 use Rattle.std.proofs.Math.Bool.{and-false}

@@ -1,6 +1,6 @@
 -- Lexemes: where a slash, a backslash, a `#`, a literal and a line comment lead.
 use Rattle.std.proofs.Common.{◌≡◌, ℕ, ◌==◌, List, [], ◌∷◌, ◌++◌, Bool, true, false, not, ◌&&◌, ◌||◌, if◌then◌else◌, ◌⊎◌, refl, sym, ◌∙◌, ap, subst, ne_eqb, suc, zero, length, get_or, arith}
-use Rattle.std.proofs.lemmas.Bool.{eqb-true, or_parts}
+use Rattle.std.proofs.lemmas.Bool.{eqb-true}
 use Rattle.ud_model.specs.text.Bytes.{is_quote, slash, number_sign, newline, carriage_return, star, backslash}
 use Rattle.ud_model.specs.aids.LexStates.{LexState, in_text, at_slash, in_line, in_literal, at_backslash, stays_white}
 use Rattle.ud_text.specs.bulk.BulkStates.{next_bulk_state, BulkState, code_state, stops_bulk, NoNewlineInBlock, bulk_state_after, spliced_after, is_other_word, HasNoStop}

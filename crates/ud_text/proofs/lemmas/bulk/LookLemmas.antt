@@ -1,7 +1,7 @@
 -- Looks: looking back over white space shows whether the logical line is white.
 use Rattle.std.proofs.Common.{arith, ◌≡◌, ℕ, ◌==◌, List, [], ◌∷◌, ◌++◌, Bool, true, false, ◌&&◌, if◌then◌else◌, ◌⊎◌, inl, inr, refl, sym, ◌∙◌, ap, subst}
 use Rattle.ud_model.specs.text.Bytes.{is_quote, is_white, are_white, slash, newline, carriage_return, star, backslash}
-use Rattle.ud_model.specs.aids.LexStates.{LexState, in_text, at_slash, in_block, at_star, in_line, in_literal, at_backslash, next_state, opens_comment, stays_white}
+use Rattle.ud_model.specs.aids.LexStates.{LexState, in_text, at_slash, in_block, at_star, in_line, in_literal, at_backslash, next_state, stays_white}
 use Rattle.ud_text.specs.bulk.BulkStates.{next_bulk_state, BulkState, code_state, bulk_state_after}
 use Rattle.ud_text.proofs.lemmas.bulk.QuietLemmas.{bulk_state_after-append}
 use Rattle.ud_text.specs.bulk.BulkLexemes.{black, NoComment, all_white, IsWhiteAfter, new_line}

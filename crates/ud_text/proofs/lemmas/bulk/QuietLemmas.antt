@@ -1,7 +1,7 @@
 -- Quiet runs: bytes that are read without a stop, one run after another, and cut at a newline.
-use Rattle.std.proofs.Common.{arith, ◌≡◌, ℕ, List, [], ◌∷◌, ◌++◌, Bool, true, false, if◌then◌else◌, refl}
+use Rattle.std.proofs.Common.{arith, ◌≡◌, ℕ, List, [], ◌∷◌, ◌++◌, Bool, true, if◌then◌else◌, refl}
 use Rattle.ud_model.specs.text.Bytes.{is_white, skip_white, newline}
-use Rattle.ud_text.specs.bulk.BulkStates.{next_bulk_state, stops_bulk, NoNewlineInBlock, bulk_state_after, BulkState, HasNoStop, is_other_word, starts_with_no_keyword}
+use Rattle.ud_text.specs.bulk.BulkStates.{next_bulk_state, NoNewlineInBlock, bulk_state_after, BulkState, HasNoStop, is_other_word, starts_with_no_keyword}
 use Rattle.ud_model.proofs.text.ScanLaws.{place_after, white_after}
 use Rattle.std.proofs.lemmas.Grind.{common_steps}
 

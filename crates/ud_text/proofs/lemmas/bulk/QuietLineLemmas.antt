@@ -9,7 +9,7 @@ use Rattle.ud_model.specs.text.Lines.{NoNewline, IsWhole, ending_of, Line, line_
 use Rattle.ud_model.specs.text.Scans.{Scan, Reading}
 use Rattle.ud_model.specs.text.Splicing.{is_spliced, is_empty, content, stays_open, spliced_text, c_run_of}
 use Rattle.ud_model.specs.text.Scanning.{is_block, comment_at, scan_after, next_reading, readings_after}
-use Rattle.ud_model.specs.aids.LexStates.{LexState, in_text, at_slash, in_block, at_star, in_line, in_literal, at_backslash, next_state, kind_in_state, fresh_at, state_after_line, white_after_line, Masks}
+use Rattle.ud_model.specs.aids.LexStates.{LexState, in_text, at_slash, in_block, at_star, in_line, in_literal, at_backslash, kind_in_state, fresh_at, state_after_line, white_after_line, Masks}
 use Rattle.ud_model.specs.sections.Directives.{content_of, text, skip_white_and_hash}
 use Rattle.ud_model.specs.declared.kind.Mode.{Mode}
 use Rattle.ud_model.specs.declared.kind.Mode.TheVariants.{C}

@@ -9,8 +9,8 @@ use Rattle.std.proofs.Math.Bool.{and-false}
 use Rattle.std.proofs.Math.ListN.{length-drop}
 use Rattle.ud_model.specs.text.Bytes.{is_quote, slash, newline, carriage_return, star, backslash}
 use Rattle.ud_model.specs.text.Scanning.{is_block}
-use Rattle.ud_model.specs.aids.LexStates.{LexState, at_slash, in_block, in_line, next_state, kind_in_state}
-use Rattle.ud_text.specs.bulk.BulkStates.{BulkState, code_state, stops_bulk, NoNewlineInBlock, bulk_state_after, spliced_after, HasNoStop}
+use Rattle.ud_model.specs.aids.LexStates.{at_slash, in_block, in_line, next_state, kind_in_state}
+use Rattle.ud_text.specs.bulk.BulkStates.{BulkState, code_state, NoNewlineInBlock, bulk_state_after, spliced_after, HasNoStop}
 use Rattle.ud_text.specs.bulk.BulkLexemes.{LineLexeme, may_splice}
 use Rattle.ud_text.specs.searching.Searches.{is_one_of}
 use Rattle.ud_text.proofs.lemmas.searching.MarkLemmas.{position_or_len-bound}

@@ -5,7 +5,7 @@ use Rattle.std.proofs.lemmas.Bool.{eqb-true, cases_lt}
 use Rattle.std.proofs.lemmas.List.{take-take, length-append}
 use Rattle.std.proofs.Math.ListN.{length-take}
 use Rattle.ud_model.specs.declared.limits.TheConstants.{LINE_BYTES}
-use Rattle.ud_model.specs.text.Lines.{NoNewline, IsWhole, Line, text_of, line_at}
+use Rattle.ud_model.specs.text.Lines.{NoNewline, Line, text_of, line_at}
 use Rattle.ud_model.proofs.text.LinesLemmas.{text_of-line_at}
 use Rattle.ud_text.specs.lines.LinesState.{LinesState, LinesRepresent, UpToNewline, IsLineOf}
 use Rattle.ud_text.specs.lines.Borrowing.{CanBorrow, IsFirstLine}

@@ -1,13 +1,11 @@
 -- Counting: the newlines of many bytes, by the lanes of vectors.
-use Rattle.std.proofs.Common.{◌≡◌, ℕ, suc, ◌+◌, ◌<◌, ◌≤◌, ◌-◌, ◌^◌, Bool, eqb, cond, List, [], ◌∷◌, map, length, take, drop, replicate, refl, sym, ◌∙◌, ap, arith, w8}
+use Rattle.std.proofs.Common.{◌≡◌, ℕ, suc, ◌+◌, ◌<◌, ◌≤◌, ◌-◌, ◌^◌, Bool, eqb, cond, List, [], ◌∷◌, map, length, replicate, refl, sym, ◌∙◌, ap, arith, w8}
 use Rattle.std.specs.List.{count_by}
 use Rattle.std.proofs.lemmas.List.Recursion.{is_count_by}
-use Rattle.std.proofs.lemmas.List.{take_rest}
 use Rattle.std.proofs.lemmas.Simd.{tops_compared, zip2_splat, Each1-zip2, Each2-of}
 use lib.Lanes.{Each1, Each2, zip2, sum_l, sel_l, top}
 use mir.Val.{Fits, bits, hbits}
 use Rattle.ud_text.specs.lines.Consuming.{is_newline}
-use Rattle.ud_text.proofs.lemmas.lines.ConsumeLemmas.{counted_more}
 
 -- `ones_of bytes`: a lane for each byte: 1 for a newline, else 0
 abbrev pub ones_of : List ℕ → List ℕ

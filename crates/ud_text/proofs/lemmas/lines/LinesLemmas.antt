@@ -1,7 +1,7 @@
 -- Buffering: what each call does to the lines of the bytes taken.
-use Rattle.std.proofs.Common.{◌≡◌, ℕ, suc, ◌+◌, ◌-◌, ◌<◌, Bool, true, false, List, [], ◌∷◌, ◌++◌, length, take, refl, sym, ◌∙◌, ap, subst, append-nil, arith}
-use Rattle.std.proofs.lemmas.List.{take_all, length-append}
-use Rattle.ud_model.specs.text.Lines.{NoNewline, IsWhole, AreWhole, SplitLines, ending_of, split_lines, whole_lines, partial_line, texts_of, line_at, numbered_from}
+use Rattle.std.proofs.Common.{◌≡◌, ℕ, suc, ◌<◌, Bool, true, false, List, [], ◌∷◌, ◌++◌, length, take, sym, ◌∙◌, ap, append-nil, arith}
+use Rattle.std.proofs.lemmas.List.{take_all}
+use Rattle.ud_model.specs.text.Lines.{NoNewline, IsWhole, AreWhole, SplitLines, split_lines, whole_lines, partial_line, line_at, numbered_from}
 use Rattle.ud_model.proofs.text.LinesLemmas.{are_whole, partial_line-open, split_lines-append-open, split_lines-append-line, last_line-some, numbered_from-next}
 use Rattle.ud_text.specs.lines.LinesState.{LinesState, LinesRepresent, UpToNewline, IsLastLine}
 use Rattle.ud_text.proofs.lemmas.lines.NewlineLemmas.{whole_newlineless}

@@ -1,12 +1,11 @@
 -- Next lines: the first of some whole lines.
-use Rattle.std.proofs.Common.{◌≡◌, ◌∙◌, ◌<◌, ◌∷◌, sym, ap, refl, List, ℕ, true, length, take, drop, take-append-drop, arith}
+use Rattle.std.proofs.Common.{◌≡◌, ◌∙◌, ◌<◌, ◌∷◌, sym, ap, refl, List, ℕ, true, take, drop, take-append-drop, arith}
 use Rattle.std.proofs.lemmas.List.{length-take-le}
-use Rattle.ud_model.specs.text.Lines.{NoNewline, SplitLines, whole_lines}
-use Rattle.ud_model.proofs.text.LinesLemmas.{split_lines-open, split_lines-line-prefix}
+use Rattle.ud_model.specs.text.Lines.{SplitLines, whole_lines}
+use Rattle.ud_model.proofs.text.LinesLemmas.{split_lines-line-prefix}
 use Rattle.ud_text.specs.lines.LinesState.{LinesState, UpToNewline}
 use Rattle.ud_text.specs.lines.Borrowing.{IsFirstLine}
 use Rattle.ud_text.specs.lines.Consuming.{CanConsume, EachFits}
-use Rattle.ud_text.specs.bulk.BulkScanning.{AreWholeLines}
 
 -- the prefix up to the first newline is the first whole line
 first_split : (bytes : List ℕ) (used : ℕ) → UpToNewline bytes used true →

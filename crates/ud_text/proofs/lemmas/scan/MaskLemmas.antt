@@ -1,7 +1,7 @@
 -- Masking: bytes that leave the lexer's state unchanged, and how a text is shown with them.
-use Rattle.std.proofs.Common.{◌≡◌, ℕ, zero, suc, ◌+◌, ◌-◌, ◌<◌, ◌≤◌, ◌==◌, List, [], ◌∷◌, ◌++◌, length, take, drop, replicate, get_or, Bool, true, false, not, cond, ◌&&◌, ◌||◌, if◌then◌else◌, Option, unwrap_or, is_some, refl, sym, ◌∙◌, ap, subst, append_assoc, append-nil, arith, ne_eqb}
+use Rattle.std.proofs.Common.{◌≡◌, ℕ, zero, suc, ◌+◌, ◌-◌, ◌<◌, ◌≤◌, ◌==◌, List, [], ◌∷◌, ◌++◌, length, take, drop, replicate, get_or, Bool, true, false, not, cond, ◌&&◌, if◌then◌else◌, Option, unwrap_or, is_some, refl, sym, ◌∙◌, ap, subst, append_assoc, append-nil, arith, ne_eqb}
 use Rattle.std.specs.List.{position_or_len}
-use Rattle.std.proofs.lemmas.List.{take_more, take_all, take_rest, length-take-le, drop-take, take-take, take-append-drop}
+use Rattle.std.proofs.lemmas.List.{take_all, take_rest, length-take-le, drop-take, take-take, take-append-drop}
 use Rattle.std.specs.Option.{option_to_list}
 use Rattle.memchr.specs.Find.{IsFirstByte, is_byte}
 use Rattle.ud_model.specs.text.Bytes.{are_white, star, space, is_mark, is_white}

@@ -5,9 +5,7 @@ use Rattle.std.proofs.lemmas.Simd.{zip2_splat, zip2_of_maps, map-map, mask_l-mod
 use Rattle.std.proofs.lemmas.List.{length-map, length-drop}
 use Rattle.std.proofs.lemmas.List.Sums.{prefix_len-le-length}
 use lib.Lanes.{zip2, mask_l, top}
-use Rattle.ud_model.specs.text.Bytes.{slash, star, backslash, number_sign, is_mark}
-use Rattle.ud_text.specs.searching.Searches.{is_one_of, lowest_set_bit}
-use Rattle.ud_text.specs.bulk.BulkLexemes.{is_significant}
+use Rattle.ud_text.specs.searching.Searches.{lowest_set_bit}
 
 -- `lane t`: the lane that a comparison returns: all bits or none
 abbrev pub lane : Bool → ℕ

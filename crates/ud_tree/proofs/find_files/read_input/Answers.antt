@@ -1,7 +1,9 @@
+use Rattle.std.proofs.Math.ListN.{length-take}
+use Rattle.std.proofs.lemmas.Grind.{common_steps}
 use Rattle.std.proofs.Common.{ℕ, List, sym, ◌∙◌, subst, arith}
 use Rattle.std.specs.Io.KnownBytes.{Consumes}
 use Rattle.std.proofs.KnownBytes.{Consumes-nil}
-use Rattle.ud_tree.proofs.StreamLemmas.{reads_more, reads_end, read_some}
+use Rattle.ud_tree.proofs.StreamLemmas.{reads_more, reads_end}
 use Rattle.ud_tree.proofs.find_files.read_input.Goals as goal
 
 pub loop-read-init : goal.loop-read-init
@@ -25,8 +27,7 @@ pub loop-read-preserved : goal.loop-read-preserved
 loop-read-preserved g c = record {
   works = c.in-Some.ensures.failed;
   consumed = reads_more _ _ _ c.in-Some.count c.read.new.buf c.loop-read.text.items c.in_ok-extend_from_slice.ensures.items c.loop-read.invariant.consumed c.in-Some.ensures.once.1;
-  many = read_some c.loop-read._read c.in-Some.count c.read.new.buf c.loop-read.text.items
-      c.in_ok-extend_from_slice.ensures.items c.if-count-eq0.false c.in-Some.ensures.once.0 c.loop-read.invariant.many;
+  many = grind (arith, common_steps, length-take, c.in_ok-extend_from_slice.ensures.items, c.if-count-eq0.false, c.in-Some.ensures.once.0, c.loop-read.invariant.many);
 }
 
 pub unreachable-requires : goal.unreachable-requires

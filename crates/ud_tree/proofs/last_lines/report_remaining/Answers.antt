@@ -1,8 +1,8 @@
 -- By whether the conditions are listed, and by their number.
-use Rattle.std.proofs.Common.{sym, ap, ◌∙◌}
+use Rattle.std.proofs.Common.{sym, ap, ◌∙◌, arith}
 use Rattle.ud_tree.specs.Summaries.{remaining_line}
 use Rattle.ud_tree.proofs.ReportLemmas.{says_none, says_same}
-use Rattle.ud_tree.proofs.SummaryLemmas.{remaining_none, remaining_listed, remaining_told}
+use Rattle.ud_tree.proofs.SummaryLemmas.{remaining_listed, remaining_told}
 use Rattle.ud_tree.proofs.last_lines.report_remaining.Goals as goal
 
 pub returns-then-arguments : goal.returns-then-arguments
@@ -12,8 +12,7 @@ returns-then-arguments g c = λ hidden.
 
 pub returns-then-count-eq0 : goal.returns-then-count-eq0
 returns-then-count-eq0 g c = λ hidden.
-    says_same (sym (remaining_none c.args.arguments.now.list_remaining c.args.report.now.remaining.count
-    (sym c.remaining-count.ensures ∙ c.if-count-eq0.true) c.if-arguments.false)) (says_none _ hidden)
+    says_same (sym (grind (arith, sym c.remaining-count.ensures ∙ c.if-count-eq0.true, c.if-arguments.false))) (says_none _ hidden)
 
 pub returns : goal.returns
 returns g c = λ hidden.

@@ -1,9 +1,6 @@
 -- By the search of the path.
-use Rattle.std.proofs.Common.{rules, ◌≡◌, ◌∙◌, arith}
+use Rattle.std.proofs.Common.{arith}
 use Rattle.std.proofs.lemmas.Fn.{always_returns_same}
-use Rattle.std.specs.Cmp.Lexicographic.{slice_cmp}
-use Rattle.std.specs.Ordering.{nat_cmp}
-use Rattle.std.specs.Prelude.{string_bytes}
 use Rattle.ud_tree.proofs.OtherLemmas.{is_among_searched}
 use Rattle.ud_tree.proofs.other_files.is_among.Goals as goal
 use Rattle.std.proofs.lemmas.Grind.{common_steps}

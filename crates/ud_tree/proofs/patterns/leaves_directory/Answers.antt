@@ -1,7 +1,5 @@
 -- By whether the next rule leaves it out.
-use Rattle.std.proofs.Common.{sym, ◌∙◌, true≢false, arith}
-use Rattle.std.specs.Prelude.{string_bytes}
-use Rattle.ud_tree.specs.Choices.{as_rule}
+use Rattle.std.proofs.Common.{arith}
 use Rattle.ud_tree.proofs.CoverLemmas.{one_more}
 use Rattle.ud_tree.proofs.ChoiceLemmas.{leaves_none}
 use Rattle.ud_tree.proofs.patterns.leaves_directory.Goals as goal

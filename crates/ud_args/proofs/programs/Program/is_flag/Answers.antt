@@ -1,6 +1,4 @@
-use Rattle.std.proofs.Common.{◌≡◌, ◌∙◌, arith}
-use Rattle.ud_model.specs.answer.CommandLine.{has_letter}
-use Rattle.ud_args.specs.CommandLines.{is_flag}
+use Rattle.std.proofs.Common.{arith}
 use Rattle.ud_args.proofs.ProgramLemmas.{any-has_letter}
 use Rattle.ud_args.proofs.programs.Program.is_flag.Goals as goal
 use Rattle.ud_args.proofs.programs.Program.is_flag.Goals.{in-Unifdef, in-UnifdefTree}

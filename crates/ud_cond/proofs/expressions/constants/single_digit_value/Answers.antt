@@ -1,8 +1,5 @@
-use mir.Syntax.{w64}
 use Rattle.std.proofs.lemmas.Int.{to_z_pos}
-use Rattle.std.proofs.Common.{◌<◌, ◌^◌, ◌≡◌, [], ◌∷◌, get_or, true, sym, ◌∙◌, subst, arith, pos}
-use Rattle.ud_model.specs.text.Bytes.{is_digit}
-use Rattle.ud_cond.specs.expressions.Digits.{IsOneDigit}
+use Rattle.std.proofs.Common.{arith}
 use Rattle.ud_cond.proofs.lemmas.expressions.DigitLemmas.{one-digit, sole}
 use Rattle.ud_cond.proofs.expressions.constants.single_digit_value.Goals as goal
 use Rattle.std.proofs.lemmas.Grind.{common_steps}

@@ -1,4 +1,4 @@
-use Rattle.std.proofs.Common.{◌≡◌, ◌∙◌, ◌∷◌, false, true, if◌then◌else◌, sym, ap, arith, ℕ, List, Bool, Some, None}
+use Rattle.std.proofs.Common.{◌≡◌, ◌∙◌, ◌∷◌, true, if◌then◌else◌, sym, ap, arith, ℕ, List, Bool, Some, None}
 use Rattle.ud_model.specs.conditions.Expressions.{is_prefix}
 use Rattle.ud_model.specs.conditions.Parsing.{reads, step, needs, has, before, paren, stuck, Meaning, Frame, asks}
 use Rattle.ud_cond.specs.CondViews.{as_token}

@@ -1,7 +1,6 @@
 use Rattle.std.proofs.Common.{◌≡◌, List, ◌∷◌, Option, Some, None, sym, ◌∙◌, ap, subst, arith}
 use Rattle.ud_model.specs.conditions.Parsing.{Frame}
-use Rattle.ud_cond.specs.expressions.Stacks.{weight, popped, BindsAsTightly, IsSettled}
-use Rattle.ud_cond.specs.expressions.Keepings.{IsAt}
+use Rattle.ud_cond.specs.expressions.Stacks.{weight, popped, BindsAsTightly}
 use Rattle.ud_cond.proofs.lemmas.expressions.KeepingLemmas.{next_binary, next_prefix, settled_is}
 use Rattle.ud_cond.proofs.expressions.reader.reduce.Goals as goal
 use Rattle.std.proofs.lemmas.Grind.{common_steps}

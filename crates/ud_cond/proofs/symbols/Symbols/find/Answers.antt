@@ -3,7 +3,6 @@ use Rattle.std.proofs.lemmas.List.{get_or_read}
 use Rattle.ud_model.specs.conditions.Table.{entry_in}
 use Rattle.ud_cond.specs.symbols.SymbolTable.{no_row, IsRowOf}
 use Rattle.ud_cond.specs.CondViews.{as_entry}
-use Rattle.ud_cond.specs.symbols.NameFilters.{slot_is_set, has_slot}
 use Rattle.ud_cond.proofs.lemmas.symbols.TableLemmas.{entry_from-none, entry_from-last}
 use Rattle.ud_cond.proofs.lemmas.symbols.FilterLemmas.{none-unmarked}
 use Rattle.ud_cond.proofs.lemmas.symbols.SortedLemmas.{last-row, none-at_all}

@@ -2,9 +2,7 @@
 use Rattle.std.proofs.Math.ListN.{set}
 use Rattle.std.proofs.lemmas.List.{length-set, get_or-set_other, get_or-set_same}
 use Rattle.std.proofs.lemmas.Bool.{cases_lt}
-use Rattle.std.proofs.Common.{sym, subst, arith}
-use Rattle.ud_cond.specs.symbols.SymbolTable.{IsRowOf}
-use Rattle.ud_cond.specs.symbols.NameFilters.{has_slot, has_first}
+use Rattle.std.proofs.Common.{arith}
 use Rattle.ud_cond.proofs.lemmas.symbols.FilterLemmas.{noted-set}
 use Rattle.ud_cond.proofs.symbols.Symbols.replace_at.Goals as goal
 use Rattle.std.proofs.lemmas.Grind.{common_steps}

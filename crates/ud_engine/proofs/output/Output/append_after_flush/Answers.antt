@@ -1,5 +1,4 @@
-use Rattle.std.proofs.Common.{rules, ◌≡◌, [], ℕ, List, ◌++◌, sym, subst, arith}
-use Rattle.ud_io.specs.Streams.{TakesBy}
+use Rattle.std.proofs.Common.{arith}
 use Rattle.ud_io.proofs.StreamLemmas.{takes_after_flush}
 use Rattle.ud_engine.proofs.output.Output.append_after_flush.Goals as goal
 use Rattle.std.proofs.lemmas.Grind.{common_steps}

@@ -1,14 +1,14 @@
 -- From the first line to the last.
-use Rattle.std.proofs.Common.{[], append-nil, sym, ◌∙◌}
+use Rattle.std.proofs.Common.{[], append-nil, sym, ◌∙◌, arith}
 use Rattle.ud_model.specs.declared.kind.Mode.TheVariants.{C}
 use Rattle.ud_text.proofs.lemmas.scan.PassLemmas.{nothing_left}
-use Rattle.ud_passes.proofs.RestoreLemmas.{none_restored, all_restored}
+use Rattle.ud_passes.proofs.RestoreLemmas.{all_restored}
 use Rattle.ud_passes.proofs.folding.restored.append_restored.Goals as goal
 
 pub lines-init : goal.lines-init
 lines-init c = record {
   grows = ([], sym (append-nil c.args.out.now.items));
-  restored = none_restored c.args.text.now c.args.out.now.items c.new-walk.result (c.new-walk.ensures.walked C);
+  restored = grind (arith, append-nil, c.new-walk.ensures.walked C);
 }
 
 pub returns-clause-restored : goal.returns-clause-restored

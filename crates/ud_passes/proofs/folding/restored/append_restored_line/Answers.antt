@@ -1,17 +1,17 @@
 -- A line without a vertical tab stays. Another one is restored by its scan as the first line.
-use Rattle.std.proofs.Common.{[], ◌++◌, List, ℕ, length, ◌∙◌, ap, sym, append_assoc}
+use Rattle.std.proofs.Common.{[], ◌++◌, List, ℕ, length, ◌∙◌, ap, sym, append_assoc, arith}
 use Rattle.std.proofs.lemmas.Bool.{le-leb}
 use Rattle.ud_model.specs.text.Lines.{Line, text_of}
 use Rattle.ud_model.specs.text.Scans.{Scan}
 use Rattle.ud_model.specs.aids.LineViews.{as_line}
 use Rattle.ud_simplified.specs.FoldedTexts.{restored_body}
 use Rattle.ud_model.specs.declared.limits.TheConstants.{LINE_BYTES}
-use Rattle.ud_passes.proofs.RestoreLemmas.{line_without_tab, line_restored}
+use Rattle.ud_passes.proofs.RestoreLemmas.{without_tab}
 use Rattle.ud_passes.proofs.folding.restored.append_restored_line.Goals as goal
 
 pub returns-then-not-has_tab-clause-bytes : goal.returns-then-not-has_tab-clause-bytes
 returns-then-not-has_tab-clause-bytes c =
-    c.in_ok-append_line.ensures.bytes ∙ ap (λ (x : List ℕ). c.args.out.now.items ++ x) (sym (line_without_tab (as_line c.args.line.now) (sym c.has_tab.ensures ∙ c.if-not-has_tab.true)))
+    c.in_ok-append_line.ensures.bytes ∙ ap (λ (x : List ℕ). c.args.out.now.items ++ x) (sym (grind (arith, without_tab, sym c.has_tab.ensures ∙ c.if-not-has_tab.true)))
 
 pub returns-clause-bytes : goal.returns-clause-bytes
 returns-clause-bytes c = let l : Line = as_line c.args.line.now in
@@ -19,4 +19,4 @@ returns-clause-bytes c = let l : Line = as_line c.args.line.now in
     c.in_ok-extend_from_slice.ensures.items ∙ ap (λ (x : List ℕ). x ++ l.ending) c.in_ok-append_body.ensures.bytes
     ∙ append_assoc out (restored_body l.ending l.body c.in_ok-scan.scan.masked.now) l.ending
     ∙ ap (λ (s : Scan). out ++ (restored_body l.ending l.body s.masked ++ l.ending)) (c.in_ok-scan.ensures.value [] c.growing-scanner.ensures)
-    ∙ ap (λ (x : List ℕ). out ++ x) (sym (line_restored l (le-leb (length (text_of l)) LINE_BYTES c.requires.fits)))
+    ∙ ap (λ (x : List ℕ). out ++ x) (sym (grind (arith, le-leb (length (text_of l)) LINE_BYTES c.requires.fits)))

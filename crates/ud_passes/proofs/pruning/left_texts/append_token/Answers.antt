@@ -1,12 +1,13 @@
 -- The first token stays or goes, with the white space that belongs to it.
+use Rattle.std.proofs.lemmas.List.{map-append}
 use Rattle.std.proofs.Common.{◌≡◌, ℕ, ◌-◌, List, [], ◌++◌, length, map, drop, take, Bool, not, ◌||◌, if◌then◌else◌, sym, ◌∙◌, ap, ap₂, arith}
 use Rattle.std.proofs.lemmas.Grind.{common_steps}
 use Rattle.ud_model.specs.text.Bytes.{skip_white, are_white}
 use Rattle.ud_model.specs.conditions.Tokens.{next_token, found}
-use Rattle.ud_simplified.specs.ResidualTexts.{left_from, ends_operand}
+use Rattle.ud_simplified.specs.ResidualTexts.{left_from}
 use Rattle.ud_cond.specs.CondViews.{as_token}
 use Rattle.ud_passes.specs.pruning.Cells.{AreCells, byte_of}
-use Rattle.ud_passes.proofs.CellLemmas.{cells_count, found_left, end_left, none_left, two_appended, all_appended, same_on}
+use Rattle.ud_passes.proofs.CellLemmas.{cells_count, found_left, end_left, none_left, all_appended, same_on}
 use Rattle.ud_passes.proofs.pruning.left_texts.append_token.Goals as goal
 
 pub returns-in_ok-append_if-in-Found-2-clause-left : goal.returns-in_ok-append_if-in-Found-2-clause-left
@@ -27,14 +28,7 @@ returns-in_ok-append_if-in-Found-2-clause-left c = λ cells flags a.
           (ap₂ (λ (n : ℕ) (l : List ℕ). n - length l) (sym (cells_count cells c.args.place.text.bytes.now masked a)) (ap skip_white a.shown_are ∙ sym c.skip_white.ensures) ∙ sym c.saturating_sub-gap.ensures)
           (ap (λ (n : ℕ). n - length c.in-Found.after.now) (sym (cells_count (drop gap cells) c.split_at.result.1.bytes.now c.split_at.result.1.shown.now back)) ∙ sym c.saturating_sub-size.ensures))
           (ap (λ (o : Bool). left_from c.args.flag o flags (drop size (drop gap cells))) c.ends_operand.ensures)
-          (two_appended c.args.left.now.bytes.items c.args.left.now.shown.items
-          ((if c.args.place.operand then c.args.flag else c.args.place.stays) || not (are_white (map byte_of (take gap cells)))) c.args.flag
-          (take gap cells) (take size (drop gap cells)) (left_from c.args.flag (ends_operand (as_token c.in-Found.token)) flags (drop size (drop gap cells)))
-          c.split_at.result.0.bytes.now c.split_at.result.0.shown.now c.split_at-in-Found.result.0.bytes.now c.split_at-in-Found.result.0.shown.now
-          front (c.split_at-in-Found.ensures.front (drop gap cells) back)
-          (c.in_ok-append_if-in-Found.ensures.bytes ∙ ap (λ (g : Bool). c.args.left.now.bytes.items ++ (if g then c.split_at.result.0.bytes.now else [])) goes)
-          (c.in_ok-append_if-in-Found.ensures.shown ∙ ap (λ (g : Bool). c.args.left.now.shown.items ++ (if g then c.split_at.result.0.shown.now else [])) goes)
-          c.in_ok-append_if-in-Found-2.ensures.bytes c.in_ok-append_if-in-Found-2.ensures.shown),
+          (grind (arith, common_steps, map-append, front, c.split_at-in-Found.ensures.front (drop gap cells) back, (c.in_ok-append_if-in-Found.ensures.bytes ∙ ap (λ (g : Bool). c.args.left.now.bytes.items ++ (if g then c.split_at.result.0.bytes.now else [])) goes), (c.in_ok-append_if-in-Found.ensures.shown ∙ ap (λ (g : Bool). c.args.left.now.shown.items ++ (if g then c.split_at.result.0.shown.now else [])) goes), c.in_ok-append_if-in-Found-2.ensures.bytes, c.in_ok-append_if-in-Found-2.ensures.shown)),
     )
 
 pub returns-in-AtEnd-clause-left : goal.returns-in-AtEnd-clause-left

@@ -1,7 +1,6 @@
 use Rattle.std.proofs.Common.{◌≡◌, true, suc, ◌+◌, ◌<◌, length, inl, inr, sym, subst, ap, add-one, arith}
 use Rattle.ud_model.specs.text.Lines.{NoNewline, Line, SplitLines, line_at}
 use Rattle.ud_text.specs.lines.LinesState.{LinesState, IsLineOf, IsComplete}
-use Rattle.ud_text.specs.contracts.lines.Lines.{the_view}
 use Rattle.ud_text.proofs.lemmas.lines.LinesLemmas.{represent_body, represent_last, represent_whole, represent_rest}
 use Rattle.ud_text.proofs.lines.Lines.line.Goals as goal
 use Rattle.std.proofs.lemmas.Grind.{common_steps}

@@ -1,6 +1,6 @@
 -- A run and one more byte are read.
 use Rattle.std.proofs.lemmas.List.{take_more}
-use Rattle.std.proofs.Common.{◌+◌, ◌++◌, sym, ap, refl, append-nil, arith, take_all, length, length-drop, append_assoc}
+use Rattle.std.proofs.Common.{◌++◌, sym, ap, refl, append-nil, arith, take_all, length, length-drop, append_assoc}
 use Rattle.ud_model.proofs.text.ScanLemmas.{Masks-start}
 use Rattle.ud_text.proofs.lemmas.scan.MaskLemmas.{Masks-same, run_read, no_newline-take, no_newline-drop}
 use Rattle.ud_text.proofs.scan.lexer.mask_content.Goals as goal

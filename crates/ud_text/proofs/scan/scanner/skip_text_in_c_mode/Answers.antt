@@ -1,8 +1,7 @@
 -- By the bytes that are skipped.
-use Rattle.std.proofs.Common.{take, refl, arith}
+use Rattle.std.proofs.Common.{refl, arith}
 use Rattle.ud_model.specs.declared.kind.Mode.TheVariants.{C}
 use Rattle.ud_text.specs.scan.ScannerState.{scanner_state_of}
-use Rattle.ud_text.specs.scan.LexerViews.{lex_state_of}
 use Rattle.ud_text.proofs.lemmas.bulk.BulkPlainLemmas.{begins_ends}
 use Rattle.ud_text.proofs.lemmas.bulk.QuietLineLemmas.{passes_none}
 use Rattle.ud_text.specs.bulk.BulkLexemes.{at_start}

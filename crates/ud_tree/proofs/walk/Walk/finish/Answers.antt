@@ -1,14 +1,14 @@
-use Rattle.std.proofs.Common.{◌∙◌, sym, refl}
+use Rattle.std.proofs.Common.{◌∙◌, sym, refl, arith}
 use Rattle.std.proofs.lemmas.Iterator.Adapters.{YieldsList-from_vec}
 use Rattle.std.proofs.lemmas.Iterator.Consumers.{YieldsList-turn, YieldsList-so_far, YieldsList-end}
 use Rattle.std.proofs.lemmas.List.Sorted.{Contains-permutation, IsPermutation-sym}
 use Rattle.ud_tree.specs.contracts.walk.FoundOrd.TheImpl.{cmp-value}
-use Rattle.ud_tree.proofs.PickLemmas.{picked_begun, picked_next}
+use Rattle.ud_tree.proofs.PickLemmas.{picked_next}
 use Rattle.ud_tree.proofs.KeepLemmas.{sorted_files, kept_all}
 use Rattle.ud_tree.proofs.walk.Walk.finish.Goals as goal
 
 pub loop-found-init : goal.loop-found-init
-loop-found-init c = picked_begun c.new-seen.result c.new-files.result.items c.args.self.found.items c.new-seen.ensures.empty c.new-files.ensures.items
+loop-found-init c = grind (arith, c.new-seen.ensures.empty, c.new-files.ensures.items)
 
 pub pick-requires : goal.pick-requires
 pick-requires c = let b = c.into_iter-found-iterator.ensures.into_iter_gives in

@@ -1,8 +1,7 @@
 -- Text lines, or one line.
-use Rattle.std.proofs.Common.{sym, ◌∙◌}
+use Rattle.std.proofs.Common.{sym, ◌∙◌, arith}
 use Rattle.ud_model.specs.aids.LineViews.{as_line}
-use Rattle.ud_passes.specs.Walks.{read_after}
-use Rattle.ud_passes.proofs.UnlistedLemmas.{texts_more, line_more, line_found, long_line}
+use Rattle.ud_passes.proofs.UnlistedLemmas.{texts_more, line_more, line_found}
 use Rattle.ud_passes.proofs.names.texts.File.step.Goals as goal
 
 pub returns-in-Texts-clause-listed : goal.returns-in-Texts-clause-listed
@@ -14,7 +13,7 @@ pub returns-in-TooLong-clause-listed : goal.returns-in-TooLong-clause-listed
 returns-in-TooLong-clause-listed c = λ text start l.
     let n = c.in-TooLong.ensures.next text l.read l.walked in
     line_more c.args.self text start c.args.found c.args.walk.now c.args.out.now.items l c.next.new.self (as_line c.in-TooLong.line) n.1 _ c.pass.ensures.number
-    (long_line (read_after c.args.self.mode l.read (as_line c.in-TooLong.line)) n.0) c.pass.ensures.count
+    (grind (arith, n.0)) c.pass.ensures.count
 
 pub returns-else-unlisted-clause-listed : goal.returns-else-unlisted-clause-listed
 returns-else-unlisted-clause-listed c = λ text start l.

@@ -1,5 +1,6 @@
 -- The text stays, or the rest of it was found.
-use Rattle.std.proofs.Common.{◌≡◌, ℕ, List, Bool, map, Some, sym, ◌∙◌, ap, subst}
+use Rattle.std.proofs.lemmas.Grind.{common_steps}
+use Rattle.std.proofs.Common.{◌≡◌, ℕ, List, Bool, map, Some, sym, ◌∙◌, ap, subst, arith}
 use Rattle.ud_model.specs.text.Lexemes.{shown}
 use Rattle.ud_model.specs.conditions.Conditions.{Rules, expression_cond}
 use Rattle.ud_model.specs.aids.Residuals.{is_unknown, keeps}
@@ -7,7 +8,7 @@ use Rattle.ud_simplified.specs.ResidualTexts.{left_cells}
 use Rattle.ud_model.specs.conditions.Parsing.{expression_of}
 use Rattle.ud_cond.specs.CondViews.{as_rules}
 use Rattle.ud_passes.specs.pruning.Cells.{AreCells}
-use Rattle.ud_passes.proofs.LeftLemmas.{known_stays, settled_stays, found_or_stays, left_alone}
+use Rattle.ud_passes.proofs.LeftLemmas.{known_stays, settled_stays, found_or_stays}
 use Rattle.ud_passes.proofs.pruning.conditions.LeftCondition.find.Goals as goal
 
 pub returns-then-not-is_unknown-clause-found : goal.returns-then-not-is_unknown-clause-found
@@ -28,7 +29,7 @@ returns-clause-found c = λ calls h cells a q.
     let flags : c.as_slice.result.now ≡ keeps calls rules r.tree = c.as_slice.ensures ∙ r.kept.flags_are in
     let left : AreCells (left_cells (keeps calls rules r.tree) cells) c.append_left.new.left.bytes.items c.append_left.new.left.shown.items =
     subst (λ (l : List Bool). AreCells (left_cells l cells) c.append_left.new.left.bytes.items c.append_left.new.left.shown.items) flags
-    (left_alone (left_cells c.as_slice.result.now cells) c.clear.ensures.bytes c.clear.ensures.shown (c.in_ok-append_left.ensures.left cells a)) in
+    (grind (arith, common_steps, c.clear.ensures.bytes, c.clear.ensures.shown, c.in_ok-append_left.ensures.left cells a)) in
     found_or_stays calls rules cells r.tree p
     (ap (λ (l : List ℕ). is_unknown (expression_cond l calls rules)) a.shown_are ∙ sym (c.is_unknown.ensures calls h) ∙ c.if-not-is_unknown.false)
     (ap is_unknown r.unknown) q c.may_stand.result c.append_left.new.left left

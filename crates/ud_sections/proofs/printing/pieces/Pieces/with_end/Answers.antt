@@ -1,4 +1,4 @@
-use Rattle.std.proofs.Common.{◌∙◌, sym, arith}
+use Rattle.std.proofs.Common.{arith}
 use Rattle.ud_sections.proofs.lemmas.printing.PartLemmas.{replaced_end}
 use Rattle.ud_sections.proofs.printing.pieces.Pieces.with_end.Goals as goal
 use Rattle.std.proofs.lemmas.Grind.{common_steps}

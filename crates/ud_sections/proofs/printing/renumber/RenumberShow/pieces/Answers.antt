@@ -1,6 +1,5 @@
-use Rattle.std.proofs.Common.{◌∙◌, ◌++◌, ℕ, List, refl, sym, ap₂, arith}
+use Rattle.std.proofs.Common.{arith}
 use Rattle.ud_model.proofs.answer.PrintingLemmas.{last_removed-more}
-use Rattle.ud_sections.specs.sections.StepViews.{judged_step}
 use Rattle.ud_sections.proofs.lemmas.printing.RenumberLemmas.{removed_piece, following_piece, numbered_piece}
 use Rattle.ud_sections.proofs.printing.renumber.RenumberShow.pieces.Goals as goal
 use Rattle.std.proofs.lemmas.Grind.{common_steps}
