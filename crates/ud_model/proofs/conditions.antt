@@ -2,7 +2,7 @@
 --
 --   TokenLemmas.tokens_of_are           the computed tokens of a text are its tokens;
 --                                       `tokens_of_only`: no others are
---   OneExpression.sound                 tokens that are parsed as a tree are those of the tree
+--   OneExpression.sound                 a tree is spelled by the tokens that were parsed as it
 --   ParsingComplete.complete            and the tokens of a tree are parsed as it
 --   OneExpression.one_expression        a text has one tree at most
 --   OneExpression.expression_is         and it is the computed one

@@ -13,7 +13,7 @@
 --   UnlistedLemmas.line_found     the conditions that can't be listed, with a line more
 --   ScriptLemmas.script_whole     the script of a diff has all lines of both texts
 --   UptoLemmas.hunks_all          kept lines up to the end need no further hunk
---   PatchLemmas.diff_is           a diff turns the lines of one text into those of the other
+--   PatchLemmas.diff_is           a diff turns the lines of one text into the other's
 mod LineLemmas
 mod ScriptLemmas
 mod ContextLemmas

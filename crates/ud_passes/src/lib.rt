@@ -10,7 +10,8 @@
 //! - `fold` appends a text with each conditional directive on one line, and `restore` goes back.
 //! - `is_untouched` tells most texts that `fold` and `prune` leave as they are.
 //! - `squeeze` leaves out the blank lines that only stood there because of lines that went.
-//! - `unified_diff` returns what changed in a text.
+//!
+//! Besides, `unified_diff` returns the diff of two texts.
 #![tactic(auto)]
 
 mod diff;

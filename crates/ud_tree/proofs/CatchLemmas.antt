@@ -13,24 +13,20 @@ use Rattle.ud_replace.specs.Calls.{Call, walked, met, followed, listed}
 use Rattle.ud_tree.specs.declared.walk.Found.{Found}
 use Rattle.ud_tree.specs.declared.walk.Walk.{Walk}
 use Rattle.ud_tree.specs.Choices.{IsBelow, Chooses, IsChosen, IsLeft}
-use Rattle.ud_tree.specs.Catching.{IsTaken, AddsAllowed, Grows, Catches}
+use Rattle.ud_tree.specs.Catching.{IsTaken, MayHave, Grows, Catches}
 use Rattle.ud_tree.specs.Covering.{IsAllowed}
 use Rattle.ud_tree.proofs.CoverLemmas.{only_one}
 
--- A file is one of those found, or may be taken.
-abbrev pub MayStand : List (List ℕ) → List (List ℕ) → List Found → Found → Type 0
-MayStand patterns paths found f = Contains found f ⊎ IsAllowed patterns paths f
-
 -- The files that were found may stay.
-none_added : (patterns paths : List (List ℕ)) (found : List Found) → AddsAllowed patterns paths found found
-none_added patterns paths found = All-weaker (Contains found) (MayStand patterns paths found) (λ f there. inl there) found (All-contains_itself found)
+none_added : (patterns paths : List (List ℕ)) (found : List Found) → All (MayHave patterns paths found) found
+none_added patterns paths found = All-weaker (Contains found) (MayHave patterns paths found) (λ f there. inl there) found (All-contains_itself found)
 
 -- A walk whose patterns and files are the same.
 pub grows_same : {paths : List (List ℕ)} (w v : Walk) → v.patterns.now ≡ w.patterns.now → v.found.items ≡ w.found.items → Grows paths w v
 grows_same {paths = paths} w v same found = record {
   same = same;
   stay = subst (λ (fs : List Found). All (Contains fs) w.found.items) (sym found) (All-contains_itself w.found.items);
-  allowed = subst (AddsAllowed (map string_bytes w.patterns.now) paths w.found.items) (sym found)
+  allowed = subst (All (MayHave (map string_bytes w.patterns.now) paths w.found.items)) (sym found)
       (none_added (map string_bytes w.patterns.now) paths w.found.items);
 }
 
@@ -42,8 +38,8 @@ grows_pushed {paths = paths} w v f same found may = record {
   stay = subst (λ (fs : List Found). All (Contains fs) w.found.items) (sym found)
       (All-weaker (Contains w.found.items) (Contains (w.found.items ++ f ∷ [])) (λ g there. Contains-append_left w.found.items (f ∷ []) g there) w.found.items
       (All-contains_itself w.found.items));
-  allowed = subst (AddsAllowed (map string_bytes w.patterns.now) paths w.found.items) (sym found)
-      (All-push (MayStand (map string_bytes w.patterns.now) paths w.found.items) w.found.items f
+  allowed = subst (All (MayHave (map string_bytes w.patterns.now) paths w.found.items)) (sym found)
+      (All-push (MayHave (map string_bytes w.patterns.now) paths w.found.items) w.found.items f
       (none_added (map string_bytes w.patterns.now) paths w.found.items) (inr may));
 }
 
@@ -53,15 +49,15 @@ grows_more : {paths more : List (List ℕ)} (w v : Walk) → ((path : List ℕ) 
 grows_more {paths = paths} {more = more} w v within h = record {
   same = h.same;
   stay = h.stay;
-  allowed = All-weaker (MayStand (map string_bytes w.patterns.now) paths w.found.items) (MayStand (map string_bytes w.patterns.now) more w.found.items) by_case v.found.items h.allowed;
+  allowed = All-weaker (MayHave (map string_bytes w.patterns.now) paths w.found.items) (MayHave (map string_bytes w.patterns.now) more w.found.items) by_case v.found.items h.allowed;
 }
   where
-    by_case : (f : Found) → MayStand (map string_bytes w.patterns.now) paths w.found.items f → MayStand (map string_bytes w.patterns.now) more w.found.items f
+    by_case : (f : Found) → MayHave (map string_bytes w.patterns.now) paths w.found.items f → MayHave (map string_bytes w.patterns.now) more w.found.items f
     by_case f (inl there) = inl there
     by_case f (inr (inr chosen)) = inr (inr chosen)
     by_case f (inr (inl named)) = by_path (within (string_bytes f.path) named)
       where
-        by_path : IsChosen (map string_bytes w.patterns.now) (string_bytes f.path) ⊎ Contains more (string_bytes f.path) → MayStand (map string_bytes w.patterns.now) more w.found.items f
+        by_path : IsChosen (map string_bytes w.patterns.now) (string_bytes f.path) ⊎ Contains more (string_bytes f.path) → MayHave (map string_bytes w.patterns.now) more w.found.items f
         by_path (inl chosen) = inr (inr chosen)
         by_path (inr there) = inr (inl there)
 
@@ -82,11 +78,11 @@ grows_then : {paths : List (List ℕ)} (u w v : Walk) → Grows paths u w → Gr
 grows_then {paths = paths} u w v h k = record {
   same = k.same ∙ h.same;
   stay = All-weaker (Contains w.found.items) (Contains v.found.items) (λ f there. All-contains (Contains v.found.items) w.found.items f k.stay there) u.found.items h.stay;
-  allowed = All-weaker (MayStand (map string_bytes w.patterns.now) paths w.found.items) (MayStand (map string_bytes u.patterns.now) paths u.found.items) by_case v.found.items k.allowed;
+  allowed = All-weaker (MayHave (map string_bytes w.patterns.now) paths w.found.items) (MayHave (map string_bytes u.patterns.now) paths u.found.items) by_case v.found.items k.allowed;
 }
   where
-    by_case : (f : Found) → MayStand (map string_bytes w.patterns.now) paths w.found.items f → MayStand (map string_bytes u.patterns.now) paths u.found.items f
-    by_case f (inl there) = All-contains (MayStand (map string_bytes u.patterns.now) paths u.found.items) w.found.items f h.allowed there
+    by_case : (f : Found) → MayHave (map string_bytes w.patterns.now) paths w.found.items f → MayHave (map string_bytes u.patterns.now) paths u.found.items f
+    by_case f (inl there) = All-contains (MayHave (map string_bytes u.patterns.now) paths u.found.items) w.found.items f h.allowed there
     by_case f (inr may) = inr (subst (λ ps. IsAllowed (map string_bytes ps) paths f) h.same may)
 
 -- A file that was taken stays so.

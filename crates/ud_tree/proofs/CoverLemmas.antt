@@ -15,7 +15,7 @@ use Rattle.ud_tree.specs.declared.arguments.Arguments.{Arguments}
 use Rattle.ud_tree.specs.Reports.{ReportState}
 use Rattle.ud_tree.specs.declared.walk.Found.{Found}
 use Rattle.ud_tree.specs.declared.walk.Walk.{Walk}
-use Rattle.ud_tree.specs.Catching.{AddsAllowed, Catches}
+use Rattle.ud_tree.specs.Catching.{MayHave, Catches}
 use Rattle.ud_tree.specs.Choices.{IsLeft, IsSkipped}
 use Rattle.ud_tree.specs.Covering.{IsDirectoryPath, WasEntered, IsDue, Begins, at_file, at_directory, at_link, Visits, no_text, was_met, VisitsAll, IsAllowed, IsIn, StandsIn, Gives, no_path_text, was_given, paths_of, CoversPaths, CoversInput, MissesNone, misses_no_path, misses_no_input}
 use Rattle.ud_tree.specs.Streams.{Source}
@@ -454,10 +454,10 @@ same_calls : (xs ys : List WalkCall) (old : List Call) → map walked xs ++ old 
 same_calls xs ys old e = same_walked xs ys (append_cancel_right (map walked xs) (map walked ys) old e)
 
 -- A walk from no files has none but such as it may take.
-only_allowed : (patterns paths : List (List ℕ)) (before found : List Found) → before ≡ [] → AddsAllowed patterns paths before found → All (IsAllowed patterns paths) found
-only_allowed patterns paths before found none h = All-weaker ((λ g. Contains before g ⊎ IsAllowed patterns paths g)) (IsAllowed patterns paths) by_case found h
+only_allowed : (patterns paths : List (List ℕ)) (before found : List Found) → before ≡ [] → All (MayHave patterns paths before) found → All (IsAllowed patterns paths) found
+only_allowed patterns paths before found none h = All-weaker (MayHave patterns paths before) (IsAllowed patterns paths) by_case found h
   where
-    by_case : (f : Found) → Contains before f ⊎ IsAllowed patterns paths f → IsAllowed patterns paths f
+    by_case : (f : Found) → MayHave patterns paths before f → IsAllowed patterns paths f
     by_case f (inr may) = may
     by_case f (inl there) = let inside : Contains [] f = subst (λ (fs : List Found). Contains fs f) none there in
         absurd (omega (arith, inside.1))
@@ -471,7 +471,7 @@ pub covers_paths : {pats : List (List ℕ)} → {X : Type 0} (f : X → List ℕ
     CoversPaths (map f xs) patterns x z IsIn v.found.items (0 < last.faulty)
 unfolding explores_then
 covers_paths f xs i {x = x} {y = y} {z = z} {b = b} {c = c} {found = found} {r = r} {last = last} all fine h k {w = w} {v = v} stay none caught patterns are same = record {
-  allowed = only_allowed patterns (map f xs) w.found.items v.found.items none (subst (λ (ps : List (List ℕ)). AddsAllowed ps (map f xs) w.found.items v.found.items) are caught.grows.allowed);
+  allowed = only_allowed patterns (map f xs) w.found.items v.found.items none (subst (λ (ps : List (List ℕ)). All (MayHave ps (map f xs) w.found.items) v.found.items) are caught.grows.allowed);
   calls = ys ++ ws;
   are = (explores_then h.explores k.explores).are;
   waiting = c;

@@ -1,7 +1,7 @@
 -- Catching: which of the regular files that it meets a walk takes.
 --
 --   IsTaken w path id     a walk has found a file, or its patterns don't choose it
---   AddsAllowed patterns paths found found'   the files after are those before, or may be taken
+--   MayHave patterns paths found f   a file was found before, or may be taken
 --   Grows paths w v       a walk goes on with its patterns, loses no file, and adds what it may
 --   Catches paths old new w v   a part of a walk, which takes each regular file that it meets
 --
@@ -24,18 +24,17 @@ use Rattle.ud_tree.specs.Covering.{IsAllowed, IsIn}
 abbrev pub IsTaken : Walk → List ℕ → FileId → Type 0
 IsTaken w path id = IsIn w.found.items path id ⊎ IsLeft (map string_bytes w.patterns.now) path
 
--- `AddsAllowed patterns paths found found'`: each file of `found'` is one of `found`, or may be
--- taken.
-abbrev pub AddsAllowed : List (List ℕ) → List (List ℕ) → List Found → List Found → Type 0
-AddsAllowed patterns paths found found' =
-    All (λ f. Contains found f ⊎ IsAllowed patterns paths f) found'
+-- `MayHave patterns paths found f`: `f` is one of `found`, or may be taken.
+abbrev pub MayHave : List (List ℕ) → List (List ℕ) → List Found → Found → Type 0
+MayHave patterns paths found f = Contains found f ⊎ IsAllowed patterns paths f
 
 -- `Grows paths w v`: the walk `v` has the patterns of `w`, each file that `w` has found, and no
 -- other but such as it may take.
 pub record Grows (paths : List (List ℕ)) (w v : Walk) : Type 0 where
   pub same : v.patterns.now ≡ w.patterns.now
   pub stay : All (Contains v.found.items) w.found.items
-  pub allowed : AddsAllowed (map string_bytes w.patterns.now) paths w.found.items v.found.items
+  pub allowed :
+      All (MayHave (map string_bytes w.patterns.now) paths w.found.items) v.found.items
 
 -- `Catches paths old new w v`: since `old`, only calls of a walk were made. The walk has gone on
 -- from `w` to `v`, and each regular file that one of these calls met is taken.

@@ -146,7 +146,7 @@ pub record CoversInput (paths : List (List ℕ)) (old new : List Call)
   pub allowed : All (λ f. Contains paths (string_bytes f.path)) found
 
 -- `MissesNone args text old new has found told`: the paths come from the command line, and are
--- covered. Or they come from the input `text`, and each was given. No other file was found.
+-- covered. Or they come from the input `text`, and each was given.
 pub data MissesNone (args : Arguments) (text : List ℕ) (old new : List Call)
     (has : List Found → List ℕ → FileId → Type 0) (found : List Found) (told : Type 0) :
     Type 0 where

@@ -110,8 +110,8 @@ pub record ReadsOthers (args : Arguments) (files all : List Found) (old new : Li
   pub others_are : (table : List Argument) → TableRepresents args.plan.run.symbols table →
       others ≡ map (λ l. l.file) (filter (is_named table) looks)
 
--- `AddsOther args files f old new others others'`: if those of some files were read, those of these
--- and `f` now were.
+-- `AddsOther args files f old new others others'`: whatever files came before, `f` was read in its
+-- turn, unless it is among `files`.
 abbrev pub AddsOther : Arguments → List Found → Found → List Call → List Call → List Found →
     List Found → Type 0
 AddsOther args files f old new others others' = (all : List Found) (start : List Call) →

@@ -276,7 +276,7 @@ pub record StopsEarly (run : Run) : Type 0 where
 
 -- `ProcessesFiles run`: the input was read whole, if paths come from it. The walk missed none of
 -- the paths, nor of the names below them. It found some files, at least one if the paths come from
--- the command line, and none that the patterns leave out. The run ends after them.
+-- the command line, and the run ends after them.
 pub record ProcessesFiles (run : Run) : Type 0 where
   pub text : List ℕ
   pub mid : List Call

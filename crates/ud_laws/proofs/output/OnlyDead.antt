@@ -156,7 +156,7 @@ module _ {L : Type 0} where
       }) (both_truths (one_truth o.line b) (given h u.1 bs (omega (arith, e))))
   given h g bs k = grind (arith, weaker, any_truths)
 
--- 1. Lists.
+-- 4. Lists.
 
 none_there : {A : Type 0} (x : A) → Contains [] x → ⊥
 none_there x h = omega (arith, h.1)
@@ -184,7 +184,7 @@ module _ {A B : Type 0} (f : A → B) where
       ⊎_elim (λ e. subst (λ (y : B). Contains (f z ∷ map f xs) y) (ap f e) (is_first (f z) (map f xs))) (λ b. is_later (f z) (map f xs) (f x) (to_map xs x b))
       (first_or_later z xs x h)
 
--- 2. What is selected is a text line.
+-- 5. What is selected is a text line.
 
 where_some : {A : Type 0} (b : Bool) (qs ls : List A) → where_true b qs ≡ Some ls → qs ≡ ls
 where_some b qs ls e = grind arith
@@ -238,7 +238,7 @@ module _ {L : Type 0} (w : World L) where
         (selected_in ns l (subst (λ (qs : List L). Contains qs l) (sym (where_some (w o.line) (selected w ns) ls b)) c)))
         (either_some (selected_elifs w es) (where_true (w o.line) (selected w ns)) ls e)
 
--- 3. The lines that are left, by their numbers.
+-- 6. The lines that are left, by their numbers.
 
 abbrev pub line_from : Edited Reading → Reading
 line_from e = e.line
@@ -276,7 +276,7 @@ those_left Is n (stays {x = r} {y = e} {xs = rs} {ys = es} q f) h a b =
     absurd (let k : l.line.number ≡ r.line.number = ap (λ (x : Reading). x.line.number) (sym j ∙ q) in omega (arith, m, k)))
     (λ d. d) (first_or_later e.line (map line_from es) l (b l (is_later r rs l c) i)))))
 
--- 4. The live lines.
+-- 7. The live lines.
 
 module _ (ns : Nodes Reading) where
   abbrev left_texts : List (Edited Reading)

@@ -190,7 +190,7 @@ module _ (o : Options) where
     height_elifs (first_alike i n) = height_left n
     height_elifs (elif_alike p i n) = ap₂ (λ (m n : ℕ). max m n) (height_elifs p) (height_left n)
 
--- 5. The run.
+-- 4. The run.
 
 module _ (o : Options) (p : IsPlainC o) (input : List ℕ) {r : Outcome} (d : HasOutcome o input r) (n : r.fault ≡ None) (f : LinesFit (lines_of r.output)) where
   abbrev left_text : List ℕ

@@ -24,7 +24,7 @@ use Rattle.ud_model.specs.conditions.Conditions.{Decision, decision_on}
 use Rattle.ud_model.specs.declared.kind.Kind.{Kind}
 use Rattle.ud_simplified.proofs.SimplifiedLines.{SameIf, both_if, both_elif}
 
--- Line for line, the items of a simplified text are those of the text, with the residuals of their
+-- A simplified text has the items of the text, line for line, with the residuals of their
 -- conditions.
 
 module _ (o : Options) where

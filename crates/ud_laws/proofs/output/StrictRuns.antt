@@ -129,7 +129,7 @@ pub removed_loose : {t u : Tree Reading} → LooserTree t u → is_removed (mark
     is_removed (marked (kept_at_end true u) Keep).verdict ≡ true
 removed_loose {t = t} {u = u} k = grind (arith, end_loose)
 
--- 1. One line more.
+-- 4. One line more.
 
 -- The directive has a keyword.
 abbrev HasSome : Item Reading → Type 0
@@ -169,7 +169,7 @@ judged_grown : (xs : List (Item Reading)) (t u : Tree Reading) (x : Item Reading
     judged_lines (xs ++ x ∷ []) (marks u) ≡ judged_lines xs (marks t) ++ judged_line x m ∷ []
 judged_grown xs t u x m q e = grind (arith, judged_more, length_marks)
 
--- 2. As many lines with and without `-K`.
+-- 5. As many lines with and without `-K`.
 
 record Alongside (xs : List (Item Reading)) (t : Tree Reading) (ys : List (Item Reading)) (u : Tree Reading) : Type 0 where
   pub sections : LooserTree t u
@@ -215,7 +215,7 @@ module _ (o : Options) where
       let z : Alongside xs t ys u = alongside a b s.0 in
       one_alongside xs ys t w u v (read_after xs (mode_after with_k t) l) (read_after ys (mode_after o u) k) a b z (same_reading xs ys t u l k z.sections z.readings s.1) c d
 
--- 3. One run stops before the other.
+-- 6. One run stops before the other.
 
 -- Faultless items of the first lines, with the judged lines of all.
 record Front (o : Options) (ls : List Line) (js : List Judged) : Type 0 where
@@ -285,7 +285,7 @@ keep_by o input xs ys t u a b = go (fronts (map line_of xs) (map line_of ys) a.l
 pub strict_keeps : (o : Options) (input : List ℕ) {js ks : List Judged} → JudgedAs o input js → JudgedAs (under_strict o) input ks → KeepAsMuch js ks
 strict_keeps o input (judged_as {xs = ys} {t = u} b) (judged_as {xs = xs} {t = t} a) = keep_by o input xs ys t u (lines_read a) (lines_read b)
 
--- 4. The output.
+-- 7. The output.
 
 -- The judged lines of a text without a fault are its lines.
 pub judged_are_all : (o : Options) (input : List ℕ) {js : List Judged} {r : Outcome} → JudgedAs o input js → HasOutcome o input r → r.fault ≡ None →

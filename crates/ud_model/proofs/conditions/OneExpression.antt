@@ -8,8 +8,8 @@ use Rattle.ud_model.proofs.conditions.ParsingComplete.{complete_alone, meaning_i
 use Rattle.ud_model.proofs.conditions.TokenLemmas.{tokens_of_only, tokens_of_are}
 use Rattle.ud_model.specs.declared.operator.Operator.{Operator}
 
--- Tokens that are parsed as a tree are the tokens of this tree. The tokens so far are those of the
--- state: of the stack, and of the operand that has come.
+-- A tree is spelled by the tokens that were parsed as it. A state holds the tokens so far: on the
+-- stack, and in the operand that has come.
 
 -- The tokens of the stack.
 abbrev pub written : List (Frame Expression) → List Token
@@ -31,7 +31,7 @@ Fits (left o a ∷ s) = HasPrecedence (precedence o) a × (1 ≤ precedence o) �
 Fits (before o ∷ s) = IsTrue (is_prefix o) × Fits s
 Fits (paren ∷ s) = Fits s
 
--- The tokens so far are those of the state.
+-- The state holds the tokens so far.
 abbrev pub Holds : List Token → ParseState Expression → Type 0
 Holds us (needs s) = Fits s × (written s ≡ us)
 Holds us (has x s) = Fits s × HasPrecedence 10 x × (written s ++ spelling x ≡ us)
@@ -97,7 +97,7 @@ run_holds (t ∷ ts) us st e h f =
     let q = run_holds ts (us ++ t ∷ []) (step itself st t) e (step_holds us st t h) f in
     (q.0, q.1 ∙ append_assoc us (t ∷ []) ts)
 
--- Tokens that are parsed as a tree are those of this tree.
+-- A tree is spelled by the tokens that were parsed as it.
 pub sound : (ts : List Token) (e : Expression) → parse_tokens itself (needs []) ts ≡ Some e → HasPrecedence 1 e × (spelling e ≡ ts)
 sound ts e f = run_holds ts [] (needs []) e (tt, refl) f
 

@@ -44,10 +44,10 @@ use Rattle.ud_model.proofs.output.RereadChain.{AllButLast, lines_end, again}
 use Rattle.ud_model.proofs.text.LinesLemmas.{lines_exist}
 use Rattle.ud_model.proofs.output.WovenTrees.{Woven, TextGoes, EndifGoes, ElseGoes, IfGoes, ElifGoes, strewn_pairs, weave_nodes}
 
--- Items that are those of a tree but for their lines have a tree of the same shape.
+-- Items that differ from a tree's in their lines alone have a tree of the same shape.
 
 module _ {A B M : Type 0} (f : A → M) (g : B → M) where
-  -- The item is that of the tree but for its line.
+  -- The items are alike but for their lines.
   abbrev IsAlong : Item A → Item B → Type 0
   IsAlong x y = item_with g y ≡ item_with f x
 
