@@ -23,9 +23,7 @@ use Rattle.ud_model.proofs.output.Changed.{as_many_nodes, as_many_groups, as_man
 use Rattle.ud_laws.proofs.output.CSelected.{Clear, elif_moves, many_both, not_any}
 use Rattle.ud_laws.proofs.output.ProcessedPruned.{IsRight, NodesRight, GroupsRight, ElifsRight}
 
--- 1. The expression of a condition as it is written.
-
--- 2. Down the tree.
+-- Down the tree.
 
 ends_with : (scan : Scan) (c : Content) → scan.joins_after ≡ false → (condition_with scan c).goes_on ≡ false
 ends_with scan c h = grind arith

@@ -77,7 +77,7 @@ have_both : (js : List Judged) (ps : List Presumed) (p : Presumed) → HaveInput
 have_both js [] p h k = (k, tt)
 have_both js (q ∷ ps) p h k = (h.0, have_both js ps p h.1 k)
 
--- They have input numbers if the input goes on.
+-- Lines keep their input numbers if the input goes on.
 further : (js : List Judged) (j : Judged) (ps : List Presumed) → HaveInputNumbers js ps → HaveInputNumbers (js ++ j ∷ []) ps
 further js j [] h = tt
 further js j (p ∷ ps) h = (grind (arith, append_assoc, h.0), further js j ps h.1)
