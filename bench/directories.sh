@@ -4,7 +4,6 @@
 #
 # directories.sh [DIRECTORY]: copies of the machine's headers by default. BENCH_COPIES: the number
 # of copies. BENCH_HEADERS: the directory of the headers. BENCH_RUNS: the number of runs.
-# shellcheck source=bench/common.sh
 source "$(dirname "$0")/common.sh"
 program=$top/unifdef-tree
 needs "$program" hyperfine
@@ -28,9 +27,7 @@ done
 hyperfine -N -i --style none -w 1 -r "${BENCH_RUNS:-5}" --export-json "$work/times" "${commands[@]}" 2> /dev/null
 find . -type f -printf '%s\n' | awk '{ n += $1 } END { print NR " files, " n " bytes" }'
 { "$program" -n $nowhere -- . 2>&1 > /dev/null || true; } | head -n 1
-# shellcheck disable=SC2016 # These are quotes of Markdown.
 printf '\n| command, in that directory | seconds | times `cat` |\n| --- | --- | --- |\n'
-# shellcheck disable=SC2016 # These, too.
 python3 -c 'import json, sys
 rows = [(it["command"], it["user"] + it["system"]) for it in json.load(open(sys.argv[1]))["results"]]
 for command, seconds in rows:

@@ -3,7 +3,6 @@
 #
 # N: the number of cases. SEED: the first seed. JOBS: the number of processes. CHECKS: `options` to
 # check what users of options may rely on, in place of the reference.
-# shellcheck source=bench/common.sh
 source "$(dirname "$0")/common.sh"
 program=$top/crates/test_runner/out/test_runner
 cases=${N:-100000} seed=${SEED:-0} jobs=${JOBS:-$(nproc)} checks=${CHECKS:-}

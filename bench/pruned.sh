@@ -1,7 +1,6 @@
 #!/usr/bin/env bash
 # Counts the conditions of real sources that still name a removed symbol, after a run of
 # ./unifdef-tree without -p and with it. README.md in this directory describes it.
-# shellcheck source=bench/common.sh
 source "$(dirname "$0")/common.sh"
 program=$top/unifdef-tree
 needs "$program"
@@ -41,13 +40,11 @@ pruned() {
   without=$(counted 'still name')
   rm -rf "$work/copy" && cp -a "$directory" "$work/copy"
   run -p -r "$@" || failed "$package"
-  # shellcheck disable=SC2016 # These are quotes of Markdown.
   printf '| %s | `%s` | %s | %s | %s |\n' "${directory##*/}" "$*" "$without" "$(counted 'edited')" "$(counted 'still name')"
   { run -p "$@" && unchanged; } || failed "a second run changes $package"
   squeezed "$@"
 }
 
-# shellcheck disable=SC2016 # These too.
 echo '| Sources | Options | Without `-p` | Edited with `-p` | Left with `-p` |'
 echo '|---|---|---|---|---|'
 pruned vim -UVMS -UAMIGA -UMSWIN -UMACOS_X

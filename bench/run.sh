@@ -5,7 +5,6 @@
 # BENCH_BYTES: the size of each text. BENCH_RUNS: the number of rounds. BENCH_FILES: the number of
 # small files. BENCH_HEADERS, BENCH_SOURCES: the directories of headers and C sources. BENCH_NEWER:
 # a newer unifdef.
-# shellcheck source=bench/common.sh
 source "$(dirname "$0")/common.sh"
 program=$top/unifdef
 needs "$program"

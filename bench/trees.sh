@@ -4,7 +4,6 @@
 #
 # TREES_WORDS: the options. TREES_INCLUDE: the directory of the headers. TREES_SOURCE: a source
 # tree, instead of Debian's kernel.
-# shellcheck source=bench/common.sh
 source "$(dirname "$0")/common.sh"
 read -r -a words <<< "${TREES_WORDS:--U__KERNEL__ -DCONFIG_SMP}"
 program=$top/unifdef source=${TREES_SOURCE:-}

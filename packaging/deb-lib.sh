@@ -7,7 +7,6 @@
 #
 # The first name has the number of the library's file. Debian's own packages have other
 # names, and each can be installed beside them.
-# shellcheck source=packaging/debian.sh
 source "$(dirname "$0")/debian.sh"
 major=${version%%.*}
 read -ra cc <<< "${CC:-cc}" # It may have a word before the compiler.

@@ -3,7 +3,6 @@
 #
 #   unifdef-tree       unifdef-tree alone, which can be installed beside Debian's unifdef
 #   unifdef-proved     unifdef, which takes the place of Debian's unifdef, and unifdef2
-# shellcheck source=packaging/debian.sh
 source "$(dirname "$0")/debian.sh"
 
 pages=$all/usr/share/doc/pages

@@ -2,7 +2,6 @@
 # Makes the directory release/ with everything that a release page needs, of the last commit: the
 # programs and the library for Linux on x86-64, the Debian packages, the source, what changed, and
 # the checksums. The same commit gives the same files, byte by byte.
-# shellcheck source=packaging/debian.sh
 source "$(dirname "$0")/debian.sh"
 packaging/version.sh --released > /dev/null
 [ -z "$(git status --porcelain)" ] ||

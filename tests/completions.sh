@@ -1,6 +1,5 @@
 #!/usr/bin/env bash
 # Tries the completions in each of bash, zsh and fish that is installed.
-# shellcheck source=tests/checks.sh
 source "$(dirname "$0")/checks.sh"
 needs ./unifdef ./unifdef-tree
 completions=$here/packaging/completions
@@ -27,7 +26,6 @@ in_bash() {
     _unifdef
     printf "%s\n" "${COMPREPLY[@]}"' bash "$completions" "$1"
 }
-# shellcheck disable=SC2016 # The variables are those of the other shell.
 in_fish() {
   fish --no-config -c 'source $argv[1]/unifdef.fish; source $argv[1]/unifdef-tree.fish
     complete -C $argv[2]' "$work" "$1"

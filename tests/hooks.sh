@@ -1,7 +1,6 @@
 #!/usr/bin/env bash
 # Runs the hooks of .pre-commit-hooks.yaml as pre-commit does: their entry, the options of a user,
 # and then names of files. Their expression for these names must be the default patterns.
-# shellcheck source=tests/checks.sh
 source "$(dirname "$0")/checks.sh"
 needs ./unifdef-tree
 mkdir "$work/bin" "$work/src" "$work/names"

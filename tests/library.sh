@@ -2,7 +2,6 @@
 # Tries lib/libunifdef.a and lib/libunifdef.so: the examples and calls of tests/library_calls.c
 # under sanitizers, the module for Python with its examples, and all cases through both, also in
 # chunks. `make lib-test` runs it. The first failure ends it.
-# shellcheck source=tests/checks.sh
 source "$(dirname "$0")/checks.sh"
 set -e
 needs "${cc[0]}"

@@ -1,7 +1,6 @@
 #!/usr/bin/env bash
 # Installs and uninstalls the library in directories of its own, makes its Debian packages twice,
 # and builds and runs programs with what is there.
-# shellcheck source=tests/checks.sh
 source "$(dirname "$0")/checks.sh"
 needs lib/libunifdef.a "${cc[0]}"
 text=$'#ifdef A\nx\n#endif'

@@ -1,6 +1,5 @@
 #!/usr/bin/env bash
 # Installs and uninstalls the programs in directories of its own, and tries packages and tarball.
-# shellcheck source=tests/checks.sh
 source "$(dirname "$0")/checks.sh"
 text='#ifdef A\nx\n#endif\n'
 

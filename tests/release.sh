@@ -4,7 +4,6 @@
 #
 # The clones get the programs and the library of this directory. They are in directories of other
 # lengths, and the second one has another umask and another time zone.
-# shellcheck source=tests/checks.sh
 source "$(dirname "$0")/checks.sh"
 needs git dpkg-deb objdump lib/libunifdef.a .git
 [ -z "$(git status --porcelain)" ] || echo 'release: what is not committed is left out'

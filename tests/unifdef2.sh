@@ -3,9 +3,7 @@
 # the rules of -f, and faults. What must come out follows from the manual of 2.10, or from the text.
 #
 # unifdef2.sh [PROGRAM]: with ./unifdef, or PROGRAM.
-# shellcheck disable=SC1003 # A backslash ends a text.
 UNIFDEF=$(realpath "${1:-$(dirname "$0")/../unifdef}")
-# shellcheck source=tests/checks.sh
 source "$(dirname "$0")/checks.sh"
 [ -x "$UNIFDEF" ] || { echo "unifdef2: $UNIFDEF is not there: run make" >&2; exit 1; }
 export UNIFDEF
@@ -161,7 +159,6 @@ options() {
   holds "./$odd" a
   gives 1 '' "-o$odd" -UA in.c
   holds "./$odd" b
-  # shellcheck disable=SC2016 # The value isn't for this shell.
   gives 1 a -D "A=\$(x) \"'*" in.c
   gives 1 b -U A -i DB=1 -iUC in.c
   in_shell 'the files that are left' same "$(ls -A)" "$odd"$'\na.c\nbad.c\nc.c\nin.c\nsame.c'

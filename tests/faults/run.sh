@@ -3,8 +3,7 @@
 # growth of memory refused in turn. README.md in this directory describes it.
 #
 # The program of crates/test_memory is left out if it isn't built.
-# shellcheck disable=SC2016,SC2086 # Commands are run by `eval`, and words of options are split.
-# shellcheck source=tests/checks.sh
+# shellcheck disable=SC2086 # Words of options are split.
 source "$(dirname "$0")/../checks.sh"
 name=faults
 needs ./unifdef

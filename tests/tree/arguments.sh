@@ -1,6 +1,5 @@
 #!/usr/bin/env bash
 # Arguments, statuses, faults of a text and -n.
-# shellcheck disable=SC2154,SC2086 # Words of options are split.
 
 test_faults() {
   fresh src/good.c

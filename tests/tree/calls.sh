@@ -1,6 +1,5 @@
 #!/usr/bin/env bash
 # Which calls a run makes, and what it leaves if one of them fails or if it is killed there.
-# shellcheck disable=SC2154
 
 # named PATTERN: prints the names of the calls in $work/calls that a pattern of sed finds.
 named() { sed -n "s/^[0-9]* *\\($1\\).*/\\1/p" "$work/calls" | tr '\n' ' '; }

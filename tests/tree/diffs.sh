@@ -1,6 +1,5 @@
 #!/usr/bin/env bash
 # The diffs of -n and -d: patch and git apply take them, forwards and back.
-# shellcheck disable=SC2154,SC2086 # Words of options are split.
 
 # A diff has the changed lines, three lines around them, and no other ones.
 test_small_diffs() {

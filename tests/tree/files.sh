@@ -1,6 +1,5 @@
 #!/usr/bin/env bash
 # Modes, links, owners and left-over files, and files that can't be read, written or replaced.
-# shellcheck disable=SC2154
 
 test_keeps() {
   local before one

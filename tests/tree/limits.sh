@@ -1,11 +1,9 @@
 #!/usr/bin/env bash
 # A full disk, little memory, a small stack, large files and long lines.
-# shellcheck disable=SC2154,SC2086 # Words of options are split.
 
 # within STATUS LIMIT KIB WORD..: runs unifdef-tree under a limit of ulimit, such as -s. A file that
 # is too large is an error, and no signal.
 within() {
-  # shellcheck disable=SC2016 # The shell that runs the program expands this.
   under "$1" bash -c 'trap "" XFSZ; ulimit "$1" "$2" && exec "${@:3}"' - "$2" "$3" -- "${@:4}"
 }
 

@@ -1,6 +1,5 @@
 #!/usr/bin/env bash
 # The lists of -s and -r, and the last lines. The wanted lines were found by hand.
-# shellcheck disable=SC2154,SC1003 # A backslash may end a line.
 
 squeezed() { tr -s ' '; }
 listed() { grep '^src'; }

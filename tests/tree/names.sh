@@ -1,11 +1,9 @@
 #!/usr/bin/env bash
 # Names, kinds and patterns of files, names in messages, and paths from the input.
-# shellcheck disable=SC2034,SC2154
 
 test_names() {
   fresh
   local versioned=(src/{.git,.hg,.svn,.bzr,CVS,.pc}) bad=src/$'\x81\x88\xff.c'
-  # shellcheck disable=SC2016 # The dollar belongs to the name.
   local odd=('a b.c' $'line\nfeed.c' $'ends in\n.h' '-n.c' '*.c' "it's.c" '$(x).h' 'back\slash.c'
     '(.c' '!.c' 'a=b.c')
   local chosen=("${odd[@]/#/src/}" src/{x.cc,x.hpp,x.h.in,-DB/y.C,directory.c/z.H})

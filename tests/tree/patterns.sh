@@ -1,6 +1,5 @@
 #!/usr/bin/env bash
 # Which files the rules of -g choose.
-# shellcheck disable=SC2154
 
 # left_in WORD: the files of the tree t that have this word.
 left_in() { grep -rl "$1" t | sort | tr '\n' ' '; }

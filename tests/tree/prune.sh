@@ -1,6 +1,5 @@
 #!/usr/bin/env bash
 # -p alone, next to each other option, and over several lines. The wanted lines were found by hand.
-# shellcheck disable=SC2154,SC1003,SC2086 # A backslash may end a line, and words are split.
 
 # A file of which each condition that stays has decided operands under -UVMS.
 unpruned='#if defined(UNIX) || defined(VMS)\nx\n#elif defined(VMS) || (defined(A) && !defined(VMS))

@@ -1,6 +1,5 @@
 #!/usr/bin/env bash
 # Files and directories that another program changes while a run is at them.
-# shellcheck disable=SC2034,SC2154,SC2086 # Words of options are split.
 
 # paused STATUS OPTIONS CALL N COMMAND..: runs a command while a run over the small tree waits in
 # its Nth call of CALL, after the call. strace announces that.

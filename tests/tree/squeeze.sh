@@ -1,6 +1,5 @@
 #!/usr/bin/env bash
 # Which blank lines go under -B.
-# shellcheck disable=SC2154
 
 # squeezes BEFORE AFTER [WORD..]: checks what -B makes of a file. A second run changes nothing.
 squeezes() {

@@ -1,7 +1,6 @@
 #!/usr/bin/env bash
 # Standard streams that are full, closed or a terminal, and texts whose directives a run wouldn't
 # find.
-# shellcheck disable=SC2154
 
 # Messages that can't be written.
 test_full_messages() {

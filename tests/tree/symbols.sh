@@ -1,6 +1,5 @@
 #!/usr/bin/env bash
 # Symbols that no condition names, and runs without a symbol.
-# shellcheck disable=SC2086,SC2154
 
 # unnamed NAMES WORD..: a run says of these symbols, in this order, that no condition names them.
 unnamed() {
