@@ -14,27 +14,26 @@ import re
 import subprocess
 import sys
 import tempfile
-from dataclasses import dataclass, field
+from dataclasses import dataclass
 from pathlib import Path
-from typing import Iterable, Iterator, NoReturn, Optional
+from typing import Iterable, Iterator, Optional
 
 TOP = Path(__file__).resolve().parent.parent
 DATA = TOP / "crates" / "test_runner" / "data"
 # The seconds after which a program hangs. No answer depends on how fast it is.
 HANG = 3600
 
-ESCAPES = {"n": 10, "r": 13, "t": 9, "f": 12, "v": 11, "0": 0, "\\": 92, '"': 34}
-LITERAL = r'"((?:[^"\\]|\\x[0-9A-Fa-f]{2}|\\[nrtfv0\\"])*)"'
-ARGUMENT = re.compile(rf'{LITERAL}(?!\S)|([^\s"]+)(?!\S)|\S+')
-TEXT = re.compile(rf" (.*)|{LITERAL}(?: \* ([0-9]+))?|")
-STREAM = re.compile(
-    r"(reads|writes) of \d+ bytes|(read|write) fails after \d+ bytes|write stops after \d+ bytes"
-    r"|(read|write) \d+ is interrupted|(first )?flush fails|calls( (\d+|-)){3}"
+# The forms of a line. What 2.10 does instead has that before it.
+LINE = re.compile(
+    r"#.*|try (?:cuts|failures|again|growths)|unifdef(?P<words>| .*)"
+    r"|(?P<who>(?:2\.10)?) ?(?:(?P<copy>output is input)|status (?P<status>\d+)"
+    r'|(?P<part>[<>!])(?: (?P<text>.*)|"(?P<literal>.*)"(?: \* (?P<times>\d+))?|))'
+    r"|(?P<stream>(?:reads?|writes?|first flush|flush|calls) .*)"
 )
-TRIED = ("try cuts", "try failures", "try again", "try growths")
+ARGUMENT = re.compile(r'"([^"\\]*)"|([^\s"]+)')
 
 
-class CaseError(Exception):
+class CaseError(ValueError):
     """A case file that can't be read, as FILE:LINE: REASON."""
 
 
@@ -51,8 +50,8 @@ class Answer:
         return same and self.message in (None, found.message)
 
     def __str__(self) -> str:
-        message = "" if self.message is None else f", message {as_literal(self.message)}"
-        return f"status {self.status}, output {as_literal(self.output)}{message}"
+        message = "" if self.message is None else f", message {shown(self.message)}"
+        return f"status {self.status}, output {shown(self.output)}{message}"
 
 
 @dataclass
@@ -61,116 +60,63 @@ class Case:
 
     path: Path
     sentence: str
-    arguments: list[str] = field(default_factory=list)
-    input: bytes = b""
-    answer: Answer = field(default_factory=Answer)
-    released: Optional[Answer] = None
-    streams: list[str] = field(default_factory=list)
-    tries: list[str] = field(default_factory=list)
+    arguments: list[str]
+    input: bytes
+    answer: Answer
+    released: Optional[Answer]
+    has_streams: bool
 
 
-def as_literal(text: bytes, most: int = 400) -> str:
-    """Returns a C string literal of the first `most` bytes, and the length if there are more."""
-    letters = {byte: "\\" + letter for letter, byte in ESCAPES.items()}
-    plain = {byte: chr(byte) for byte in range(32, 127)} | letters
-    shown = "".join(plain.get(byte, f"\\x{byte:02X}") for byte in text[:most])
-    return f'"{shown}"' if len(text) <= most else f'"{shown}".. ({len(text)} bytes)'
+def shown(text: bytes, most: int = 400) -> str:
+    """Returns the first `most` bytes as a literal, and the length if there are more."""
+    return f"{text!r}" if len(text) <= most else f"{text[:most]!r}.. ({len(text)} bytes)"
 
 
 def unescaped(inside: str) -> bytes:
     """Returns the bytes for which the inside of a C string literal stands."""
-
-    def byte_of(found: "re.Match[bytes]") -> bytes:
-        escape = found[1].decode()
-        return bytes([int(escape[1:], 16) if escape[0] == "x" else ESCAPES[escape]])
-
-    return re.sub(rb"\\(x..|.)", byte_of, inside.encode(errors="surrogateescape"))
+    return inside.encode(errors="surrogateescape").decode("unicode_escape").encode("latin-1")
 
 
-class Reader:
-    def __init__(self, path: Path) -> None:
-        self.path = path
-        self.number = 0
-        # The parts of an answer that have lines; those of 2.10 have "2.10" before them.
-        self.parts: dict[str, bytes] = {}
-        self.statuses: dict[str, int] = {}
-        self.copied: set[str] = set()
-        self.commands = 0
-
-    def fail(self, reason: str) -> NoReturn:
-        raise CaseError(f"{self.path}:{self.number}: {reason}")
-
-    def read(self) -> Case:
-        text = self.path.read_bytes().decode(errors="surrogateescape")
-        case = Case(self.path, text.partition("\n")[0].removeprefix("# "))
-        for self.number, line in enumerate(text.removesuffix("\n").split("\n"), 1):
-            if self.number == 1 and not line.startswith("# "):
-                self.fail("the first line is no sentence after '# '")
-            if not line.startswith("#"):
-                self.take(case, line)
-        if self.commands != 1:
-            self.fail("not exactly one line begins with 'unifdef'")
-        case.input = self.parts.get("<", b"")
-        case.answer = self.answer_of("", case.input, Answer())
-        if any(key.startswith("2.10") for key in (*self.parts, *self.statuses, *self.copied)):
-            usual = Answer(case.answer.output, None, case.answer.status)
-            case.released = self.answer_of("2.10", case.input, usual)
-        return case
-
-    def answer_of(self, before: str, text: bytes, usual: Answer) -> Answer:
-        """Returns the answer of the lines with this before them; a part without lines is usual."""
-        if before in self.copied and before + ">" in self.parts:
-            self.fail("the output is both the input and other lines")
-        output = text if before in self.copied else self.parts.get(before + ">", usual.output)
-        message = self.parts.get(before + "!", usual.message)
-        return Answer(output, message, self.statuses.get(before, usual.status))
-
-    def take(self, case: Case, line: str) -> None:
-        before, rest = ("2.10", line[4:]) if line.startswith("2.10") else ("", line)
-        plain = rest.removeprefix(" ") if before else rest
-        if rest.startswith((">", "!") if before else ("<", ">", "!")):
-            self.add_text(before + rest[0], rest[1:])
-        elif plain == "output is input":
-            self.copied.add(before)
-        elif re.fullmatch(r"status [0-9]+", plain):
-            if before in self.statuses:
-                self.fail("a second status")
-            self.statuses[before] = int(plain[7:])
-        elif line == "unifdef" or line.startswith("unifdef "):
-            self.commands += 1
-            case.arguments = list(self.arguments_of(line[7:]))
-        elif STREAM.fullmatch(line):
-            case.streams.append(line)
-        elif line in TRIED:
-            case.tries.append(line)
-        else:
-            self.fail(f"unknown line {line!a}")
-
-    def add_text(self, part: str, text: str) -> None:
-        """Adds bytes to a part: a line, or those of a literal."""
-        found = TEXT.fullmatch(text)
-        if not found:
-            self.fail(f"neither a space and a text nor a C string literal: {text!a}")
-        added = (found[1] or "").encode(errors="surrogateescape") + b"\n"
-        if found[2] is not None:
-            added = unescaped(found[2]) * int(found[3] or 1)
-        self.parts[part] = self.parts.get(part, b"") + added
-
-    def arguments_of(self, text: str) -> Iterator[str]:
-        for found in ARGUMENT.finditer(text):
-            if found[1] is None and found[2] is None:
-                self.fail(f"no argument and no C string literal: {found[0]!a}")
-            literal = unescaped(found[1] or "").decode(errors="surrogateescape")
-            yield literal if found[2] is None else found[2]
+def read(path: Path) -> Case:
+    """Reads a case file. What crates/test_runner checks of its form isn't checked again."""
+    lines = path.read_bytes().decode(errors="surrogateescape").removesuffix("\n").split("\n")
+    arguments, has_streams = None, False
+    texts: dict[str, bytes] = {}  # By the first bytes of their lines.
+    statuses: dict[str, int] = {}
+    copied = []
+    for number, line in enumerate(lines, 1):
+        found = LINE.fullmatch(line)
+        if not found or (number == 1 and not line.startswith("# ")):
+            raise CaseError(f"{path}:{number}: unknown line {line!a}")
+        who, has_streams = found["who"], has_streams or found["stream"] is not None
+        if found["words"] is not None:
+            arguments = ["".join(it) for it in ARGUMENT.findall(found["words"])]
+        elif found["copy"]:
+            copied.append(who)
+        elif found["status"]:
+            statuses[who] = int(found["status"])
+        elif found["part"]:
+            added = ((found["text"] or "") + "\n").encode(errors="surrogateescape")
+            if found["literal"] is not None:
+                added = unescaped(found["literal"]) * int(found["times"] or 1)
+            texts[who + found["part"]] = texts.get(who + found["part"], b"") + added
+    if arguments is None:
+        raise CaseError(f"{path}: no line begins with 'unifdef'")
+    given = texts.get("<", b"")
+    texts |= {f"{who}>": given for who in copied}
+    answer = Answer(texts.get(">", b""), texts.get("!", b""), statuses.get("", 0))
+    released = None
+    if any(key.startswith("2.10") for key in (*texts, *statuses)):
+        output, status = texts.get("2.10>", answer.output), statuses.get("2.10", answer.status)
+        released = Answer(output, texts.get("2.10!"), status)
+    return Case(path, lines[0][2:], arguments, given, answer, released, has_streams)
 
 
 def cases_in(names: Iterable[Path] = (DATA,)) -> Iterator[Case]:
     """Yields the cases of these files, and of the files below these directories."""
     for name in names:
-        if not name.exists():
-            raise CaseError(f"{name}: there is no such file or directory")
         for path in sorted(name.rglob("*.case")) if name.is_dir() else [name]:
-            yield Reader(Path(os.path.relpath(path))).read()
+            yield read(Path(os.path.relpath(path)))
 
 
 def operand_of(arguments: list[str]) -> Optional[str]:
@@ -200,36 +146,49 @@ def run(program: Path, case: Case) -> Answer:
     return Answer(done.stdout, done.stderr, done.returncode)
 
 
+def run_in_bash(command: str, directory: Path, bin: Path, **how) -> subprocess.CompletedProcess:
+    """Runs a command of bash in a directory, with the programs of another one."""
+    env = {it: os.environ[it] for it in os.environ.keys() - {"MAKEFLAGS", "MAKELEVEL"}}
+    env |= {"LC_ALL": "C", "PATH": f"{bin}:{env['PATH']}"}
+    how |= {"cwd": directory, "env": env, "stdin": subprocess.DEVNULL, "stdout": subprocess.PIPE}
+    return subprocess.run(["bash", "-c", command], **how)
+
+
+def link_programs(directory: Path, unifdef: Path = TOP / "unifdef") -> None:
+    Path(directory, "unifdef").symlink_to(unifdef)
+    Path(directory, "unifdef-tree").symlink_to(TOP / "unifdef-tree")
+
+
+def difference(program: Path, case: Case, wanted: Answer) -> str:
+    """Returns what a program gives for a case, if it isn't the wanted answer, or an empty text."""
+    found = run(program, case)
+    both = f"{case.path}: {case.sentence}\n  expected {wanted}\n  found    {found}\n"
+    return "" if wanted.matches(found) else both
+
+
 def check(program: Path, case: Case, wanted: Answer, what: str) -> bool:
     """Returns whether the program gives the wanted answer, and prints both if it doesn't."""
-    found = run(program, case)
-    if wanted.matches(found):
-        return True
-    print(f"{what}: {case.path}: {case.sentence}\n  expected {wanted}\n  found    {found}")
-    return False
+    said = difference(program, case, wanted)
+    print(f"{what}: {said}" if said else "", end="")
+    return not said
 
 
 def main() -> int:
     parser = argparse.ArgumentParser(description="Runs a built program on case files.")
     parser.add_argument("program", nargs="?", type=Path, default=TOP / "unifdef")
-    parser.add_argument("--case", nargs="+", action="extend", type=Path, metavar="NAME")
+    parser.add_argument("--case", nargs="+", type=Path, default=[DATA], metavar="NAME")
     options = parser.parse_args()
-    program = options.program.resolve()
-    right = wrong = left_out = 0
     try:
-        for case in cases_in(options.case or [DATA]):
-            if case.streams:
-                left_out += 1
-            else:
-                is_right = check(program, case, case.answer, "cases")
-                right, wrong = right + is_right, wrong + (not is_right)
-    except (CaseError, OSError, subprocess.TimeoutExpired) as error:
+        every = list(cases_in(options.case))
+        tried = [it for it in every if not it.has_streams]
+        right = sum(check(options.program.resolve(), it, it.answer, "cases") for it in tried)
+    except (ValueError, OSError, subprocess.TimeoutExpired) as error:
         print(f"cases: {error}", file=sys.stderr)
         return 1
-    if left_out:
-        print(f"cases: {left_out} left out, which need streams over memory")
-    print(f"cases: {right} right, {wrong} wrong")
-    return 1 if wrong or not right + left_out else 0
+    if len(tried) < len(every):
+        print(f"cases: {len(every) - len(tried)} left out, which need streams over memory")
+    print(f"cases: {right} right, {len(tried) - right} wrong")
+    return 1 if right < len(tried) or not every else 0
 
 
 if __name__ == "__main__":

@@ -49,7 +49,7 @@ def by_stream(case: cases.Case, most: int) -> cases.Answer:
 
 
 def main() -> int:
-    tried = [case for case in cases.cases_in() if not case.streams]
+    tried = [case for case in cases.cases_in() if not case.has_streams]
     found = [("C", it, by_filter(program, it)) for program in sys.argv[1:] for it in tried]
     found += [("Python", it, by_module(it)) for it in tried]
     for most in CHUNKS:

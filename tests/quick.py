@@ -49,12 +49,9 @@ def run(words, directory, out, err, given=os.devnull):
 def is_right(case, out):
     if COMMANDS.is_stopped:
         return False
-    found = cases.run(Path(HERE, UNPROVED), case)
-    if not case.answer.matches(found):
-        both = f"  expected {case.answer}\n  found    {found}\n"
-        out.write(f"{case.path}: {case.sentence}\n{both}".encode(errors="replace"))
-        return False
-    return True
+    said = cases.difference(Path(HERE, UNPROVED), case, case.answer)
+    out.write(said.encode(errors="replace"))
+    return not said
 
 
 class Task:
@@ -113,14 +110,15 @@ def stored_run(task, out, err):
     if out.read() != Path(f"{directory}/stdout").read_bytes():
         return "the output isn't the stored one"
     # It runs those without streams too, which count as the program's.
-    task.right = sum(bool(it.streams) for it in task.cases)
+    task.right = sum(it.has_streams for it in task.cases)
     return ""
 
 
 def tasks(every_case, is_all):
     """Returns the tasks, those that take longest first."""
-    streams = [it for it in every_case if it.streams]
-    found = [Task("cases", "program", program_cases, (it for it in every_case if not it.streams))]
+    streams = [it for it in every_case if it.has_streams]
+    plain = [it for it in every_case if not it.has_streams]
+    found = [Task("cases", "program", program_cases, plain)]
     found.append(Task(RUNNER, "program", stored_run, every_case if is_all else streams))
     for directory in sorted(Path(HERE, "crates").iterdir()) if is_all else []:
         texts = (text_of(it) for it in directory.glob("src/**/*.rt"))
@@ -135,7 +133,7 @@ def main():
     names = [it for it in sys.argv[1:] if it != "--all"]
     todo = tasks(list(cases.cases_in()), "--all" in sys.argv or bool(names))
     todo = [it for it in todo if not names or it.name in names]
-    count = sum(bool(case.streams) == (it.name == RUNNER) for it in todo for case in it.cases)
+    count = sum(case.has_streams == (it.name == RUNNER) for it in todo for case in it.cases)
     say("test", f"{len(todo)} tasks, with {count} cases")
     end_by_signals()
     with concurrent.futures.ThreadPoolExecutor(PROCESSORS) as pool:
