@@ -16,7 +16,8 @@ import tempfile
 from pathlib import Path
 from typing import Iterator, Optional
 
-from cases import TOP, Answer, Case, CaseError, as_literal, cases_in, check, unescaped
+from cases import TOP, Answer, Case, CaseError, cases_in, check, link_programs, run_in_bash, shown
+from cases import unescaped
 
 EXAMPLE = re.compile(
     r"^(-[^:\n]*):  (.*)\nhere: ([012])(?:  (.*))?\n2\.10: ([012])(?:  (.*))?$"
@@ -55,6 +56,7 @@ CALLS = [
 ]
 
 OLD, NEW = "2.10", "2.12"
+UNIFDEF2 = TOP / "packaging" / "unifdef2"
 
 
 def is_released(program: Path, version: str) -> bool:
@@ -86,20 +88,8 @@ def check_manual(cases: list[Case]) -> Iterator[bool]:
         same = [case for case in cases if (case.arguments, case.input) == (arguments, text)]
         if not any(here.matches(case.answer) and there.matches(case.released) for case in same):
             reason = f"{same[0].path} has other answers" if same else "no case has it"
-            print(f"differences: the page's {' '.join(arguments)}: {as_literal(text)}: {reason}")
+            print(f"differences: the page's {' '.join(arguments)}: {shown(text)}: {reason}")
             yield False
-
-
-def check_file(program: Path, name: bytes) -> bool:
-    """Returns whether `-n` over a file inserts a #line that names the file as `name` does."""
-    with tempfile.TemporaryDirectory() as directory:
-        Path(directory, "in.c").write_bytes(b"#ifdef A\nx\n#endif\n")
-        command = [program, "-n", "-DA", "in.c"]
-        done = subprocess.run(command, capture_output=True, cwd=directory)
-    right = done.returncode == 1 and done.stdout == b"#line 2" + name + b"\nx\n"
-    if not right:
-        print(f"differences: {program}, a file and -n: {done.returncode} {as_literal(done.stdout)}")
-    return right
 
 
 def run_command(command: str, program: Path) -> tuple[bytes, Optional[int], dict[str, bytes]]:
@@ -109,17 +99,29 @@ def run_command(command: str, program: Path) -> tuple[bytes, Optional[int], dict
         directory.mkdir()
         for name, text in FILES.items():
             (directory / name).write_bytes(text)
-        for name, there in (("unifdef", program), ("unifdef-tree", TOP / "unifdef-tree")):
-            Path(top, name).symlink_to(there)
-        how = {"cwd": directory, "env": {**os.environ, "PATH": f"{top}:{os.environ['PATH']}"}}
-        how |= {"stdin": subprocess.DEVNULL, "capture_output": True}
-        done = subprocess.run(["bash", "-c", command], **how)
+        link_programs(Path(top), program)
+        done = run_in_bash(command, directory, Path(top), stderr=subprocess.PIPE)
         files = {it.name: it.read_bytes() for it in directory.iterdir()}
     return done.stdout, None if "|" in command else done.returncode, files
 
 
+def is_told(is_right: bool, *what: object) -> bool:
+    """Returns whether something is right, and prints what it is if it isn't."""
+    if not is_right:
+        print("differences:", *what)
+    return is_right
+
+
+def check_file(program: Path, name: bytes) -> bool:
+    """Returns whether `-n` over a file inserts a #line that names the file as `name` does."""
+    output, status, _ = run_command("unifdef -n -DA a.c", program)
+    is_right = status == 1 and output == b"#line 4" + name + b"\nb\n"
+    return is_told(is_right, program, "a file and -n:", status, output)
+
+
 def check_commands(program: Path, released: Optional[Path]) -> Iterator[bool]:
-    """Yields whether each command for users of 2.x does what 2.10 does with its arguments."""
+    """Yields whether each command for users of 2.x does what 2.10 does with its arguments, and
+    whether unifdef2 does that by each call. The manual has one with -B."""
     manual = (TOP / "docs" / "unifdef.1").read_text(encoding="utf-8").replace("\\e", "\\")
     section = manual.partition("\n.Ss Coming from 2.x\n")[2].partition("\n.Sh ")[0]
     pairs = COMMANDS.findall(section)
@@ -130,25 +132,15 @@ def check_commands(program: Path, released: Optional[Path]) -> Iterator[bool]:
         wanted = run_command(there, released) if released else found
         if "|" in here:
             wanted = (wanted[0], None, wanted[2])  # The status is that of another program.
-        right = found == wanted and (found[1] or 0) < 2 and (found[0] != b"" or found[2] != FILES)
+        is_right = found == wanted and (found[1] or 0) < 2 and (found[0] or found[2] != FILES)
         # The program itself takes no such arguments.
-        right = right and run_command(there, program)[1] == 2
-        if not right:
-            print(f"differences: the manual's {here.strip()}: {found}, and {there}: {wanted}")
-        yield right
-
-
-def check_calls(program: Path, released: Path) -> Iterator[bool]:
-    """Yields whether unifdef2 does what 2.10 does, by each call. The manual has one with -B."""
+        is_right = is_right and run_command(there, program)[1] == 2
+        yield is_told(is_right, "the manual's", here.strip(), found, "and", there, wanted)
     os.environ["UNIFDEF"] = str(program)
-    manual = (TOP / "docs" / "unifdef.1").read_text(encoding="utf-8").replace("\\e", "\\")
-    calls = [there for there, _ in COMMANDS.findall(manual) if "-B" not in there]
-    for call in calls + CALLS:
-        found = run_command(call, TOP / "packaging" / "unifdef2")
-        wanted = run_command(call, released)
-        if found != wanted:
-            print(f"differences: unifdef2 as {call}: {found}, and 2.10: {wanted}")
-        yield found == wanted
+    calls = [there for there, _ in pairs if "-B" not in there] + CALLS
+    for call in calls if released else []:
+        found, wanted = (run_command(call, it) for it in (UNIFDEF2, released))
+        yield is_told(found == wanted, "unifdef2 as", call, found, "and 2.10:", wanted)
 
 
 def results(program: Path, released: Optional[Path], new: Optional[Path]) -> Iterator[bool]:
@@ -159,10 +151,9 @@ def results(program: Path, released: Optional[Path], new: Optional[Path]) -> Ite
     yield from check_commands(program, released)
     if released:
         yield from (check(released, it, it.released, "differences, 2.10") for it in cases)
-        yield check_file(released, b' "in.c"')
-        yield from check_calls(program, released)
+        yield check_file(released, b' "a.c"')
     if new:
-        yield check_file(new, b' "in.c"')
+        yield check_file(new, b' "a.c"')
         for arguments, text, _, _, answer in examples():
             of_page = (it for it in cases if (it.arguments, it.input) == (arguments, text))
             yield from (check(new, it, answer, "differences, 2.12") for it in of_page)
@@ -180,7 +171,7 @@ def main() -> int:
             print(f"differences: unifdef {version} is not there, so it is left out")
     try:
         found = list(results(program, released, new))
-    except (CaseError, OSError) as error:
+    except (ValueError, OSError) as error:
         print(f"differences: {error}", file=sys.stderr)
         return 1
     wrong = found.count(False)

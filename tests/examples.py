@@ -28,9 +28,8 @@ import sys
 import tempfile
 from pathlib import Path
 
-from cases import unescaped
+from cases import TOP, link_programs, run_in_bash, unescaped
 
-TOP = Path(__file__).resolve().parent.parent
 PAGES = ["README.md", "docs/EXAMPLES.md", "docs/LIBRARY.md", "docs/unifdef.1"]
 # The tools that may not be there, each with those that it calls.
 TOOLS = {"cmake": "make cc", "meson": "ninja cc", "git": "", "cc": "", "make": "", "ninja": ""}
@@ -69,11 +68,7 @@ class Examples:
 
 
 def run(command, place, top):
-    env = {it: os.environ[it] for it in os.environ.keys() - {"MAKEFLAGS", "MAKELEVEL"}}
-    env |= {"LC_ALL": "C", "PATH": f"{top}:{env['PATH']}"}
-    how = {"cwd": place, "env": env, "stdin": subprocess.DEVNULL, "errors": "replace"}
-    how |= {"stdout": subprocess.PIPE, "stderr": subprocess.STDOUT}
-    done = subprocess.run(["bash", "-c", command], **how)
+    done = run_in_bash(command, place, top, stderr=subprocess.STDOUT, errors="replace")
     return done.returncode, done.stdout
 
 
@@ -86,16 +81,11 @@ def commands_in(block):
         yield head, "\n".join(lines)
 
 
-def linked(top):
-    for it in ("unifdef", "unifdef-tree"):
-        os.symlink(TOP / it, f"{top}/{it}")
-
-
 def run_block(examples, block):
     with tempfile.TemporaryDirectory() as work:
-        top = place = f"{work}/directory"
-        os.mkdir(top)
-        linked(top)
+        top = place = Path(work, "directory")
+        top.mkdir()
+        link_programs(top)
         for number, (command, wanted) in enumerate(commands_in(block)):
             needed = [it for it in TOOLS if f" {it} " in f" {command}"]
             needed += [below for it in needed for below in TOOLS[it].split()]
@@ -120,7 +110,7 @@ def run_manual(examples):
     text = examples.text.replace("\\e", "\\")
     options, rest = (text.partition(f"\n.Sh {it}\n")[2] for it in ("OPTIONS", "EXAMPLES"))
     with tempfile.TemporaryDirectory() as top:
-        linked(top)
+        link_programs(Path(top))
         for words, given, status, output in OPTION.findall(options.partition("\n.Sh ")[0]):
             command = [TOP / "unifdef", *words.split()]
             done = subprocess.run(command, input=unescaped(given), capture_output=True, check=False)
