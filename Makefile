@@ -292,11 +292,9 @@ dist:
 release: unifdef unifdef-tree lib
 	@$(TRIED) packaging/release.sh
 
-## draws the pictures in docs and bench
+## draws the pictures of README.md
 pictures: unifdef
-	python3 bench/chart.py bench/README.md > bench/speed.svg
-	python3 bench/chart.py bench/README.md --short > bench/speed-short.svg
-	tools/before_after.py tools/io.h -UVMS -DUNIX > docs/before-after.svg
+	tools/pictures.py
 
 #= To measure it
 

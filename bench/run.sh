@@ -36,6 +36,4 @@ if [ -z "${BENCH_SOURCES:-}" ] && got 'C source' source_of postgresql-15; then
   BENCH_SOURCES=$work/source/postgresql-15
 fi
 export BENCH_SOURCES
-python3 "$here/compare.py" "$work" "${programs[@]}" | tee "$work/tables"
-python3 "$here/chart.py" "$work/tables" > "$work/speed.svg"
-cp "$work/speed.svg" "$here"
+python3 "$here/compare.py" "$work" "${programs[@]}"
