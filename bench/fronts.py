@@ -2,7 +2,7 @@
 
 fronts.py PROGRAM REFERENCE TREE CASES SEED: tries CASES cases from SEED on. Their output, message
 and status must be the same. PROGRAM must end in time, by itself, with status 0, 1 or 2. It runs
-with a stack of 1 MiB. The input of the first mismatch is kept in the file `mismatch.c`.
+with a stack of 1 MiB. The input of a mismatch is kept in the file `mismatch-SEED.c`.
 """
 
 import os
@@ -12,6 +12,8 @@ import subprocess
 import sys
 from concurrent.futures import ThreadPoolExecutor
 from pathlib import Path
+
+from selects import report
 
 HANG = 3600
 SMALL_STACK = ["prlimit", f"--stack={1024 * 1024}"]
@@ -53,38 +55,30 @@ def outcome(program, arguments, text, before=()):
     return run.stdout, run.stderr, run.returncode
 
 
-def check(program, reference, path, seed):
-    """Returns None if the answers to a case agree, else its arguments, text and both answers."""
+def compare(job):
+    path, seed, program, reference = job
     dice = random.Random(seed)
     text = part_of(dice, path.read_bytes())
     arguments = arguments_for(dice, text)
     ours = outcome(program, arguments, text, SMALL_STACK)
     theirs = outcome(reference, ["reference", *arguments], text)
     if ours == theirs and ours[2] in (0, 1, 2):
-        return None
-    return arguments, text, ours, theirs
+        return "the same", ""
+    Path(f"mismatch-{seed}.c").write_bytes(text)
+    of = f"case {seed}, of {path}: arguments {arguments}, input in mismatch-{seed}.c"
+    for name, (output, message, status) in (("program", ours), ("reference", theirs)):
+        of += f"\n  the {name}: status {status}, {len(output)} bytes, {message!r}"
+    return "wrong", of
 
 
 def main():
     program, reference, tree = sys.argv[1:4]
     cases, seed = map(int, sys.argv[4:6])
     paths = [it for it in sorted(Path(tree).rglob("*")) if it.is_file() and not it.is_symlink()]
-    if not paths:
-        sys.exit(f"fronts: no file below {tree}")
-    todo = [(paths[at % len(paths)], at) for at in range(seed, seed + cases)]
+    seeds = range(seed, seed + cases)
+    todo = [(paths[it % len(paths)], it, program, reference) for it in seeds]
     with ThreadPoolExecutor(os.cpu_count()) as pool:
-        found = pool.map(lambda case: check(program, reference, *case), todo)
-        for (path, at), wrong in zip(todo, found):
-            if wrong:
-                arguments, text, *both = wrong
-                Path("mismatch.c").write_bytes(text)
-                print(f"fronts: case {at}, of {path}: arguments {arguments}, input in mismatch.c")
-                for name, (output, message, status) in zip(("program", "reference"), both):
-                    said = f"status {status}, {len(output)} bytes, {message!r}"
-                    print(f"fronts: the {name}: {said}")
-                pool.shutdown(cancel_futures=True)
-                sys.exit(1)
-    print(f"fronts: {cases} cases from {seed} on, of {len(paths)} files below {tree}: no mismatch")
+        sys.exit(report(pool.map(compare, todo), f"cases of {len(paths)} files")[1])
 
 
 main()
