@@ -184,7 +184,7 @@ clean:
 crates/%/out/unproved: $(filter-out %.antt,$(SOURCES))
 	@$(NEED_KIT)
 	@echo 'make: builds the program without a proof and optimization, in half a minute' >&2
-	@RT='$(RT)' tools/unproved.py $* $@
+	@RT='$(RT)' tools/unproved.sh $* $@
 
 # Status 1 says that the output differs, so it doesn't fail the recipe.
 RUN_UNPROVED = @status=0; $< $(ARGS) || status=$$?; \
@@ -205,12 +205,12 @@ case: $(CRATE)/out/unproved
 	@tests/cases.py $< --case $(FILE)
 
 ## runs each case once, in a minute and without a proof
-test: kit
-	@$(TRIED) tests/quick.py
+test: $(CRATE)/out/unproved
+	@RT='$(RT)' tests/quick.py
 
 ## runs all cases and tests, without a proof
-test-all: kit
-	@$(TRIED) tests/quick.py --all
+test-all: $(CRATE)/out/unproved
+	@RT='$(RT)' tests/quick.py --all
 
 ## runs the merge gate: every proof from nothing, the edits
 ## of definitions and laws that the prover must refuse, the

@@ -59,7 +59,7 @@ if unshare -m true 2> /dev/null && has python3; then
   check 'a read-only directory' same "make: $here cannot be written: build in a copy of it" \
     "$(said_after 'mount --bind -o ro . .' "$make -s kit RT=$kit")"
   check 'no /proc' same 'unproved: /proc is not mounted, where the program is found while it runs' \
-    "$(said_after 'umount -l /proc' 'tools/unproved.py unifdef_cli none')"
+    "$(said_after 'umount -l /proc' 'tools/unproved.sh unifdef_cli none')"
 fi
 
 # Installs before a released program on PATH.
