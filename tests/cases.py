@@ -14,6 +14,7 @@ import re
 import subprocess
 import sys
 import tempfile
+from concurrent.futures import ThreadPoolExecutor
 from dataclasses import dataclass
 from pathlib import Path
 from typing import Iterable, Iterator, Optional
@@ -159,18 +160,13 @@ def link_programs(directory: Path, unifdef: Path = TOP / "unifdef") -> None:
     Path(directory, "unifdef-tree").symlink_to(TOP / "unifdef-tree")
 
 
-def difference(program: Path, case: Case, wanted: Answer) -> str:
-    """Returns what a program gives for a case, if it isn't the wanted answer, or an empty text."""
-    found = run(program, case)
-    both = f"{case.path}: {case.sentence}\n  expected {wanted}\n  found    {found}\n"
-    return "" if wanted.matches(found) else both
-
-
 def check(program: Path, case: Case, wanted: Answer, what: str) -> bool:
     """Returns whether the program gives the wanted answer, and prints both if it doesn't."""
-    said = difference(program, case, wanted)
-    print(f"{what}: {said}" if said else "", end="")
-    return not said
+    found = run(program, case)
+    if not wanted.matches(found):
+        both = f"  expected {wanted}\n  found    {found}\n"
+        print(f"{what}: {case.path}: {case.sentence}\n{both}", end="")
+    return wanted.matches(found)
 
 
 def main() -> int:
@@ -181,7 +177,9 @@ def main() -> int:
     try:
         every = list(cases_in(options.case))
         tried = [it for it in every if not it.has_streams]
-        right = sum(check(options.program.resolve(), it, it.answer, "cases") for it in tried)
+        program = options.program.resolve()
+        with ThreadPoolExecutor() as pool:
+            right = sum(pool.map(lambda it: check(program, it, it.answer, "cases"), tried))
     except (ValueError, OSError, subprocess.TimeoutExpired) as error:
         print(f"cases: {error}", file=sys.stderr)
         return 1
