@@ -41,7 +41,7 @@ if has mandoc; then
   done
 fi
 mapfile -t scripts < <(files -exec grep -lE '^#!.*[/ ](sh|bash)$' {} + | sort)
-scripts+=(packaging/completions/unifdef.bash)
+scripts+=(packaging/completions/unifdef.bash tests/tree/*.sh)
 if has shellcheck; then
   try shellcheck "${scripts[@]}"
 fi

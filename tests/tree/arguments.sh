@@ -1,4 +1,3 @@
-#!/usr/bin/env bash
 # Arguments, statuses, faults of a text and -n.
 
 test_faults() {

@@ -1,4 +1,3 @@
-#!/usr/bin/env bash
 # Which calls a run makes, and what it leaves if one of them fails or if it is killed there.
 
 # named PATTERN: prints the names of the calls in $work/calls that a pattern of sed finds.

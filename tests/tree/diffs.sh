@@ -1,4 +1,3 @@
-#!/usr/bin/env bash
 # The diffs of -n and -d: patch and git apply take them, forwards and back.
 
 # A diff has the changed lines, three lines around them, and no other ones.

@@ -1,4 +1,3 @@
-#!/usr/bin/env bash
 # Modes, links, owners and left-over files, and files that can't be read, written or replaced.
 
 test_keeps() {

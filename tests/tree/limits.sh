@@ -1,4 +1,3 @@
-#!/usr/bin/env bash
 # A full disk, little memory, a small stack, large files and long lines.
 
 # within STATUS LIMIT KIB WORD..: runs unifdef-tree under a limit of ulimit, such as -s. A file that

@@ -1,4 +1,3 @@
-#!/usr/bin/env bash
 # The lists of -s and -r, and the last lines. The wanted lines were found by hand.
 
 squeezed() { tr -s ' '; }

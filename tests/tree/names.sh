@@ -1,4 +1,3 @@
-#!/usr/bin/env bash
 # Names, kinds and patterns of files, names in messages, and paths from the input.
 
 test_names() {

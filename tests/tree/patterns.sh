@@ -1,4 +1,3 @@
-#!/usr/bin/env bash
 # Which files the rules of -g choose.
 
 # left_in WORD: the files of the tree t that have this word.

@@ -1,4 +1,3 @@
-#!/usr/bin/env bash
 # -p alone, next to each other option, and over several lines. The wanted lines were found by hand.
 
 # A file of which each condition that stays has decided operands under -UVMS.

@@ -1,4 +1,3 @@
-#!/usr/bin/env bash
 # Files and directories that another program changes while a run is at them.
 
 # paused STATUS OPTIONS CALL N COMMAND..: runs a command while a run over the small tree waits in

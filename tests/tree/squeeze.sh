@@ -1,4 +1,3 @@
-#!/usr/bin/env bash
 # Which blank lines go under -B.
 
 # squeezes BEFORE AFTER [WORD..]: checks what -B makes of a file. A second run changes nothing.

@@ -1,4 +1,3 @@
-#!/usr/bin/env bash
 # Standard streams that are full, closed or a terminal, and texts whose directives a run wouldn't
 # find.
 

@@ -1,4 +1,3 @@
-#!/usr/bin/env bash
 # Symbols that no condition names, and runs without a symbol.
 
 # unnamed NAMES WORD..: a run says of these symbols, in this order, that no condition names them.
