@@ -71,22 +71,22 @@ NEED_KIT = command -v '$(RT)' > /dev/null || $(call FAIL,"$(NO_KIT)" "$(OLD_COPY
 kit:
 	@$(NEED_KIT)
 
-# If it is up to date, nothing here needs the kit. So a built copy installs without it.
+# If a program is up to date, nothing here needs the kit. So a built copy installs without it.
+PROVE = @$(NEED_KIT); RT='$(RT)' tools/prove.py
+
 unifdef: $(SOURCES)
-	@$(NEED_KIT)
-	@RT='$(RT)' tools/prove.py
+	$(PROVE)
 	cp $(CRATE)/out/unifdef_cli $@
 
 ## proves and builds ./unifdef-tree
 unifdef-tree: $(SOURCES)
-	@$(NEED_KIT)
-	@RT='$(RT)' tools/prove.py unifdef_tree_cli
+	$(PROVE) unifdef_tree_cli
 	cp $(CRATE_TREE)/out/unifdef_tree_cli $@
 
 ## proves and builds ./unifdef-native, for AVX2 or CPU=..
+native: export UNIFDEF_CPU = $(CPU)
 native: $(SOURCES)
-	@$(NEED_KIT)
-	@RT='$(RT)' UNIFDEF_CPU='$(CPU)' tools/prove.py
+	$(PROVE)
 	cp $(CRATE)/out/unifdef_cli unifdef-native
 
 # The library for C. `rt doc` prints a page in the directory of the kit, which has the C functions
@@ -95,8 +95,7 @@ native: $(SOURCES)
 lib: lib/libunifdef.a
 
 lib/libunifdef.a: $(SOURCES) lib/build.sh lib/unifdef.map CHANGELOG.md
-	@$(NEED_KIT)
-	@RT='$(RT)' tools/prove.py unifdef_c
+	$(PROVE) unifdef_c
 	lib/build.sh crates/unifdef_c/out/libunifdef_c.a "$$(dirname "$$($(RT) doc)")/c/liblibc_c.a"
 
 # into MODE DIRECTORY FILES: installs files into a directory.
@@ -212,15 +211,12 @@ test: $(CRATE)/out/unproved
 test-all: $(CRATE)/out/unproved
 	@RT='$(RT)' tests/quick.py --all
 
-## runs the merge gate: every proof from nothing, the edits
-## of definitions and laws that the prover must refuse, the
-## tests and stored runs. RT_JOBS=N runs N checks side by
-## side; all lines go to gate.log
+## runs the merge gate: proofs from nothing, wrong edits,
+## tests, stored runs; RT_JOBS=N runs N checks side by side
 check: kit
 	@RT='$(RT)' tools/gate.py
 
-## tries a wrong edit of each public function, which the
-## prover must refuse, many in one check; CRATES='NAME ..'
+## tries wrong edits of public functions; CRATES='NAME ..'
 ## those of some crates, EDITS=--all further ones too
 edits: edits-test
 	@RT='$(RT)' tools/edits.py $(EDITS) $(CRATES)
@@ -233,10 +229,8 @@ edits-test: kit
 around: manuals cases examples differences faults lines-test tree-test clients-test lib-test \
 	packages-test
 
-## checks version, manuals, scripts, the language of
-## comments and pages, the names that pages cite, and that
-## each edit can be applied, and each crate is as rt fmt
-## has it
+## checks version, manuals, scripts, comments and pages, and
+## that each edit can be applied
 manuals:
 	@RT='$(RT)' tools/lint.sh
 
@@ -331,8 +325,7 @@ lines: unifdef
 	bench/lines.py $(LINE_OPTIONS)
 
 ## compares the library with its reference on N hostile
-## texts from SEED on, in JOBS processes; CHECKS=options
-## tries what users of options may rely on
+## texts; bench/hostile.sh has SEED, JOBS and CHECKS
 hostile: kit
 	cd crates/test_runner && $(RT) run -- hostile 0 1 < /dev/null > /dev/null
 	N='$(N)' SEED='$(SEED)' JOBS='$(JOBS)' CHECKS='$(CHECKS)' bench/hostile.sh

@@ -52,7 +52,7 @@ check 'install: the kit that is not there' same $'make: Rattle\'s command no-suc
 # /proc.
 kit=$work/kit
 ln -s "$(type -P true)" "$kit"
-named() { "$make" -n -W HANDLES unifdef RT="$1" | sed -n "s/^RT='\(.*\)' tools.*/\1/p"; }
+named() { "$make" -n -W HANDLES unifdef RT="$1" | sed -n "s/.*RT='\(.*\)' tools.*/\1/p"; }
 said_after() { unshare -m sh -c "$1 && cd '$here' && $2" 2>&1 | head -n 1; }
 check 'RT by a relative path' same "$(named "$(realpath -s --relative-to=. "$kit")")" "$kit"
 if unshare -m true 2> /dev/null && has python3; then
