@@ -97,23 +97,13 @@ fi
 "${cc[@]}" "${flags[@]}" -O2 -o "$work/shared" lib/examples/filter.c -Llib -lunifdef
 [ "$(printf '#ifdef A\nx\n#endif\n' | LD_LIBRARY_PATH=lib "$work/shared" -DA)" = x ]
 
-# The deepest inputs with a stack of 1 MiB, and of 4 MiB to prune, as a thread and as a program.
-# Statuses, lengths, messages and output are those with a large stack. A sanitizer takes stack, so
-# none is there.
-"${cc[@]}" "${flags[@]}" -O2 -pthread -o "$work/stack" tests/library_stack.c lib/libunifdef.a
-run_shared() { LD_LIBRARY_PATH=lib "$work/shared" "$1" < "$work/in" 2>&1 || echo "status $?"; }
+# The deepest inputs with a stack of 1 MiB must give what they give with a large one.
+run_shared() { LD_LIBRARY_PATH=lib "$work/shared" "$1" < "$input" 2>&1 || echo "status $?"; }
+mkdir "$work/deep"
 for kind in $(deep); do
-  deep "$kind" > "$work/in"
-  calls=(text feed prune)
-  ! head -n 1 "$work/in" | grep -q '^#if ' || calls+=(condition names)
+  input=$work/deep/$kind
+  deep "$kind" > "$input"
   for words in -DA -kUA -SDA; do
-    for call in "${calls[@]}"; do
-      "$work/stack" 65536 "$call" "$words" < "$work/in" > "$work/wanted"
-      kib=1024
-      [ "$call" != prune ] || kib=4096
-      "$work/stack" "$kib" "$call" "$words" < "$work/in" | cmp - "$work/wanted" ||
-        fail "$call of $kind under $words needs a larger stack"
-    done
     run_shared "$words" > "$work/wanted"
     (ulimit -s 1024; run_shared "$words") | cmp - "$work/wanted" ||
       fail "the filter needs a larger stack for $kind under $words"
@@ -131,10 +121,9 @@ build example "$work/example.c"
 needs python3
 export UNIFDEF_LIBRARY=$PWD/lib/libunifdef.so.1 PYTHONDONTWRITEBYTECODE=1
 (cd lib/python && python3 -m unifdef --test)
-tests/library_module.py
 if has mypy; then
   (cd lib/python && mypy --strict --cache-dir=/dev/null unifdef)
 else
   left_out mypy
 fi
-tests/library.py "${filters[@]}"
+tests/library.py "$work/deep" "${filters[@]}"

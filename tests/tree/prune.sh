@@ -124,8 +124,7 @@ test_pruned_over_lines() {
     '#if X || \\\n  VMS\n#endif\n\v\n' '#if !VMS || \\\n  X\n#elif X ||\\\nY\n#endif\n'; do
     folds "$stays" "$stays"
   done
-  tree -p -r -UVMS src
-  prints 'src/a.c:1: over several lines: #if !VMS || \'
+  after 'any -p -r -UVMS src' prints 'src/a.c:1: over several lines: #if !VMS || \'
   folds '#if X || \\\n  VMS\n#endif\n' '#if X || \\\n  VMS\n#endif\n' '-b -UVMS'
   put src/a.c '#if F(VMS, \\\n  X)\n#endif\n#if VMS || A || \\\n X + VMS\n#else /* no\n VMS */
 #endif // VMS\n'
