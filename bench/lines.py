@@ -22,8 +22,8 @@ import subprocess
 import sys
 from pathlib import Path
 
-from selects import CONDITIONAL, bare, chosen, code_of, jobs_of, logical_lines, neutral
-from selects import parser_of, report, selected, shown
+from selects import CC, CONDITIONAL, UNIFDEF, bare, chosen, code_of, logical_lines, neutral
+from selects import parsed, report, selected, shown
 
 WORD = b"line_%d __LINE__ "
 RENUMBERED = re.compile(rb"#line (\d+)\s*$")
@@ -51,13 +51,13 @@ def taken(text):
     return b"".join(it for line in lines for it in line)
 
 
-def numbers(cc, arguments, text):
+def numbers(arguments, text):
     """Returns the selected words with their numbers; None if the compiler rejects the text."""
-    words = selected(cc, arguments, text)
+    words = selected(arguments, text)
     return words and list(zip(words[::2], words[1::2]))
 
 
-def skipped(cc, arguments, text):
+def skipped(arguments, text):
     """Returns the words whose last `#line` is in a group that the compiler skips."""
     marked, marks, count = [], {}, 0
     for line in logical_lines(text):
@@ -68,7 +68,7 @@ def skipped(cc, arguments, text):
         elif not CONDITIONAL.match(code):
             marks.update((word, count) for word in code.split()[:1])
         marked += line
-    seen = selected(cc, arguments, b"".join(marked)) or []
+    seen = selected(arguments, b"".join(marked)) or []
     return {word for word, last in marks.items() if last and b"mark_%d" % last not in seen}
 
 
@@ -83,25 +83,25 @@ def first_difference(expected, found, excused=()):
     return None, len(wrong)
 
 
-def check(cc, unifdef, options, arguments, source):
+def check(options, arguments, source):
     """Returns what happened, the first difference, and how many lines were compared and excused."""
-    before, all_before = numbers(cc, arguments, source), numbers(cc, [], taken(source))
+    before, all_before = numbers(arguments, source), numbers([], taken(source))
     if before is None:
         return "rejected by the compiler", None, 0, 0
     of_word = dict(all_before)
     compared, excused, changed = 0, 0, False
     for flags in (["-b"], ["-n"], ["-c", "-b"], ["-c", "-n"]):
-        run = subprocess.run([unifdef, *options, *flags], input=source, capture_output=True)
+        run = subprocess.run([UNIFDEF, *options, *flags], input=source, capture_output=True)
         if run.returncode == 2:
             return "faulty", None, 0, 0
-        after = numbers(cc, [], taken(run.stdout))
+        after = numbers([], taken(run.stdout))
         all_after = [(word, of_word.get(word, b"?")) for word, _ in after]
         difference, _ = first_difference(all_after, after)
         compared += len(after)
         if difference is None and "-c" not in flags:
             changed = changed or run.returncode == 1
-            lost = skipped(cc, arguments, run.stdout) if "-n" in flags else ()
-            difference, count = first_difference(before, numbers(cc, arguments, run.stdout), lost)
+            lost = skipped(arguments, run.stdout) if "-n" in flags else ()
+            difference, count = first_difference(before, numbers(arguments, run.stdout), lost)
             compared += len(before)
             excused += count
         if difference is not None:
@@ -111,25 +111,25 @@ def check(cc, unifdef, options, arguments, source):
 
 def compare(job):
     """Checks a file, with options and line endings that its seed chooses."""
-    path, seed, cc, unifdef = job
+    path, seed = job
     rng = random.Random(f"{seed} {path}")
     source, conditions = neutral(Path(path).read_bytes(), WORD)
     source = source.replace(b"\r\n", b"\n")
     if rng.randrange(3) == 0:
         source = source.replace(b"\n", b"\r\n")
     options, arguments = chosen(conditions, rng)
-    how, difference, *counts = check(cc, unifdef, options, arguments, source)
+    how, difference, *counts = check(options, arguments, source)
     return how, f"{path}, seed {seed}: {shown(options)}: {difference}", *counts
 
 
-def compare_fixed(cc, unifdef):
+def compare_fixed():
     """Yields the result of each text in this script, in three worlds of the undecided symbols."""
     for options, text in FIXED:
         source, _ = neutral(text, WORD)
         symbols = options.split()
         for world in ([], ["-DX"], ["-DX", "-DY"]):
             arguments = [o for o in symbols if o.startswith("-D")] + world
-            how, difference, *counts = check(cc, unifdef, symbols, arguments, source)
+            how, difference, *counts = check(symbols, arguments, source)
             yield how, f"{options} {' '.join(world)}: {text!r}: {difference}", *counts
 
 
@@ -141,15 +141,14 @@ def tell(results, what):
 
 
 def main():
-    parser = parser_of("Compares the numbers of lines before and after unifdef -n and -b.")
-    parser.add_argument("--fixed", action="store_true", help="the texts in this script")
-    args = parser.parse_args()
-    if args.fixed and not shutil.which(args.cc):
-        sys.exit(print(f"lines: left out, since {args.cc} is not there"))
-    if args.fixed:
-        tell(compare_fixed(args.cc, args.unifdef), "texts")
+    fixed = "the texts in this script"
+    options, jobs = parsed("Compares the numbers of lines before and after -n and -b.", fixed=fixed)
+    if options.fixed and not shutil.which(CC):
+        sys.exit(print(f"lines: left out, since {CC} is not there"))
+    if options.fixed:
+        tell(compare_fixed(), "texts")
     with multiprocessing.Pool() as pool:
-        tell(pool.imap_unordered(compare, jobs_of(args), chunksize=16), "files")
+        tell(pool.imap_unordered(compare, jobs, chunksize=16), "files")
 
 
 if __name__ == "__main__":

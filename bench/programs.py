@@ -8,8 +8,8 @@ compiler must select the same without it, and with any other value. The status i
 selected in another way.
 """
 
+import argparse
 import multiprocessing
-import os
 import random
 import re
 import subprocess
@@ -17,7 +17,7 @@ import sys
 import tempfile
 from pathlib import Path
 
-from selects import parser_of, report, selected
+from selects import UNIFDEF_TREE, report, selected
 
 DECIDED, OTHERS = ("A", "B"), ("C", "D", "E", "F")
 FORMS = ("defined({})", "!defined({})", "defined {}", "{}", "!{}", "{} > 1", "({} == 2)")
@@ -62,13 +62,13 @@ def lines(rng, name, later, depth=0):
             yield f"{name[0]}_{rng.randrange(10**6)} C D E F;"
 
 
-def run(tree, arguments, directory):
-    return subprocess.run([tree, "-q", *arguments, "--", directory], capture_output=True).returncode
+def run(arguments, directory):
+    command = [UNIFDEF_TREE, "-q", *arguments, "--", directory]
+    return subprocess.run(command, capture_output=True).returncode
 
 
-def compare(job):
+def compare(seed):
     """Returns whether a program is right, what it is, and how many symbols were gone from it."""
-    seed, cc, tree = job
     rng = random.Random(seed)
     names = ["main.c", "h1.h", "h2.h", "h3.h"]
     files = {n: "\n".join(lines(rng, n, names[i + 1 :])) + "\n" for i, n in enumerate(names)}
@@ -82,12 +82,12 @@ def compare(job):
             for name, text in files.items():
                 Path(directory, name).write_text(text, encoding="ascii")
             main_file = f"{directory}/main.c"
-            before = selected(cc, options + others, path=main_file)
-            if run(tree, prune + options, directory) == 2:
+            before = selected(options + others, path=main_file)
+            if run(prune + options, directory) == 2:
                 return "wrong", f"{of} a fault", gone
-            if selected(cc, options + others, path=main_file) != before:
+            if selected(options + others, path=main_file) != before:
                 return "selected in another way", of, gone
-            if run(tree, prune + options, directory) != 0:
+            if run(prune + options, directory) != 0:
                 return "changed by a second run", of, gone
             texts = "".join(it.read_text(encoding="ascii") for it in Path(directory).iterdir())
             named = " ".join(CONDITION.findall(texts))
@@ -97,19 +97,19 @@ def compare(job):
                 gone += 1
                 rest = options[:i] + options[i + 1 :] + others
                 for other in ([], [f"-D{name}=0"], [f"-D{name}=3"]):
-                    if selected(cc, rest + other, path=main_file) != before:
+                    if selected(rest + other, path=main_file) != before:
                         return "wrong", f"{of} {name} isn't gone", gone
     return "right", "", gone
 
 
 def main():
-    parser = parser_of("Compares what a compiler selects of programs.")
-    parser.set_defaults(unifdef="./unifdef-tree", count=300)
-    args = parser.parse_args()
-    tree = os.path.realpath(args.unifdef)
-    jobs = [(args.seed * 10**6 + i, args.cc, tree) for i in range(args.count)]
+    parser = argparse.ArgumentParser(description="Compares what a compiler selects of programs.")
+    parser.add_argument("--seed", type=int, default=1)
+    parser.add_argument("--count", type=int, default=300)
+    options = parser.parse_args()
+    seeds = range(options.seed * 10**6, options.seed * 10**6 + options.count)
     with multiprocessing.Pool() as pool:
-        sums, status = report(pool.imap_unordered(compare, jobs, chunksize=8), "programs")
+        sums, status = report(pool.imap_unordered(compare, seeds, chunksize=8), "programs")
     print(f"{sums[0]} times a symbol was gone")
     sys.exit(status)
 

@@ -3,9 +3,9 @@
 
 Of each file, the conditional directives stay as they are, with their comments and continuations,
 and every other line becomes one word. Some symbols are chosen at random for options; each other one
-is left undefined or given a number. A text that the compiler rejects is left out, since some `#if`
-there has no value. With --prune, a second run of that `unifdef-tree -p` must change nothing. The
-status is 1 if a text is selected in another way, or changed by a second run.
+is left undefined or given a number. A text that the compiler (CC) rejects is left out, since some
+`#if` there has no value. A second run of `unifdef-tree -p` must change nothing. The status is 1 if
+a text is selected in another way, or changed by a second run.
 """
 
 import argparse
@@ -18,6 +18,9 @@ import sys
 import tempfile
 from collections import Counter
 from pathlib import Path
+
+CC = os.environ.get("CC", "cc")
+UNIFDEF, UNIFDEF_TREE = map(os.path.realpath, ("unifdef", "unifdef-tree"))
 
 CONDITIONAL = re.compile(rb"\s*#\s*(if|ifn?def|elif|elifn?def|else|endif)(?![A-Za-z0-9_])")
 # Comments, literals, splices and newlines. All between them is other text.
@@ -95,20 +98,20 @@ def chosen(conditions, rng):
     return options, arguments
 
 
-def selected(cc, arguments, text=b"", path="-"):
+def selected(arguments, text=b"", path="-"):
     """Returns the words that the compiler selects of a text or a file; None if it rejects it."""
-    command = [cc, "-E", "-P", "-undef", "-nostdinc", "-w", "-x", "c", *arguments, path]
+    command = [CC, "-E", "-P", "-undef", "-nostdinc", "-w", "-x", "c", *arguments, path]
     run = subprocess.run(command, input=text, capture_output=True)
     return run.stdout.split() if run.returncode == 0 else None
 
 
-def pruned(tree, options, text):
+def pruned(options, text):
     """Returns the text that `unifdef-tree -p` makes of a text, how many conditions it edits, and
     whether a second run changes nothing."""
     with tempfile.TemporaryDirectory() as directory:
         path = Path(directory, "text.c")
         path.write_bytes(text)
-        command = [tree, "-p", *options, "--", path]
+        command = [UNIFDEF_TREE, "-p", *options, "--", path]
         runs = [subprocess.run(command, capture_output=True) for _ in range(2)]
         out = path.read_bytes()
     edited = re.search(rb"(\d+) conditions? edited", runs[0].stderr)
@@ -120,49 +123,45 @@ def shown(options):
 
 
 def compare(job):
-    path, seed, cc, unifdef, tree = job
+    path, seed = job
     rng = random.Random(f"{seed} {path}")
     source, conditions = neutral(Path(path).read_bytes())
     options, arguments = chosen(conditions, rng)
-    run = subprocess.run([unifdef, *options], input=source, capture_output=True)
+    run = subprocess.run([UNIFDEF, *options], input=source, capture_output=True)
     of = f"{path}, seed {seed}: {shown(options)}"
     if run.returncode == 2:
         return "faulty", of
-    before = selected(cc, arguments, source)
+    before = selected(arguments, source)
     if before is None:
         return "rejected by the compiler", of
-    if selected(cc, arguments, run.stdout) != before:
+    if selected(arguments, run.stdout) != before:
         return "selected in another way", of
     how = "changed" if run.returncode else "left as they are"
     # Without a symbol and -k, unifdef-tree refuses to run.
-    is_pruned = tree and set(options) - {"-K"}
-    out, edited, settled = pruned(tree, options, source) if is_pruned else (source, 0, True)
+    is_pruned = set(options) - {"-K"}
+    out, edited, settled = pruned(options, source) if is_pruned else (source, 0, True)
     if not settled:
         return "changed by a second run", of
-    if edited and selected(cc, arguments, out) != before:
+    if edited and selected(arguments, out) != before:
         return "selected in another way", f"{of} -p"
     return f"{how} and edited" if edited else how, of
 
 
-def parser_of(description):
+def parsed(description, count=0, **flags):
+    """Returns the options of the command line, and each file with the seed."""
     parser = argparse.ArgumentParser(description=description)
-    parser.add_argument("--cc", default=os.environ.get("CC", "cc"))
-    parser.add_argument("--unifdef", default="./unifdef")
     parser.add_argument("--seed", type=int, default=1)
-    parser.add_argument("--count", type=int, default=0, help="that many at random; 0 for all files")
+    parser.add_argument("--count", type=int, default=count, help="that many at random; 0 for all")
     parser.add_argument("paths", nargs="*", default=["/usr/include"])
-    return parser
-
-
-def jobs_of(args):
-    """What is compared: each file with the seed, the compiler and the program."""
-    found = [p for p in args.paths if os.path.isfile(p)]
-    for directory, _, names in (it for path in args.paths for it in os.walk(path)):
-        every = [os.path.join(directory, it) for it in sorted(names) if it.endswith((".c", ".h"))]
-        found += filter(os.path.isfile, every)
-    if args.count and args.count < len(found):
-        found = random.Random(args.seed).sample(found, args.count)
-    return [(p, args.seed, args.cc, args.unifdef) for p in found]
+    for flag, text in flags.items():
+        parser.add_argument(f"--{flag}", action="store_true", help=text)
+    options = parser.parse_args()
+    found = [it for it in options.paths if os.path.isfile(it)]
+    for path in filter(os.path.isdir, options.paths):
+        found += sorted(it for it in Path(path).rglob("*.[ch]") if it.is_file())
+    if options.count and options.count < len(found):
+        found = random.Random(options.seed).sample(found, options.count)
+    return options, [(str(it), options.seed) for it in found]
 
 
 def report(results, what):
@@ -180,10 +179,7 @@ def report(results, what):
 
 
 def main():
-    parser = parser_of("Compares what a compiler selects before and after unifdef.")
-    parser.add_argument("--prune", help="a unifdef-tree, whose -p is tried too")
-    args = parser.parse_args()
-    jobs = [(*it, args.prune) for it in jobs_of(args)]
+    _, jobs = parsed("Compares what a compiler selects before and after unifdef.")
     with multiprocessing.Pool() as pool:
         sys.exit(report(pool.imap_unordered(compare, jobs, chunksize=16), "files")[1])
 
