@@ -5,19 +5,12 @@
 #   tests/tree.sh [SUBJECT|TEST ..]     the tests of tests/tree/SUBJECT.sh, or one of its functions;
 #                                       all tests by default
 #
-# PROGRAM and UNIFDEF name the programs, which are ./unifdef-tree and ./unifdef by default. Each
-# failed check is printed with its file and line.
-set -u -o pipefail
-export LC_ALL=C TERM=xterm
-here=$(cd "$(dirname "$0")" && pwd)
-TREE=$(realpath "${PROGRAM:-$here/../unifdef-tree}")
-UNIFDEF=$(realpath "${UNIFDEF:-$here/../unifdef}")
-for program in "$TREE" "$UNIFDEF"; do
-  [ -x "$program" ] && continue
-  echo "tree-test: $program is not there: run make ${program##*/}" >&2
-  exit 1
-done
-passed=0 failed=0 work='' mounted=''
+# Each failed check is printed with its file and line.
+# shellcheck disable=SC2034 # Some names are for those files.
+source "$(dirname "$0")/checks.sh"
+needs ./unifdef ./unifdef-tree
+export TERM=xterm
+name=unifdef-tree TREE=$here/unifdef-tree UNIFDEF=$here/unifdef first=$work mounted=''
 subjects=(names files patterns arguments lists symbols prune squeeze diffs limits streams calls races)
 text='#ifdef A\nyes\n#else\nno\n#endif\n'
 
@@ -29,9 +22,7 @@ check() {
   while [[ ${BASH_SOURCE[at]} == */tree.sh ]]; do at=$((at + 1)); done
   echo "tree-test: $work: ${BASH_SOURCE[at]##*/}:${BASH_LINENO[at - 1]}: ${FUNCNAME[at]}: ${*@Q}"
 }
-same() { [ "$1" = "$2" ]; }
 holds() { [ "$(cat "$1"; echo .)" = "$(printf '%b' "$2"; echo .)" ]; }
-has() { command -v "$1" > /dev/null; }
 is_root() { [ "$(id -u)" -eq 0 ]; }
 left_out() { echo "tree-test: left out, since $1"; }
 number() { stat -c %i "$1"; }
@@ -195,23 +186,23 @@ in_image() {
 leave() {
   cd /
   umount "$work/small" "$work/layers" "$mounted/top" 2> /dev/null
-  rm -rf "$work" "$mounted"
+  rm -rf "$work" "$mounted" "$first"
 }
 
 tests=()
 for subject in "${subjects[@]}"; do
   # shellcheck source=/dev/null
-  source "$here/tree/$subject.sh"
+  source "$here/tests/tree/$subject.sh"
 done
-for name in "${@:-${subjects[@]}}"; do
-  if declare -F "$name" > /dev/null && [[ $name == test_* ]]; then
-    tests+=("$name")
-  elif [[ $name =~ ^(calls|races)$ ]] && ! can_trace; then
-    left_out "strace is not there or not allowed: $name"
-  elif [ -e "$here/tree/$name.sh" ]; then
-    mapfile -t -O "${#tests[@]}" tests < <(grep -o '^test_[a-z_]*' "$here/tree/$name.sh")
+for it in "${@:-${subjects[@]}}"; do
+  if declare -F "$it" > /dev/null && [[ $it == test_* ]]; then
+    tests+=("$it")
+  elif [[ $it =~ ^(calls|races)$ ]] && ! can_trace; then
+    left_out "strace is not there or not allowed: $it"
+  elif [ -e "$here/tests/tree/$it.sh" ]; then
+    mapfile -t -O "${#tests[@]}" tests < <(grep -o '^test_[a-z_]*' "$here/tests/tree/$it.sh")
   else
-    echo "tree-test: no subject and no test is called $name" >&2
+    echo "tree-test: no subject and no test is called $it" >&2
     exit 1
   fi
 done
@@ -220,5 +211,4 @@ in_directory "${TMPDIR:-/tmp}"
 [ ! -w /dev/shm ] || in_directory /dev/shm
 in_image ext3 32M
 in_image xfs 400M
-echo "unifdef-tree: $passed checks hold, $failed don't"
-[ "$failed" -eq 0 ]
+finish

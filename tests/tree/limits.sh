@@ -137,7 +137,7 @@ test_little_memory() {
 # refused in turn.
 test_lost_for_memory() {
   local i lost=0 untold=0 refusing=$work/refuse.so
-  if ! "${CC:-cc}" -O1 -shared -fPIC -o "$refusing" "$here/faults/refuse.c" -ldl 2> /dev/null; then
+  if ! "${CC:-cc}" -O1 -shared -fPIC -o "$refusing" "$here/tests/faults/refuse.c" -ldl 2> /dev/null; then
     left_out 'there is no C compiler: refused memory'
     return
   fi

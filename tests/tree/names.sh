@@ -73,7 +73,7 @@ test_paths_from_input() {
   says_only '0 changed, 0 unchanged, 0 faulty' 'no condition names A'
   for option in -V --version; do
     run 0 "$option"
-    prints "unifdef-tree $("$here/../packaging/version.sh")"
+    prints "unifdef-tree $version"
   done
   input=. run 2 -0 -DA
   says_only 'stdin: Cannot be read'
