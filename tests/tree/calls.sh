@@ -74,8 +74,7 @@ test_syncs() {
     'src/directory/b.c: Cannot be written: Disk quota exceeded'
   is src/a.c src/directory/b.c "$text"
   none_left
-  small_tree
-  ln src/a.c linked.c
+  anew ln src/a.c linked.c
   injected 2 fsync:error=EIO:when=1 -w -DA src
   is src/a.c "$text"
 }
@@ -109,16 +108,13 @@ test_stops_showing() {
 # A new file may be read by its user alone until it gets its mode. A mode that it has isn't set, and
 # no mode or owner is set by a name, where a link could be followed.
 test_modes() {
-  small_tree
-  chmod 644 src/a.c
+  anew chmod 644 src/a.c
   injected any fchmod:signal=KILL:when=1 -DA src
   check same "$(stat -c %a src/.unifdef-tree.a.c)" 600
-  small_tree
-  chmod 600 src/a.c
+  anew chmod 600 src/a.c
   traced 1 fchmod -DA src/a.c
   check same "$(grep -c 'fchmod(' "$work/calls")" 0
-  small_tree
-  chmod 754 src/a.c
+  anew chmod 754 src/a.c
   traced any chown,lchown,fchownat,chmod,fchmodat,fchmod -DA src
   check same "$(grep -cE 'chown\(|chmod\(|at\(' "$work/calls")" "$(grep -c 'fchmod(' "$work/calls")"
   check same "$(stat -c %a src/a.c)" 754
@@ -129,8 +125,7 @@ test_owners() {
   local error
   is_root || return 0
   for error in EDQUOT EIO EROFS; do
-    small_tree
-    chown 65534:65534 src/a.c
+    anew chown 65534:65534 src/a.c
     injected 2 "fchown:error=$error" -DA src/a.c
     check grep -q '^unifdef-tree: src/a.c: Cannot be written: ' "$work/err"
     is src/a.c "$text"
@@ -138,8 +133,7 @@ test_owners() {
     none_left
   done
   for error in EPERM EINVAL EOPNOTSUPP ENOSYS; do
-    small_tree
-    chown 65534:65534 src/a.c
+    anew chown 65534:65534 src/a.c
     chmod 4755 src/a.c
     injected 1 "fchown:error=$error" -DA src/a.c
     check same "$(stat -c '%a %u' src/a.c)" '755 0'

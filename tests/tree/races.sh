@@ -27,6 +27,13 @@ paused() {
 number_of() { grep "$1(" "$work/calls" | grep -n -m 1 -e "$2" | cut -d : -f 1; }
 last_of() { grep "$1(" "$work/calls" | grep -n -e "$2" | tail -n 1 | cut -d : -f 1; }
 
+# meanwhile STATUS ..: the same, of which the message says that src/a.c changed.
+meanwhile() {
+  small_tree
+  paused "$@"
+  says 'src/a.c: Changed meanwhile'
+}
+
 # with_outside: makes a small tree, and a directory outside with a file of the same name.
 with_outside() {
   small_tree
@@ -45,8 +52,7 @@ edited='#ifdef B\nyes\n#else\nno\n#endif\n'
 
 # A file that changes between read and rename, and two runs at once.
 test_meanwhile() {
-  anew paused 2 -DA fchmod 1 put src/a.c 'mine\n'
-  says 'src/a.c: Changed meanwhile'
+  meanwhile 2 -DA fchmod 1 put src/a.c 'mine\n'
   is src/a.c 'mine\n' and src/directory/b.c 'yes\n'
   none_left
   anew paused 2 -DA fchmod 1 rm src/a.c
@@ -61,24 +67,20 @@ test_meanwhile() {
 # A file that changed is left alone even if its size and its times are the old ones. New times alone
 # are no change.
 test_compares_bytes() {
-  anew paused any -DA fsync 1 edit_in_secret
-  says 'src/a.c: Changed meanwhile'
+  meanwhile any -DA fsync 1 edit_in_secret
   is src/a.c "$edited"
   anew paused 2 -DA fsync 1 touch src/a.c
   is src/a.c 'yes\n'
-  anew paused any -DA fsync 1 chmod 600 src/a.c
-  says 'src/a.c: Changed meanwhile'
+  meanwhile any -DA fsync 1 chmod 600 src/a.c
   check same "$(stat -c %a src/a.c)" 600
 }
 
 # A change between the second reading of a file and the last look at it is found, though the size
 # stays: by the file's times, which were looked at before that reading.
 test_looks_at_times() {
-  small_tree
-  touch -d '2001-01-01' src/a.c
+  anew touch -d '2001-01-01' src/a.c
   under any strace -f -y -o "$work/calls" -e trace=read -- -DA src
-  small_tree
-  touch -d '2001-01-01' src/a.c
+  anew touch -d '2001-01-01' src/a.c
   paused any -DA read "$(last_of read '/src/a.c>')" edit
   says 'src/a.c: Changed meanwhile'
   is src/a.c "$edited"
@@ -89,13 +91,11 @@ test_looks_at_times() {
 test_links_for_new_files() {
   put "$work/victim" 'mine\n'
   chmod 600 "$work/victim"
-  anew paused 2 -DA fchmod 1 put_link src/.unifdef-tree.a.c
-  says 'src/a.c: Changed meanwhile'
+  meanwhile 2 -DA fchmod 1 put_link src/.unifdef-tree.a.c
   is src/a.c "$text"
   check same "$(stat -c %a "$work/victim") $(cat "$work/victim")" '600 mine'
   check same "$(readlink src/.unifdef-tree.a.c)" "$work/victim"
-  anew paused any -DA fchmod 1 rm src/.unifdef-tree.a.c
-  says 'src/a.c: Changed meanwhile'
+  meanwhile any -DA fchmod 1 rm src/.unifdef-tree.a.c
   is src/a.c "$text"
 }
 
@@ -141,11 +141,9 @@ test_stays_in_tree() {
 
 # -w writes into the file whose bytes were compared, and into no other one.
 test_writes_into_open_file() {
-  small_tree
-  ln src/a.c linked.txt
+  anew ln src/a.c linked.txt
   traced any statx -w -DA src
-  small_tree
-  ln src/a.c linked.txt
+  anew ln src/a.c linked.txt
   put "$work/victim" "$text"
   paused any '-w -DA' statx "$(last_of statx '/a.c"')" put_link src/a.c
   is linked.txt 'yes\n' and "$work/victim" "$text"
@@ -188,8 +186,7 @@ failing_look() {
 # A name vanishes between the listing of its directory and the look at it, or before the run looks
 # at it though it was named.
 test_vanishing() {
-  small_tree
-  rm src/bad.c
+  anew rm src/bad.c
   failing_look 1 ENOENT -DA src
   says '1 changed, 1 unchanged, 0 faulty'
   anew failing_look 2 EIO -DA src

@@ -14,8 +14,7 @@ test_full_messages() {
 # No file of the tree is opened in the place of a closed stream, into which messages or diffs would
 # then be written.
 test_closed_streams() {
-  small_tree
-  mkdir src/.unifdef-tree.a.c
+  anew mkdir src/.unifdef-tree.a.c
   (cd src && "$TREE" -DA a.c 2>&-)
   check same "$?" 2
   is src/a.c "$text"
@@ -25,14 +24,12 @@ test_closed_streams() {
   "$TREE" -DA src/a.c <&- >&- 2>&-
   check same "$?" 2
   is src/a.c "$text"
-  small_tree
-  ln src/a.c linked.txt
+  anew ln src/a.c linked.txt
   (cd src && "$TREE" -q -d -w -DA a.c >&- 2> "$work/err")
   check same "$?" 2
   says 'stdout: Cannot be written'
   is src/a.c 'yes\n'
-  small_tree
-  ln src/directory/b.c linked.txt
+  anew ln src/directory/b.c linked.txt
   "$TREE" -w -DA src/directory >&- 2>&-
   check same "$?" 2
   is src/directory/b.c 'yes\n'
