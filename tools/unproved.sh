@@ -12,7 +12,7 @@ cd "$(dirname "$0")/../crates/$1"
 yes '' | head -n 20000000 > "$work/text.c"
 TMPDIR=$work "${RT:-rt}" try -- -s "$work/text.c" < /dev/null > "$work/said" 2>&1 &
 run=$!
-trap 'kill "$run" 2> /dev/null; wait; rm -rf "$work"' EXIT
+trap 'kill "$run" 2> /dev/null || true; wait; rm -rf "$work"' EXIT
 
 # started: prints the first word of each process that is a file there.
 started() { grep -ahz -m 1 "^$work/" /proc/[0-9]*/cmdline 2> /dev/null | tr '\0' '\n'; }
