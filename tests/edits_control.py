@@ -138,32 +138,31 @@ pub returns : goal.returns
 returns c = pow_mono (div-le_self c.args.a {divisor})
 """
 
-# The name of each edit, with its old and its new text.
-WRONG = {
-    "half_is_more": ("let quotient = a / 2;", "let quotient = a + 1;"),
-    "law_next_of_the_number_before": ("n < n + 1", "n + 1 < n"),
-    "lesser_is_greater": ("if a < b { a } else { b }", "if a > b { a } else { b }"),
-    "origin_is_1": ("let zero = 0;", "let zero = 1;"),
-    "successor_skips_one": ("let next = a + 1;", "let next = a + 2;"),
-}
-RIGHT = {
-    "law_order_of_the_next_but_one": ("n ≤ n + 1", "n ≤ n + 2"),
-    "least_begins_at_the_end": ("lesser(lesser(a, b), c)", "lesser(a, lesser(b, c))"),
-    "second_calls_once": ("successor(successor(a))", "successor(a) + 1"),
-}
-UNDECIDED = {"third_is_a_fourth": ("let quotient = a / 3;", "let quotient = a / 4;")}
-# Its name comes first, so that it is in the first batch.
-BROKEN = {"broken_same": ("let b = a;", "let b = c;")}
-# Those of definitions of the crate below, as they are named in the crate itself: the path of the
-# file, and the old and the new text.
-BELOW = "../lower/specs/Steps.antt"
-WRONG_BELOW = {
-    "law_small_of_large_steps": ("step = 1", "step = 9"),
-    "law_step_adds_nothing": ("step = 1", "step = 0"),
-}
-RIGHT_BELOW = {"law_step_of_four": ("height = 3", "height = 4")}
+# The verdict on each edit, with its name, its old and its new text. The edit that doesn't compile
+# comes first by its name, so that it is in the first batch.
+EDITS = [
+    (BAD, "broken_same", "let b = a;", "let b = c;"),
+    (REFUSED, "half_is_more", "let quotient = a / 2;", "let quotient = a + 1;"),
+    (REFUSED, "law_next_of_the_number_before", "n < n + 1", "n + 1 < n"),
+    (REFUSED, "lesser_is_greater", "if a < b { a } else { b }", "if a > b { a } else { b }"),
+    (REFUSED, "origin_is_1", "let zero = 0;", "let zero = 1;"),
+    (REFUSED, "successor_skips_one", "let next = a + 1;", "let next = a + 2;"),
+    (PROVED, "law_order_of_the_next_but_one", "n ≤ n + 1", "n ≤ n + 2"),
+    (PROVED, "least_begins_at_the_end", "lesser(lesser(a, b), c)", "lesser(a, lesser(b, c))"),
+    (PROVED, "second_calls_once", "successor(successor(a))", "successor(a) + 1"),
+    (OPEN, "third_is_a_fourth", "let quotient = a / 3;", "let quotient = a / 4;"),
+]
+# Those of definitions of the crate below.
+EDITS_BELOW = [
+    (REFUSED, "law_small_of_large_steps", "step = 1", "step = 9"),
+    (REFUSED, "law_step_adds_nothing", "step = 1", "step = 0"),
+    (PROVED, "law_step_of_four", "height = 3", "height = 4"),
+]
 # Those of which one can't be applied, and one has the name of another.
-UNREADABLE = {"lesser_is_absent": ("a % b", "b % a"), "origin_is_1": ("a / 2", "a / 1")}
+UNREADABLE = [
+    (BAD, "lesser_is_absent", "a % b", "b % a"),
+    (BAD, "origin_is_1", "a / 2", "a / 1"),
+]
 
 
 def write(file, text):
@@ -173,35 +172,33 @@ def write(file, text):
 
 
 def write_edits(directory, edits, path="src/lib.rt"):
-    for name, (old, new) in edits.items():
+    for _, name, old, new in edits:
         write(f"{directory}/{name}.edit", f"file: {path}\nold: {old}\nnew: {new}\n")
 
 
 def main():
     with tempfile.TemporaryDirectory(prefix="edits-control-") as top:
-        crate = f"{top}/crates/control"
+        crate, lower = f"{top}/crates/control", f"{top}/crates/lower"
         write(f"{top}/crates.txt", "lower:\ncontrol: lower\n")
-        write(f"{top}/crates/lower/src/lib.rt", LOWER)
-        write(f"{top}/crates/lower/specs/Lib.antt", "pub mod Steps\n")
-        write(f"{top}/crates/lower/specs/Steps.antt", STEPS)
         write(f"{top}/HANDLES", "Handles allowed: none.\n")
+        write(f"{lower}/src/lib.rt", LOWER)
+        write(f"{lower}/specs/Lib.antt", "pub mod Steps\n")
+        write(f"{lower}/specs/Steps.antt", STEPS)
         write(f"{crate}/src/lib.rt", SOURCE)
         for name, divisor in {"half": 2, "third": 3}.items():
             answers = ANSWERS.format(name=name, divisor=divisor)
             write(f"{crate}/proofs/{name}/Answers.antt", answers)
-        write_edits(f"{crate}/must-fail", WRONG | RIGHT | UNDECIDED | BROKEN)
-        write_edits(f"{crate}/must-fail", WRONG_BELOW | RIGHT_BELOW, BELOW)
+        write_edits(f"{crate}/must-fail", EDITS)
+        write_edits(f"{crate}/must-fail", EDITS_BELOW, "../lower/specs/Steps.antt")
         write_edits(f"{crate}/must-fail-second", UNREADABLE)
         found = run(top, "control", ["lower"], ["must-fail"], False)
         unread = edits_of(top, "control", ["must-fail", "must-fail-second"])[1]
-    wanted = {REFUSED: WRONG | WRONG_BELOW, OPEN: UNDECIDED, PROVED: RIGHT | RIGHT_BELOW}
-    wanted[BAD] = BROKEN
-    is_right = all(sorted(found[it]) == sorted(names) for it, names in wanted.items())
+    wanted = sorted((verdict, name) for verdict, name, *_ in EDITS + EDITS_BELOW)
+    is_right = wanted == sorted((verdict, name) for verdict in found for name in found[verdict])
     if not is_right or len(unread) != 2:
         return "edits-test: FAILED: not exactly the wrong edits are refused"
     print("edits-test: exactly the wrong edits are refused")
     return 0
 
 
-if __name__ == "__main__":
-    sys.exit(main())
+sys.exit(main())
