@@ -5,25 +5,21 @@
     tools/edits.py --read                           reads all edits, and tries none
 
 The edits are those of `must-fail` that the gate doesn't try (tools/gate.py), and with --all those
-of `must-fail-second` too. The crates are proved first, where they aren't (tools/prove.py). Then
-each is copied, and only the copy is edited. `rt check` runs there over what the proof kept, in as
-many crates at once as tools/gate.py proves.
+of `must-fail-second` too. The crates are proved first (tools/prove.py), and edited in copies, where
+`rt check` runs over what the proof kept.
 
 Edits of different functions are checked together. Callers rest on a contract and never on a body,
 so the goals of a function fail only for its own edit. An edit is refused if such a goal fails: an
-obligation inside the function, or an answer in its directory of `proofs`. A call of a function that
-isn't proved doesn't count. The other edits are checked again without those that are refused. If
-none is refused, they are checked in halves, and at last each alone. An edit outside a body is
-checked alone, and so is each with --alone.
+obligation inside the function, or an answer in its directory of `proofs`. The others are checked
+again without those that are refused; if none is, in halves, and at last each alone. An edit outside
+a body is checked alone, and so is each with --alone.
 
 An answer may fail though the contract accepts the body, since it was written for another one. So an
 edit of which answers alone fail is checked once more without those answers. It is refused if the
-prover finds values at which a goal is false. If a goal is just left open, the edit isn't decided:
-the contract may accept it or not.
+prover finds values at which a goal is false, and else it isn't decided.
 
 An edit may be of definitions of a crate below, in files such as `../ud_model/specs/FILE.antt`. It
-is checked alone, in the copies of that crate and of those above it, up to the crate of the edit. It
-is refused if one of these checks refuses it.
+is checked alone in each crate from that one up to its own, until one check refuses it.
 
 Prints a line for each edit, and how many there are at the end. The status is 1 if one is proved or
 can't be tried. With --read, it is 1 if an old text isn't in its file exactly once, or if two edits
@@ -33,7 +29,6 @@ import argparse
 import collections
 import concurrent.futures
 import glob
-import os
 import re
 import shutil
 import subprocess
@@ -52,8 +47,7 @@ REFUSED, OPEN, PROVED, BAD = "refused", "not decided", "PROVED", "BAD EDIT"
 # The line on which a function begins. `const fn` is left out: a type may rest on the body.
 FUNCTION = re.compile(r'( *)(?:pub(?:\([a-z: ]+\))? )?(?:unsafe )?(?:extern "C" )?fn (\w+)')
 
-# The directories of edits of a crate: those that `.ci/run` tries, by the gate or by this tool, and
-# further ones.
+# The directories of edits of a crate: those that `.ci/run` tries, and further ones.
 DIRECTORIES = ["must-fail", "must-fail-second"]
 
 # A file that an edit may change: one of the crate itself, or definitions of a crate below.
@@ -79,8 +73,8 @@ UNPROVED = re.compile(r"fn \S+: (?:not proved|no proof)")
 NAME = re.compile(r"has no field|is not in scope|has no `|was not admitted")
 
 
-# A function of a source file, with the numbers of its first and its last line. The lines after
-# `head` are of the function alone: those of its body, or of a law's contract too.
+# A function of a source file, by the numbers of its lines. Those after `head` are of the function
+# alone: of its body, or of a law's contract too.
 Function = collections.namedtuple("Function", "path name first head last")
 
 
@@ -108,7 +102,7 @@ class Edit:
     """An edit: pairs of an old and a new text, each with its file."""
 
     def __init__(self, file):
-        self.name, self.pairs = os.path.basename(file)[: -len(".edit")], []
+        self.name, self.pairs = Path(file).stem, []
         self.is_of_gate = is_of_gate(file)
         path = old = None
         for key, text in re.findall("^(file|old|new): ?(.*)", text_of(file), re.MULTILINE):
@@ -146,15 +140,6 @@ class Edit:
 COMMANDS = Commands()
 
 
-def run_check(directory):
-    how = {"cwd": directory, "stdin": subprocess.DEVNULL, **CAUGHT}
-    check = COMMANDS.start([RT, "check", "--jobs", "1"], **how)
-    said, _ = check.communicate()
-    if COMMANDS.is_stopped:
-        sys.exit("edits: stopped")
-    return check.returncode, said.rstrip().split("\n")
-
-
 def link_kept(source, target):
     """Links a proof that a check kept, which the next one replaces and doesn't write into. Copies
     any other file."""
@@ -185,18 +170,23 @@ class Room:
             Path(self.directory, path).write_text(text, encoding="utf-8")
 
     def check(self, texts):
+        """Returns the status of the check of some texts, and the lines that it prints."""
         own = {path: self.read(path) for path in texts}
         edited = any(path.startswith("../") for path in texts)
         self.write(texts)
         try:
-            for crate in [*(self.below if edited else []), os.path.basename(self.directory)]:
-                status, said = run_check(os.path.join(os.path.dirname(self.directory), crate))
+            for crate in [*(f"../{it}" for it in self.below if edited), "."]:
+                how = {"cwd": f"{self.directory}/{crate}", "stdin": subprocess.DEVNULL, **CAUGHT}
+                check = COMMANDS.start([RT, "check", "--jobs", "1"], **how)
+                said, _ = check.communicate()
                 self.checks += 1
-                if status:
+                if check.returncode:
                     break
         finally:
             self.write(own)
-        return status, said
+        if COMMANDS.is_stopped:
+            sys.exit("edits: stopped")
+        return check.returncode, said.rstrip().split("\n")
 
 
 class Batch:
@@ -220,8 +210,8 @@ class Batch:
         """Returns the failed goals of each edit's own functions. There are none if anything else
         fails too."""
         every, found = [], {}
-        for it in glob.glob(f"{room.directory}/src/**/*.rt", recursive=True):
-            path = os.path.relpath(it, room.directory)
+        for it in Path(room.directory).glob("src/**/*.rt"):
+            path = str(it.relative_to(room.directory))
             every += functions_of(path, self.texts.get(path) or room.read(path))
         for line in said:
             places = owners_of(line, every)
@@ -366,8 +356,7 @@ def edits_of(top, crate, directories):
 
 def say(*lines):
     """Prints lines, whole ones also if other crates are tried at the same time."""
-    sys.stdout.write("".join(f"{it}\n" for it in lines))
-    sys.stdout.flush()
+    print("".join(f"{it}\n" for it in lines), end="", flush=True)
 
 
 def run(top, crate, below, directories, alone):
