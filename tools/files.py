@@ -1,5 +1,6 @@
 """Which files belong to this repository, with git and without, and what is in them."""
 import os
+import re
 import shutil
 import subprocess
 
@@ -15,6 +16,12 @@ def text_of(path, otherwise=None):
         return otherwise
     with open(path, encoding="utf-8", errors="replace") as it:
         return it.read()
+
+
+def without_code(page):
+    """Returns a page with an empty line for each line of its blocks of code."""
+    block = re.compile(r"^ *```.*?^ *```$", re.MULTILINE | re.DOTALL)
+    return block.sub(lambda found: "\n" * found[0].count("\n"), page)
 
 
 def tracked():

@@ -21,7 +21,7 @@ import os
 import re
 import sys
 
-from files import text_of, tracked
+from files import text_of, tracked, without_code
 
 PAGES = re.compile(r"(README|CONTRIBUTING)\.md|docs/\w+\.md|(bench|tests|crates)/.*README\.md")
 SOURCE = re.compile(r"(crates|bench|lib|tests|tools|packaging)/.*|Makefile|crates\.txt")
@@ -30,7 +30,6 @@ PATH = re.compile(r"[\w.+-]*(/[\w.+-]+)*/?")
 PAIR = re.compile(r"\b([A-Z]\w*)(::|\.)([a-z]\w*|[A-Z]\w*)\b")
 WORD = re.compile(r"[A-Za-z_]\w*")
 LABEL = re.compile(r"\b(?:ensures|requires)\*? (\w+) \{")
-BLOCK = re.compile(r"^```.*?^```", re.MULTILINE | re.DOTALL)
 COMMENTED = re.compile(r"^\s*(?://|--).*?\b(\w+(?:/\w+)+\.(?:antt|rt|md|sh|py))\b", re.MULTILINE)
 
 # What is no name of this tree: of C, of examples, what is built, what stands for others, units, and
@@ -95,7 +94,7 @@ class Tree:
 
 def citations(text):
     """Yields the line and the text of each citation in backquotes outside of code blocks."""
-    bare = BLOCK.sub(lambda block: "\n" * block.group().count("\n"), text)
+    bare = without_code(text)
     for found in re.finditer(r"`((?:[^`\n]|\n(?!\n))+)`", bare):
         cited = " ".join(found.group(1).replace("\\|", "|").split())
         yield bare.count("\n", 0, found.start()) + 1, cited
@@ -112,7 +111,7 @@ def clauses(text):
 
 
 def headings(page):
-    titles = re.findall(r"^#+ (.*)$", BLOCK.sub("", text_of(page)), re.MULTILINE)
+    titles = re.findall(r"^#+ (.*)$", without_code(text_of(page)), re.MULTILINE)
     return {re.sub(r"[^\w -]", "", title.lower()).replace(" ", "-") for title in titles}
 
 
@@ -157,9 +156,7 @@ def main():
         found += [f"{path}: {cited} doesn't exist" for path, cited in missing]
         found += unlisted_messages(tree)
     print(*found, sep="\n", end="\n" if found else "")
-    if found:
-        print(f"names: {len(found)} findings", file=sys.stderr)
-    return 1 if found else 0
+    return f"names: {len(found)} findings" if found else 0
 
 
 sys.exit(main())

@@ -4,13 +4,12 @@
     tools/style.py [FILE ..]     the files, or all of the repository (files.py)
 
 Prints each finding as FILE:LINE: REASON, and exits with 1 if there is one. Text in backquotes is
-left out, and counts as one word of its sentence. Rows of tables, attributes and lines of code with
-a text in quotes may be wide.
+left out, and counts as one word of its sentence. Rows of tables may be wide; `rt fmt` breaks code.
 """
 import re
 import sys
 
-from files import text_of, tracked
+from files import text_of, tracked, without_code
 
 COLUMNS = 100
 
@@ -58,53 +57,44 @@ def kind_of(path):
     return KINDS.get(name) or KINDS.get(name.rpartition(".")[2])
 
 
-def may_be_wide(path, kind, line):
-    """Returns whether a line isn't limited, or can't be broken: a table's row, a link or a text."""
-    bare = line.strip()
-    if not path.endswith((".md", ".rt")) and not re.search(r"/specs/.*\.antt$", path):
-        return True
-    if kind == "page":
-        return line.startswith("|") or ("](" in line and " " not in bare)
-    return bare.startswith("#[") or (kind == "rt" and '"' in line and not bare.startswith("//"))
+def may_be_wide(path, line, comment):
+    """Returns whether a line isn't limited here, or can't be broken: a table's row or a link."""
+    if path.endswith(".md"):
+        return line.startswith("|") or ("](" in line and " " not in line.strip())
+    return comment is None if path.endswith(".rt") else not re.search(r"/specs/.*\.antt$", path)
 
 
 def findings(path, text):
     """Yields each finding, as a line's number and a reason."""
-    kind, lines, fenced = kind_of(path), text.split("\n"), False
+    kind, before = kind_of(path), None
+    lines = (without_code(text) if kind == "page" else text).split("\n")
     for number, line in enumerate(lines, 1):
-        if kind == "page" and line.lstrip().startswith("```"):
-            fenced = not fenced
-            continue
-        if len(line) > COLUMNS and not fenced and not may_be_wide(path, kind, line):
-            yield number, f"{len(line)} columns, {COLUMNS} at most"
         comment = comment_of(line, kind)
-        if comment is None or fenced:
-            continue
-        bare = re.sub(r"`[^`]*`", "``", comment)
+        if len(line) > COLUMNS and not may_be_wide(path, line, comment):
+            yield number, f"{len(line)} columns, {COLUMNS} at most"
         words = WORDS
         # A manual's list of messages is left out.
         if kind == "page" and not line.startswith('.It "'):
             words = WORDS | PAGE_WORDS | (USER_WORDS if USER_PAGES.fullmatch(path) else {})
         for pattern, better in words.items():
-            found = re.search(pattern, bare, re.IGNORECASE)
+            found = re.search(pattern, re.sub(r"`[^`]*`", "``", comment or ""), re.IGNORECASE)
             if found:
                 yield number, f"'{found.group(0)}': {better}"
-        before = lines[number - 2] if number > 1 else ""
-        if kind in ("rt", "antt") and OPENING.match(line) and comment_of(before, kind) is None:
+        if kind in ("rt", "antt") and before is None and OPENING.match(line):
             yield number, "an item's comment begins with a verb or a noun"
+        before = comment
     yield from bare_items(path, lines)
     if path.endswith(".md"):
         yield from long_sentences(lines)
 
 
 def sentences(lines):
-    """Yields the line on which each sentence of a page begins, and its text. Headings, tables and
-    code have none, and a colon or a semicolon ends one too."""
-    begun, text, fenced = 0, "", False
+    """Yields the line on which each sentence of a page begins, and its text. Headings and tables
+    have none, and a colon or a semicolon ends one too."""
+    begun, text = 0, ""
     for number, line in enumerate([*lines, ""], 1):
         bare = line.strip()
-        fenced ^= bare.startswith("```")
-        apart = fenced or bare == "" or bare.startswith(("|", "#", "!", "```"))
+        apart = bare == "" or bare.startswith(("|", "#", "!"))
         if apart or re.match(r"([-*]|\d+\.) ", bare):
             if text:
                 yield begun, text
@@ -151,9 +141,7 @@ def main():
         for number, reason in findings(path, text_of(path)):
             print(f"{path}:{number}: {reason}")
             count += 1
-    if count:
-        print(f"style: {count} findings", file=sys.stderr)
-    return 1 if count else 0
+    return f"style: {count} findings" if count else 0
 
 
 sys.exit(main())
