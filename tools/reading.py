@@ -28,16 +28,16 @@ def path_of(crate, module):
     return module and path
 
 
-def read_all(paths, lines_of=None):
+def read_all(paths):
     """Returns the lines of each file that some files rest on, each after those that it uses."""
-    lines_of = {} if lines_of is None else lines_of
-    for path in paths:
-        if path not in lines_of:
-            text = text_of(f"{TOP}/{path}")
-            lines_of[path] = 0  # So that no file is read twice.
-            read_all(filter(None, (path_of(*it) for it in IMPORT.findall(text))), lines_of)
-            del lines_of[path]
-            lines_of[path] = text.count("\n")
+    lines_of, left = {}, list(reversed(paths))
+    while left:
+        text = text_of(f"{TOP}/{left[-1]}")
+        used = [path_of(*it) for it in IMPORT.findall(text)]
+        unread = [it for it in used if it and it not in lines_of and it not in left]
+        left += unread[:1]
+        if not unread:
+            lines_of[left.pop()] = text.count("\n")
     return lines_of
 
 
@@ -53,13 +53,9 @@ def check(page):
     return right and rows != []
 
 
-def main():
-    if sys.argv[1:2] == ["--check"]:
-        sys.exit(not check(sys.argv[2]))
-    lines_of = read_all(sys.argv[1:] or [ANSWER])
-    for path, lines in lines_of.items():
-        print(f"{lines:6,} {path}")
-    print(f"{sum(lines_of.values()):6,} in {len(lines_of)} files")
-
-
-main()
+if sys.argv[1:2] == ["--check"]:
+    sys.exit(not check(sys.argv[2]))
+files = read_all(sys.argv[1:] or [ANSWER])
+for file, lines in files.items():
+    print(f"{lines:6,} {file}")
+print(f"{sum(files.values()):6,} in {len(files)} files")
