@@ -58,8 +58,7 @@ HELP = /^\#= / { print end substr($$0, 4) ":"; end = "\n" } \
 help:
 	@awk '$(HELP)' Makefile
 
-# Says clearly what isn't there. What is built is older than its sources in a copy that doesn't keep
-# their times.
+# Says what isn't there. In a copy without times, what is built may be older than its sources.
 NO_KIT = Rattle's command $(RT) is not there: put it on PATH, or run make RT=FILE
 OLD_COPY = a copy of a built directory needs none if it keeps times (cp -a), nor does \
 	make -o unifdef -o unifdef-tree install

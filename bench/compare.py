@@ -160,8 +160,7 @@ def starts(programs, work):
 
 
 def memory(measures, programs, work):
-    """Prints the peak memory of each program in KiB, and that of the first one on DEEP. Returns the
-    most of the first one before DEEP, and that on DEEP."""
+    """Prints the peak memory in KiB. Returns the most of the first program, and that on DEEP."""
     (work / "empty").write_bytes(b"\n" * EMPTY_LINES)
     name = f"{EMPTY_LINES:,} empty lines, 50 symbols"
     measures = [*measures, Case(name, work / "empty", texts.c_words(50))]

@@ -22,8 +22,7 @@ unpacked() {
     directory=$(find "$work/tree" -mindepth 1 -maxdepth 1 -type d)
 }
 
-# squeezed OPTION..: checks that what -B makes of the copy differs from what -p made in blank lines
-# alone, and that a second run changes nothing.
+# squeezed OPTION..: -B must change blank lines alone of what -p made, and nothing in a second run.
 squeezed() {
   local pruned=$directory directory=$work/copy
   { run -B -p "$@" && diff -rB --no-dereference "$pruned" "$directory" > "$work/said" &&

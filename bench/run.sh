@@ -1,10 +1,8 @@
 #!/usr/bin/env bash
-# Measures ./unifdef beside the released program and `cat`. README.md in this directory describes
-# it.
+# Measures ./unifdef beside the released program and `cat` (README.md in this directory).
 #
-# BENCH_BYTES: the size of each text. BENCH_RUNS: the number of rounds. BENCH_FILES: the number of
-# small files. BENCH_HEADERS, BENCH_SOURCES: the directories of headers and C sources. BENCH_NEWER:
-# a newer unifdef.
+# BENCH_BYTES: the size of each text. BENCH_RUNS, BENCH_FILES: how many rounds and small files.
+# BENCH_HEADERS, BENCH_SOURCES: directories of headers and C sources. BENCH_NEWER: a newer unifdef.
 source "$(dirname "$0")/common.sh"
 program=$top/unifdef
 needs "$program"

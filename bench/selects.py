@@ -106,8 +106,7 @@ def selected(arguments, text=b"", path="-"):
 
 
 def pruned(options, text):
-    """Returns the text that `unifdef-tree -p` makes of a text, how many conditions it edits, and
-    whether a second run changes nothing."""
+    """Returns what -p makes of a text, its edits, and whether a second run changes nothing."""
     with tempfile.TemporaryDirectory() as directory:
         path = Path(directory, "text.c")
         path.write_bytes(text)

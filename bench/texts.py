@@ -23,8 +23,7 @@ extern "C" {{\n#endif\nint small_{0}(int value);\n#ifdef __cplusplus\n}}\n#endif
 
 
 def c_words(symbols):
-    """Returns options for this number of symbols: two that real headers test, and others that occur
-    nowhere in them."""
+    """Returns options for two symbols that real headers test, and others that they don't have."""
     others = [f"-DOCCURS_NOWHERE_{n}={n}" for n in range(symbols - len(DECIDED))]
     return [*DECIDED, *others][:symbols]
 

@@ -1,9 +1,7 @@
 #!/usr/bin/env bash
-# Runs ./unifdef over the C files of real trees, beside the released unifdef. README.md in this
-# directory describes it.
+# Runs ./unifdef over the C files of real trees, beside the released unifdef (README.md here).
 #
-# TREES_WORDS: the options. TREES_INCLUDE: the directory of the headers. TREES_SOURCE: a source
-# tree, instead of Debian's kernel.
+# TREES_WORDS: the options. TREES_INCLUDE: the headers. TREES_SOURCE: a source tree, or Debian's.
 source "$(dirname "$0")/common.sh"
 read -r -a words <<< "${TREES_WORDS:--U__KERNEL__ -DCONFIG_SMP}"
 program=$top/unifdef source=${TREES_SOURCE:-}

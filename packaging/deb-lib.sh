@@ -5,8 +5,7 @@
 #   libunifdef-dev     what a C program is built with: unifdef.h, unifdef(3), the other libraries
 #   python3-unifdef    the module for Python
 #
-# The first name has the number of the library's file. Debian's own packages have other
-# names, and each can be installed beside them.
+# The first name has the number of the library's file. Debian's own packages have other names.
 source "$(dirname "$0")/debian.sh"
 major=${version%%.*}
 read -ra cc <<< "${CC:-cc}" # It may have a word before the compiler.

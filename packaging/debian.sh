@@ -49,8 +49,7 @@ kibibytes() {
 # newest FILE..: the C library that a program needs: as new as the newest of its symbols.
 newest() { objdump -T "$@" | sed -n 's/.*GLIBC_\([0-9.]*\).*/\1/p' | sort -Vu | tail -n 1; }
 
-# build PACKAGE ARCHITECTURE SECTION FIELD..: makes a package that everybody can read. The
-# description is standard input.
+# build PACKAGE ARCHITECTURE SECTION FIELD..: makes a package, with its description as the input.
 build() {
   local root=$stage/$1 package=$1_${version}_$2.deb
   {

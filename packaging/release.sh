@@ -11,8 +11,7 @@ rm -rf release
 mkdir release
 
 # What `make install` and `make install-lib` install under /usr/local, as a directory of this name.
-# The module for Python is beside the other data, since each version of Python has a directory of
-# its own.
+# The module for Python is beside the other data, as no version of Python is known.
 "${MAKE:-make}" -s -o unifdef -o unifdef-tree -o lib/libunifdef.a install install-lib \
   DESTDIR="$all" PREFIX=/usr/local PYTHONDIR=/usr/local/share/unifdef/python
 mv "$all/usr/local" "$stage/$name"

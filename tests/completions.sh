@@ -59,8 +59,7 @@ in_zsh() {
     sed 's/\x1b\[[0-9;]*[A-Za-z]/\n/g' | tr -s ' ' '\n'
 }
 
-# offers SHELL LINE WANTED UNWANTED: checks that the completions of a line have one word and not the
-# other.
+# offers SHELL LINE WANTED UNWANTED: the completions of a line must have the first word alone.
 offers() {
   offered=$("in_$1" "$2" 2>&1 < /dev/null)
   check "$1 for $2" offered_alone "$3" "$4"

@@ -67,8 +67,7 @@ def is_released(program: Path, version: str) -> bool:
 
 
 def examples() -> Iterator[tuple[list[str], bytes, Answer, Answer, Answer]]:
-    """Yields the examples of the page: arguments, input, and the answers without messages of this
-    program, of 2.10 and of 2.12."""
+    """Yields the arguments, the input and the answers here, of 2.10 and of 2.12 of each example."""
     page = (TOP / "docs" / "DIFFERENCES.md").read_text(encoding="utf-8")
     found_examples = list(EXAMPLE.finditer(page))
     if len(found_examples) != page.count("\nhere: ") or not found_examples:

@@ -37,8 +37,7 @@ gives unifdef-gone 1 $'--- a.c\n+++ a.c\n@@ -1,2 +0,0 @@\n-#ifdef VMS\n-#endif\n
 check 'unifdef-gone changes nothing' same "$(cat a.c)" $'#ifdef VMS\n#endif'
 gives unifdef-gone 1 "$fault" '#endif\n'
 
-# The expression that the default patterns of the program give, and files from which it must choose
-# those that the program does.
+# The expression of the program's default patterns, which must choose the files that it does.
 wanted=$(sed -n '/USUAL: /,/^];/s/^ *b"\*\.\(.*\)",$/\1/p' "$here/crates/ud_tree/src/patterns.rt" |
   sed 's/[.+]/\\&/g' | paste -s -d '|')
 for it in a.c a.h A.C A.H a.cc B.CC b.cpp B.CPP b.c++ b.h++ b.hxx b.inl b.tcc b.c.in b.hpp.in \

@@ -59,8 +59,7 @@ gives() {
   fi
 }
 
-# A read error is no end of the text. A fault ends the reading of a text that has no end, and so
-# does an output that is full.
+# A read error is no end of the text. A fault and a full output end an endless text.
 for program in "$work/page" "$work/filter65536"; do
   gives 1 x "$program" -DA < <(printf '#ifdef A\nx\n#endif\n')
   gives 2 '' "$program" -DA < "$work"

@@ -1,6 +1,5 @@
 #!/usr/bin/env bash
-# Installs and uninstalls the library in directories of its own, makes its Debian packages twice,
-# and builds and runs programs with what is there.
+# Installs the library in directories of its own, makes its packages twice, and builds with them.
 source "$(dirname "$0")/checks.sh"
 needs lib/libunifdef.a "${cc[0]}"
 text=$'#ifdef A\nx\n#endif'

@@ -3,8 +3,7 @@
 source "$(dirname "$0")/checks.sh"
 text='#ifdef A\nx\n#endif\n'
 
-# works_in WHAT DIRECTORY: checks that the installed programs run, and that the manuals can be
-# shown.
+# works_in WHAT DIRECTORY: checks the installed programs and manuals.
 works_in() {
   local manual file=$work/a.c
   printf '%b' "$text" > "$file"
@@ -48,8 +47,7 @@ check 'install: without the kit' "$make" -s install DESTDIR="$target" PREFIX=/us
 check 'install: the kit that is not there' same $'make: Rattle\'s command no-such-command\ncp -a' \
   "$("$make" -s kit RT=$absent 2>&1 | grep -o "^make: .*$absent\|cp -a")"
 
-# What make says of a kit that is named from here, of a directory that can't be written, and without
-# /proc.
+# A kit that is named from here, a directory that can't be written, and a machine without /proc.
 kit=$work/kit
 ln -s "$(type -P true)" "$kit"
 named() { "$make" -n -W HANDLES unifdef RT="$1" | sed -n "s/.*RT='\(.*\)' tools.*/\1/p"; }

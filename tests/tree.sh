@@ -2,8 +2,7 @@
 # Runs unifdef-tree over trees with every trap that its manual names, and kills it at each system
 # call: in $TMPDIR and, if they are there, in /dev/shm and in file systems of other kinds.
 #
-#   tests/tree.sh [SUBJECT|TEST ..]     the tests of tests/tree/SUBJECT.sh, or one of its functions;
-#                                       all tests by default
+#   tests/tree.sh [SUBJECT|TEST ..]     all tests, those of tests/tree/SUBJECT.sh, or a function
 #
 # Each failed check is printed with its file and line.
 # shellcheck disable=SC2034 # Some names are for those files.
@@ -31,8 +30,7 @@ repeat() { printf "%0$2d" 0 | sed "s/0/$1/g"; }
 # ends STATUS: the last run must have ended so. After `any`, it may have ended in any way.
 ends() { [ "$1" = any ] || check same "$status" "$1"; }
 
-# under STATUS COMMAND.. -- WORD..: runs unifdef-tree by a command. What it writes is in $work/out
-# and $work/err, and its input is $input or empty.
+# under STATUS COMMAND.. -- WORD..: runs it by a command, from $input or nothing to $work/{out,err}.
 under() {
   local by=() wanted=$1
   while shift && [ "$1" != -- ]; do
@@ -84,8 +82,7 @@ after() {
   "${@:2}"
 }
 
-# put FILE.. TEXT: writes a text, with its escapes, into files. is FILE.. TEXT [and FILE.. TEXT ..]:
-# they have it.
+# put FILE.. TEXT: writes a text with escapes. is FILE.. TEXT [and FILE.. TEXT ..]: they have it.
 put() {
   local file
   for file in "${@:1:$#-1}"; do

@@ -73,8 +73,7 @@ UNPROVED = re.compile(r"fn \S+: (?:not proved|no proof)")
 NAME = re.compile(r"has no field|is not in scope|has no `|was not admitted")
 
 
-# A function of a source file, by the numbers of its lines. Those after `head` are of the function
-# alone: of its body, or of a law's contract too.
+# A function, by the numbers of its lines. After `head` come its body, and a law's contract.
 Function = collections.namedtuple("Function", "path name first head last")
 
 
@@ -141,8 +140,7 @@ COMMANDS = Commands()
 
 
 def link_kept(source, target):
-    """Links a proof that a check kept, which the next one replaces and doesn't write into. Copies
-    any other file."""
+    """Links a proof that a check kept, which the next one replaces. Copies any other file."""
     (link if source.endswith(".oantt") else shutil.copy2)(source, target)
 
 
@@ -207,8 +205,7 @@ class Batch:
         return True
 
     def reasons(self, said, room):
-        """Returns the failed goals of each edit's own functions. There are none if anything else
-        fails too."""
+        """Returns each edit's failed goals of its functions: none if anything else fails too."""
         every, found = [], {}
         for it in Path(room.directory).glob("src/**/*.rt"):
             path = str(it.relative_to(room.directory))
@@ -225,8 +222,7 @@ class Batch:
 
 
 def owners_of(line, every):
-    """Returns the functions that a line says aren't proved, each as its path and name. Returns None
-    if the line is no error."""
+    """Returns the path and name of functions that a line calls unproved. None if it's no error."""
     at, answer, owners = OBLIGATION.match(line), ANSWER.match(line), []
     if at:
         number = int(at[2])
@@ -258,8 +254,7 @@ def is_unproved(status, said):
 
 
 def first_of(goals):
-    """Returns the failed goal that says most: the first one for which no name is missing, and one
-    outside answers before the others."""
+    """Returns the failed goal that says most: if possible, one without a missing name or answer."""
     return min(goals, key=lambda it: (bool(NAME.search(it)), bool(IN_ANSWER.match(it))))
 
 
@@ -285,8 +280,7 @@ def try_edits(room, edits, alone):
 
 
 def without_answers(text, numbers):
-    """Returns a file of answers without those that have lines with these numbers. If a line is
-    above all answers, none is left."""
+    """Returns a file without the answers of some lines: without any if one is above them all."""
     lines, kept = text.split("\n"), []
     begins = [it for it, line in enumerate(lines) if BEGINS_ANSWER.match(line)]
     if min(numbers) <= min(begins, default=len(lines)):
@@ -339,8 +333,7 @@ def try_batches(room, edits, alone):
 
 
 def edits_of(top, crate, directories):
-    """Returns the edits in some directories of a crate, and a message for each that can't be
-    tried."""
+    """Returns the edits in directories of a crate, and messages for those that can't be tried."""
     at, good, bad, names = f"{top}/crates/{crate}", [], [], set()
     files = [it for place in directories for it in sorted(glob.glob(f"{at}/{place}/*.edit"))]
     for edit in map(Edit, files):

@@ -25,8 +25,7 @@ def without_code(page):
 
 
 def tracked():
-    """Returns the files that git tracks, without those that were removed. Without git, as in a
-    tarball: all files."""
+    """Returns the files that git tracks and that are there. In a tarball: all files."""
     if os.path.exists(f"{TOP}/.git") and shutil.which("git"):
         listed = subprocess.check_output(["git", "ls-files"], cwd=TOP, text=True).split()
         return [it for it in listed if os.path.exists(f"{TOP}/{it}")]

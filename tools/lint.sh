@@ -1,6 +1,5 @@
 #!/usr/bin/env bash
-# Checks all that a program can check of manuals, scripts, comments and pages (`make manuals`). A
-# linter that isn't there is left out.
+# Checks manuals, scripts, comments and pages (`make manuals`), by the linters that are there.
 set -u
 cd "$(dirname "$0")/.." || exit 1
 result=0

@@ -40,8 +40,7 @@ ud_io ud_passes ud_engine ud_replace unifdef ud_tree""".split()
 # check takes half as much time of a processor again.
 SPLIT = {"ud_cond": 2, "ud_engine": 4}
 
-# The memory in bytes that must be free before a crate starts beside another one, and before a check
-# is split among all processors.
+# The free bytes of memory for a crate beside another one, and for a check that is split.
 FREE = 6_000_000_000
 FREE_FOR_ALL = 10_000_000_000
 
@@ -76,8 +75,7 @@ def numbers_in(path, pattern=r"(\d+)"):
 
 
 def free_memory():
-    """Returns how many bytes of memory are free, also in the control group. Returns 0 if the system
-    doesn't say."""
+    """Returns the free bytes of memory, also of the control group: 0 if the system doesn't say."""
     free = [1024 * it for it in numbers_in("/proc/meminfo", r"MemAvailable:\s+(\d+)")]
     limit, held = (numbers_in(f"/sys/fs/cgroup/memory.{it}") for it in ("max", "current"))
     free += [most - now for most, now in zip(limit, held)]
@@ -151,8 +149,7 @@ class Commands:
 
 
 class Run:
-    """The check of one crate, in a directory with it and those below it, where nothing else is
-    proved."""
+    """The check of one crate, in a directory of its own with those below it."""
 
     def __init__(self, crate, below, jobs, commands):
         self.crate, self.jobs, self.begin = crate, jobs, time.monotonic()

@@ -89,8 +89,7 @@ def findings(path, text):
 
 
 def sentences(lines):
-    """Yields the line on which each sentence of a page begins, and its text. Headings and tables
-    have none, and a colon or a semicolon ends one too."""
+    """Yields the first line of each sentence, and its text. A colon or a semicolon ends one too."""
     begun, text = 0, ""
     for number, line in enumerate([*lines, ""], 1):
         bare = line.strip()

@@ -15,22 +15,19 @@ _unifdef_names() {
     fi | sort -u
 }
 
-# Puts into COMPREPLY the words of $2 that complete the typed word after its prefix $1, each with
-# that prefix.
+# Puts the words of $2 that complete the typed word into COMPREPLY, each with its prefix $1.
 _unifdef_after() {
   local typed=${COMP_WORDS[COMP_CWORD]}
   mapfile -t COMPREPLY < <(compgen -P "$1" -W "$2" -- "${typed#"$1"}")
 }
 
-# Completes a name after its prefix $2, which the program $1 lists. No space follows one that may
-# have a value.
+# Completes a name of the program $1 after the prefix $2. No space follows if it may have a value.
 _unifdef_symbol() {
   _unifdef_after "$2" "$(_unifdef_names "$1")"
   [[ $3 != *D ]] || compopt -o nospace 2> /dev/null || true
 }
 
-# Returns whether the options end before the typed word: at `--`, or at a word that is no option and
-# no value of one.
+# Returns whether `--`, or a word that is no option and no value of one, precedes the typed word.
 _unifdef_ended() {
   local line=${COMP_LINE:0:COMP_POINT} word value=no
   local -a words

@@ -90,8 +90,7 @@ growths() {
   wc -c < "$work/count"
 }
 
-# refused FROM TO COMMAND..: runs with these growths refused, and then keeps the unread rest of the
-# input.
+# refused FROM TO COMMAND..: runs with these growths refused, and keeps what it didn't read.
 refused() {
   status=0
   local how=(REFUSE_FROM="$1" REFUSE_TO="$2" LD_PRELOAD="$work/refuse.so")
@@ -133,8 +132,7 @@ refuse_each() {
   told "no growth refused under $*" as_wanted
 }
 
-# Refuses each growth of a table. If a later growth of a symbol is refused, its earlier value stays.
-# A bad name is reported whatever is refused.
+# If a growth of a symbol is refused, its earlier value stays. A bad name is always reported.
 is_of_table() {
   local no="out of memory/A isn't listed/" first="-DA=1: taken/A is 1/" second='A is 22, ignoring/'
   case $(tr '\n' '/' < "$out") in

@@ -47,8 +47,7 @@ test_usage() {
 }
 letters() { sed -n 's/^  -\(.\).*/\1/p' | sort -u; }
 
-# The message of each fault of the arguments. The usage follows where the manual says so, and
-# nothing is done.
+# The message of each fault of the arguments, with the usage where the manual says so.
 test_refused_arguments() {
   local words message usage
   fresh src/good.c

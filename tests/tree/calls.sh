@@ -3,8 +3,7 @@
 # named PATTERN: prints the names of the calls in $work/calls that a pattern of sed finds.
 named() { sed -n "s/^[0-9]* *\\($1\\).*/\\1/p" "$work/calls" | tr '\n' ' '; }
 
-# Kills the program at each of its calls, from the first one about the tree on. Each file is then
-# old or new, and a second run does the rest.
+# Each file is old or new after a kill at a call about the tree, and a second run does the rest.
 test_kills() {
   local calls it killed=0
   anew traced any all -DA src
@@ -32,8 +31,7 @@ test_signals() {
   done
 }
 
-# Each call fails in turn, from the first one about the tree on: each file is old or new, and the
-# status is 2 unless both files are new.
+# So it is if such a call fails. The status is 2 then, unless both files are new.
 test_failing_calls() {
   local call errors error i first count
   while read -r call errors; do
@@ -79,8 +77,7 @@ test_syncs() {
   is src/a.c "$text"
 }
 
-# A diff of -d that goes to a file is on the disk before the next file is changed, and no file is
-# changed after one that isn't.
+# A diff of -d is on the disk before the next file is changed, if it goes to a file.
 test_synced_diffs() {
   anew traced any write,fdatasync,rename -q -d -DA src
   check same "$(named 'write(1\|fdatasync\|rename')" \

@@ -127,8 +127,7 @@ test_locks() {
   is src/.unifdef-tree.other.c "$text" and src/a.c 'yes\n'
 }
 
-# Files over which no other one can be renamed: where a file is mounted, and those of others in a
-# directory with the sticky bit.
+# Files over which none is renamed: a mounted one, and others' in a directory with the sticky bit.
 test_unrenamed() {
   is_root || return 0
   fresh src/a.c

@@ -1,7 +1,6 @@
 # A full disk, little memory, a small stack, large files and long lines.
 
-# within STATUS LIMIT KIB WORD..: runs unifdef-tree under a limit of ulimit, such as -s. A file that
-# is too large is an error, and no signal.
+# within STATUS LIMIT KIB WORD..: runs it under a limit of ulimit. A file too large is no signal.
 within() {
   under "$1" bash -c 'trap "" XFSZ; ulimit "$1" "$2" && exec "${@:3}"' - "$2" "$3" -- "${@:4}"
 }
@@ -84,8 +83,7 @@ test_large_files() {
   done
 }
 
-# A file with a line over the limit is not read to its end, which may be far away. A line of the
-# limit is read, also at the end of a block.
+# A file is not read beyond a line over the limit. A line of the limit is read.
 test_long_lines() {
   fresh src/a.c
   truncate -s 2G src/long.c
@@ -100,8 +98,7 @@ test_long_lines() {
   check grep -qxF 'unifdef: src/b.c: 6: Line too long' "$work/err"
 }
 
-# The lists of -r and -s with less and less memory: each is whole, or a message says that it isn't,
-# and the status is 2.
+# With less and less memory, a list of -r or -s is whole, or there is a message and status 2.
 test_little_memory() {
   local i list lines low high limit wrong told
   fresh
@@ -133,8 +130,7 @@ test_little_memory() {
   done
 }
 
-# A message says so if memory for the diff of a changed file was refused: each growth of memory is
-# refused in turn.
+# Each growth of memory is refused in turn: a message says so if the diff of a changed file is lost.
 test_lost_for_memory() {
   local i lost=0 untold=0 refusing=$work/refuse.so
   if ! "${CC:-cc}" -O1 -shared -fPIC -o "$refusing" "$here/tests/faults/refuse.c" -ldl 2> /dev/null; then

@@ -24,8 +24,7 @@ test_rules() {
   check same "$(left_in VMS)" ''
 }
 
-# tells LINE OPTION..: a run with these options says this last of files of other names, and changes
-# none of them.
+# tells LINE OPTION..: a run says this of files of other names, and changes none of them.
 tells() {
   local line=$1
   find t -type f ! -name '*.c' -exec cat {} + > "$work/before"

@@ -22,8 +22,7 @@ paused() {
   ends "$1"
 }
 
-# number_of CALL PATTERN: which of the calls of this name in $work/calls is the first with the
-# pattern. last_of: the last one.
+# number_of CALL PATTERN: the number of the first call with it in $work/calls. last_of: the last's.
 number_of() { grep "$1(" "$work/calls" | grep -n -m 1 -e "$2" | cut -d : -f 1; }
 last_of() { grep "$1(" "$work/calls" | grep -n -e "$2" | tail -n 1 | cut -d : -f 1; }
 
@@ -64,8 +63,7 @@ test_meanwhile() {
   none_left
 }
 
-# A file that changed is left alone even if its size and its times are the old ones. New times alone
-# are no change.
+# A changed file is left alone even if its size and times are the old ones. New times are no change.
 test_compares_bytes() {
   meanwhile any -DA fsync 1 edit_in_secret
   is src/a.c "$edited"
@@ -159,8 +157,7 @@ save_both() {
   new=$(number "src/$2")
 }
 
-# Two files are not taken for one if the second one gets the number of the first one, which is gone,
-# before it is met.
+# Two files aren't taken for one if the second one gets the number of the first one, which is gone.
 test_numbers_used_again() {
   local first second old new
   fresh src/a.c src/b.c
@@ -176,15 +173,13 @@ test_numbers_used_again() {
   is "src/$second" 'yes\n'
 }
 
-# failing_look STATUS ERROR WORD..: runs unifdef-tree, whose first look at a.c in the first
-# directory that is opened fails.
+# failing_look STATUS ERROR WORD..: runs it with a first look at a.c that fails.
 failing_look() {
   under "$1" strace -f -o /dev/null -P /proc/self/fd/3/a.c \
     -e inject='?lstat,?newfstatat,statx':error="$2":when=1 -- "${@:3}"
 }
 
-# A name vanishes between the listing of its directory and the look at it, or before the run looks
-# at it though it was named.
+# A name vanishes between the listing of its directory, or its naming, and the look at it.
 test_vanishing() {
   anew rm src/bad.c
   failing_look 1 ENOENT -DA src

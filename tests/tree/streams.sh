@@ -1,5 +1,4 @@
-# Standard streams that are full, closed or a terminal, and texts whose directives a run wouldn't
-# find.
+# Standard streams that are full, closed or a terminal, and texts in which no directive is found.
 
 # Messages that can't be written.
 test_full_messages() {
@@ -11,8 +10,7 @@ test_full_messages() {
   check same "$?" 0
 }
 
-# No file of the tree is opened in the place of a closed stream, into which messages or diffs would
-# then be written.
+# No file of the tree is opened in the place of a closed stream, which is written to.
 test_closed_streams() {
   anew mkdir src/.unifdef-tree.a.c
   (cd src && "$TREE" -DA a.c 2>&-)
