@@ -90,12 +90,8 @@ def chunks() -> None:
     """After a fault, no further chunk is taken."""
     source = iter((b"a\n#ifdef A\n", b"b\n#endif\n#en", b"dif\n", b"c\n", b"d\n"))
     found: list[bytes] = []
-    refuses(
-        "chunks: the fault",
-        unifdef.Trouble,
-        lambda: found.extend(unifdef.strip_chunks(source, "-DA")),
-        MESSAGE,
-    )
+    output = unifdef.strip_chunks(source, "-DA")
+    refuses("chunks: the fault", unifdef.Trouble, lambda: found.extend(output), MESSAGE)
     check("chunks: the output before a fault", b"".join(found) == b"a\nb\n")
     check("chunks: none after a fault", list(source) == [b"c\n", b"d\n"])
     with unifdef.Stream("-DA") as stream:
@@ -189,8 +185,8 @@ def arguments() -> None:
         check(f"{what}: a copy", str(pickle.loads(pickle.dumps(error))) == str(error))
     mode = "unifdef: Bad exit mode in word 1: '-x3'"
     refuses("a mode is named", unifdef.Trouble, lambda: unifdef.strip(b"", "-x3"), mode)
-    call = lambda: unifdef.condition(b"A", "-DA -UB")  # noqa: E731
-    refuses("condition names it", ValueError, call, "'-DA -UB'", "unifdef: ")
+    both = "-DA -UB"
+    refuses("it is named", ValueError, lambda: unifdef.condition(b"A", both), repr(both), "unifdef")
 
 
 def wrong_types() -> None:
@@ -210,8 +206,8 @@ def wrong_types() -> None:
         ("argument 1", "NoneType", lambda: unifdef.condition(b"A", None)),
     ):
         refuses(f"{name} that is {kind}", TypeError, call, f"{name} must be ", f", not {kind}")
-    call = lambda: unifdef.run(b"x", "-DA", "a\0b")  # noqa: E731
-    refuses("a zero byte", ValueError, call, "argument 2 has a zero byte")
+    zero = "argument 2 has a zero byte"
+    refuses("a zero byte", ValueError, lambda: unifdef.run(b"x", "-DA", "a\0b"), zero)
 
 
 def hints() -> None:
