@@ -1,13 +1,10 @@
 # Completions of unifdef and unifdef-tree for bash.
 
-# Prints the names in the conditions of the C files below the directory: of the first files, and for
-# two seconds at most, so that a key press doesn't wait longer. One of them is for find, since
-# unifdef-tree prints at its end.
-#
-# _unifdef_names PROGRAM: unifdef or unifdef-tree, which lists them.
+# Prints names in conditions of the first C files below the directory, in two seconds at most.
+# One of them is for find, since unifdef-tree prints at its end. The program $1 lists them.
 _unifdef_names() {
-  timeout 1 find . -name '.?*' -prune -o -type f \( -name '*.[ch]' -o -name '*.cc' -o -name '*.hh' \
-    -o -name '*.cpp' -o -name '*.hpp' -o -name '*.cxx' -o -name '*.hxx' \) -print0 2> /dev/null |
+  timeout 1 find . -name '.?*' -prune -o -type f \
+    -regex '.*\.\([ch]\|[ch]pp\|[ch]xx\|cc\|hh\)' -print0 2> /dev/null |
     if [ "$1" = unifdef-tree ]; then
       head -z -n 2000 | timeout 2 unifdef-tree -0 -q -s 2> /dev/null | awk '{ print $2 }'
     else

@@ -1,11 +1,10 @@
 # Completions of unifdef for fish, and of unifdef-tree, if the file has its name.
 
-# Prints the names in the conditions of the C files below the directory: of the first files, and for
-# two seconds at most, so that a key press doesn't wait longer. One of them is for find, since
-# unifdef-tree prints at its end.
+# Prints names in conditions of the first C files below the directory, in two seconds at most.
+# One of them is for find, since unifdef-tree prints at its end.
 function __unifdef_names -a program
-    timeout 1 find . -name '.?*' -prune -o -type f \( -name '*.[ch]' -o -name '*.cc' -o -name '*.hh' \
-        -o -name '*.cpp' -o -name '*.hpp' -o -name '*.cxx' -o -name '*.hxx' \) -print0 2> /dev/null |
+    timeout 1 find . -name '.?*' -prune -o -type f \
+        -regex '.*\.\([ch]\|[ch]pp\|[ch]xx\|cc\|hh\)' -print0 2> /dev/null |
         if test $program = unifdef-tree
             head -z -n 2000 | timeout 2 unifdef-tree -0 -q -s 2> /dev/null | awk '{ print $2 }'
         else
