@@ -18,6 +18,13 @@ static int refused(void) {
     return allowed == 0;
 }
 
+/* Whether the allocations that were allowed sufficed. From now on, all are allowed. */
+static int sufficed(void) {
+    int all = allowed != 0;
+    allowed = -1;
+    return all;
+}
+
 static void *counted(void *block) {
     live += (long)malloc_usable_size(block);
     if (live > most_live) most_live = live;
@@ -39,17 +46,15 @@ void __wrap_free(void *block) {
 }
 
 static void check(const char *what, int holds) {
-    if (holds) {
-        right++;
-        return;
-    }
-    wrong++;
-    printf("library: %s\n", what);
+    right += holds;
+    wrong += !holds;
+    if (!holds) printf("library: %s\n", what);
 }
 
 static const char TEXT[] = "#ifdef A\nx\n#else\ny\n#endif\n";
 static const char MEMORY[] = "unifdef: Out of memory\n";
 static const char WORDS[] = "unifdef: Cannot take arguments\n";
+static const char FAULT[] = "unifdef: stdin: 3: Inappropriate #endif\n";
 
 /* Whether an answer has this status, output and message, in buffers that are long enough. */
 static int gives(const char *words, size_t words_len, const char *text, size_t text_len, int status,
@@ -81,45 +86,43 @@ static void words(void) {
 static void short_buffers(void) {
     char out[4], told[40];
     struct unifdef_sizes sizes;
-    const char *fault = "unifdef: stdin: 3: Inappropriate #endif\n";
     for (size_t len = 0; len <= 4; len++) {
         memset(out, '?', sizeof out);
         int status = unifdef_text("-DA", 3, "abc\nx\n#endif\n", 13, len == 0 ? NULL : out, len, NULL, 0, &sizes);
         check("too small: the status", status == UNIFDEF_TOO_SMALL);
-        check("too small: the lengths", sizes.output == 6 && sizes.message == strlen(fault));
+        check("too small: the lengths", sizes.output == 6 && sizes.message == strlen(FAULT));
         check("too small: what fits", memcmp(out, "abc\n", len) == 0);
         check("too small: the rest", len == 4 || out[len] == '?');
     }
     memset(told, '?', sizeof told);
     char exact[6];
-    int status = unifdef_text("-DA", 3, "abc\nx\n#endif\n", 13, exact, 6, told, strlen(fault), &sizes);
+    int status = unifdef_text("-DA", 3, "abc\nx\n#endif\n", 13, exact, 6, told, strlen(FAULT), &sizes);
     check("just enough", status == 2 && memcmp(exact, "abc\nx\n", 6) == 0 &&
-                             memcmp(told, fault, strlen(fault)) == 0);
+                             memcmp(told, FAULT, strlen(FAULT)) == 0);
     status = unifdef_text("-DA", 3, "abc\nx\n#endif\n", 13, exact, 6, told, 9, &sizes);
-    check("a short message alone", status == UNIFDEF_TOO_SMALL && sizes.message == strlen(fault));
+    check("a short message alone", status == UNIFDEF_TOO_SMALL && sizes.message == strlen(FAULT));
     status = unifdef_text("-DA", 3, "", 0, NULL, 0, NULL, 0, &sizes);
     check("no buffers and nothing to write", status == 0 && sizes.output == 0 && sizes.message == 0);
 }
 
 /* Each allocation of a call fails in turn. What was allocated before is freed: the sanitizer tells. */
 static void memory(void) {
-    long k = 1;
-    for (;; k++) {
+    long k = 0;
+    int all;
+    do {
         char out[200], told[200];
         struct unifdef_sizes sizes;
-        allowed = k;
+        allowed = ++k;
         int status = unifdef_text("-DA\0-UB=1\0", 4, TEXT, sizeof TEXT - 1, out, sizeof out, told,
                                   sizeof told, &sizes);
-        int all = allowed != 0;
-        allowed = -1;
-        if (all) {
+        all = sufficed();
+        if (all)
             check("memory: all of it", status == 1 && sizes.output == 2);
-            break;
-        }
-        check("memory: reported", status == 2 && sizes.output == 0 &&
-                                      sizes.message == strlen(MEMORY) &&
-                                      memcmp(told, MEMORY, sizes.message) == 0);
-    }
+        else
+            check("memory: reported", status == 2 && sizes.output == 0 &&
+                                          sizes.message == strlen(MEMORY) &&
+                                          memcmp(told, MEMORY, sizes.message) == 0);
+    } while (!all);
     check("memory: was allocated", k > 2);
 }
 
@@ -142,8 +145,7 @@ static void conditions(void) {
     allowed = 1;
     check("condition: no memory", decides("-DA", 3, "A") == UNIFDEF_NO_MEMORY);
     allowed = -1;
-    char *lengthy = calloc(1, UNIFDEF_LINE_BYTES + 1);
-    if (lengthy == NULL) exit(1);
+    static char lengthy[UNIFDEF_LINE_BYTES + 1];
     memset(lengthy, ' ', UNIFDEF_LINE_BYTES + 1);
     lengthy[0] = 'A';
     check("the longest", unifdef_condition("-DA", 3, lengthy, UNIFDEF_LINE_BYTES) == UNIFDEF_TRUE);
@@ -151,7 +153,6 @@ static void conditions(void) {
     size_t size = 7;
     check("names: too long", unifdef_names(lengthy, UNIFDEF_LINE_BYTES + 1, NULL, 0, &size) ==
                                      UNIFDEF_TOO_LONG && size == 7);
-    free(lengthy);
 }
 
 static void names(void) {
@@ -194,16 +195,14 @@ static void prunes(void) {
                                       UNIFDEF_BAD_WORDS && size == 7 && out[0] == '?');
     check("prune: not UTF-8", unifdef_prune("-D\xff", 3, text, strlen(text), out, sizeof out, &size) ==
                                       UNIFDEF_BAD_WORDS && size == 7 && out[0] == '?');
-    for (long k = 1;; k++) {
+    for (int all = 0, k = 1; !all; k++) {
         allowed = k;
         int pruned = unifdef_prune("-UA", 3, text, strlen(text), out, sizeof out, &size);
-        int all = allowed != 0;
-        allowed = -1;
-        if (all) {
+        all = sufficed();
+        if (all)
             check("prune: all of the memory", pruned == 1 && size == strlen(left));
-            break;
-        }
-        check("prune: no memory", pruned == UNIFDEF_NO_MEMORY && size == 7 && out[0] == '?');
+        else
+            check("prune: no memory", pruned == UNIFDEF_NO_MEMORY && size == 7 && out[0] == '?');
     }
 }
 
@@ -226,7 +225,6 @@ static void streams(void) {
     struct unifdef_stream stream = UNIFDEF_STREAM_INIT;
     char output[200], told[80];
     size_t len, size = 7, pending = 7;
-    const char *fault = "unifdef: stdin: 3: Inappropriate #endif\n";
     check("closed: feed", unifdef_feed(&stream, "x", 1) == UNIFDEF_CLOSED);
     check("closed: take", unifdef_take(&stream, output, 9, &pending) == 0 && pending == 0);
     check("closed: finish", unifdef_finish(&stream, told, 9, &size) == UNIFDEF_CLOSED && size == 7);
@@ -259,9 +257,9 @@ static void streams(void) {
     check("a fault: feed again", unifdef_feed(&stream, "z\n", 2) == UNIFDEF_TROUBLE);
     memset(told, '?', sizeof told);
     check("a fault: too small", unifdef_finish(&stream, told, 9, &size) == UNIFDEF_TOO_SMALL &&
-                                    size == strlen(fault) && memcmp(told, "unifdef: ?", 10) == 0);
+                                    size == strlen(FAULT) && memcmp(told, "unifdef: ?", 10) == 0);
     check("a fault: the message", unifdef_finish(&stream, told, sizeof told, &size) == UNIFDEF_TROUBLE &&
-                                      size == strlen(fault) && memcmp(told, fault, size) == 0);
+                                      size == strlen(FAULT) && memcmp(told, FAULT, size) == 0);
     check("a fault: the output", unifdef_take(&stream, output, 9, &pending) == 6 &&
                                      memcmp(output, "abc\nx\n", 6) == 0);
     unifdef_close(&stream);
@@ -269,22 +267,19 @@ static void streams(void) {
 
 /* Each allocation for a stream is refused in turn. What was allocated before is freed. */
 static void stream_memory(void) {
-    long k = 1;
-    for (;; k++) {
+    long k = 0;
+    int all;
+    do {
         struct unifdef_stream stream = UNIFDEF_STREAM_INIT;
         char output[200], told[80];
         size_t len, size;
-        allowed = k;
+        allowed = ++k;
         int opened = unifdef_open(&stream, "-DA\0-UB=1\0", 4);
         int status = opened == 0 ? streamed(&stream, TEXT, sizeof TEXT - 1, 7, output, &len) : 0;
-        int all = allowed != 0;
-        allowed = -1;
-        if (all) {
+        all = sufficed();
+        if (all)
             check("stream memory: all of it", status == 1 && len == 2);
-            unifdef_close(&stream);
-            break;
-        }
-        if (opened != 0)
+        else if (opened != 0)
             check("stream memory: open", opened == UNIFDEF_NO_MEMORY && stream.state == NULL);
         else if (status == UNIFDEF_NO_MEMORY)
             check("stream memory: feed", unifdef_finish(&stream, told, sizeof told, &size) == 2 &&
@@ -292,7 +287,7 @@ static void stream_memory(void) {
         else
             check("stream memory: finish", status == 2);
         unifdef_close(&stream);
-    }
+    } while (!all);
     check("stream memory: was allocated", k > 3);
 }
 
