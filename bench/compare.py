@@ -84,20 +84,12 @@ def commands(programs, words, other):
     return {name: [program, *words] for name, program in programs.items()} | {other: [other]}
 
 
-def measured(name, outcome):
-    """Returns what was measured, if the run ended without a fault."""
-    status, value = outcome
-    if status not in (0, 1):
-        sys.exit(f"bench: {name}: status {status}")
-    return value
-
-
 def best(case, programs, output):
     """Returns the least processor time of each program and `cat`, and the hashes of the outputs."""
     times, outputs = {}, set()
     for _ in range(RUNS):
         for name, command in commands(programs, case.words, "cat").items():
-            seconds = measured(case.name, finished(command, case.text, output))
+            seconds = finished(command, case.text, output)
             times[name] = min(seconds, times.get(name, seconds))
             if output != NOWHERE:
                 if name in programs:
@@ -152,8 +144,7 @@ def starts(programs, work):
         path.write_text(texts.SMALL.format(n))
         for name, command in commands(programs, texts.DECIDED, "true").items():
             whole = [*command, path] if name in programs else command
-            seconds = measured("small", finished(whole, os.devnull, os.devnull))
-            times.setdefault(name, []).append(seconds)
+            times.setdefault(name, []).append(finished(whole, os.devnull, os.devnull))
     size = paths[0].stat().st_size
     heading(f"Start: {FILES:,} headers of {size} bytes or a few more", "", *times)
     row("microseconds a file", *[f"{statistics.median(it) * 1e6:.0f}" for it in times.values()])
@@ -167,13 +158,12 @@ def memory(measures, programs, work):
     heading("Peak memory in KiB", "text and options", *programs, "cat")
     most = 0
     for case in measures:
-        every = commands(programs, case.words, "cat").values()
-        held = [measured(case.name, peak(it, case.text)) for it in every]
+        held = [peak(it, case.text) for it in commands(programs, case.words, "cat").values()]
         most = max(most, held[0])
         row(case.name, *[f"{kib:,}" for kib in held])
     (work / "deep").write_bytes(DEEP)
     first = next(iter(programs.values()))
-    deep = measured("deep", peak([first, *texts.c_words(1000)], work / "deep"))
+    deep = peak([first, *texts.c_words(1000)], work / "deep")
     row("an `#if` of 65,536 bytes, 1,000 symbols", f"{deep:,}", *[""] * len(programs))
     return most, deep
 

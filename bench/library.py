@@ -18,62 +18,48 @@ BYTES = int(os.environ.get("BENCH_BYTES", "100000000"))
 HEADERS = os.environ.get("BENCH_HEADERS", "/usr/include")
 ROUNDS = int(os.environ.get("BENCH_RUNS", "5"))
 CHUNK = 65_536
+program, os.environ["UNIFDEF_LIBRARY"] = sys.argv[1], os.path.abspath(sys.argv[2])
+sys.path.insert(0, str(Path(__file__).resolve().parent.parent / "lib" / "python"))
+
+from unifdef._library import Sizes, StreamState, library  # noqa: E402
+
+text = texts.files(HEADERS, "*.h", BYTES, [program])
+words = b"".join(word.encode() + b"\0" for word in texts.DECIDED)
+# The buffers stay from round to round.
+output, message = ctypes.create_string_buffer(len(text) + 1), ctypes.create_string_buffer(256)
 
 
-def seconds_of(work):
+def whole():
+    ends = (output, len(output), message, len(message), Sizes())
+    assert library.unifdef_text(words, len(words), text, len(text), *ends) in (0, 1)
+
+
+def stream():
+    """Feeds the text in chunks, and takes what has come after each."""
+    state, size = StreamState(), ctypes.c_size_t()
+    assert library.unifdef_open(state, words, len(words)) == 0
+    for at in range(0, len(text), CHUNK):
+        chunk = text[at : at + CHUNK]
+        assert library.unifdef_feed(state, chunk, len(chunk)) == 0
+        library.unifdef_take(state, output, len(output), size)
+    library.unifdef_finish(state, message, len(message), size)
+    library.unifdef_close(state)
+
+
+def least_of(work):
     """Returns the least processor time of some rounds."""
     return min(timeit.repeat(work, timer=time.process_time, number=1, repeat=ROUNDS))
 
 
-class Calls:
-    """The calls that are measured, with buffers that stay from round to round."""
-
-    def __init__(self, text, words):
-        # UNIFDEF_LIBRARY names the library before this.
-        from unifdef._library import Sizes, StreamState, library
-
-        self.library, self.text, self.words = library, text, words
-        self.output = ctypes.create_string_buffer(len(text) + 1)
-        self.message = ctypes.create_string_buffer(256)
-        self.sizes, self.state, self.size = Sizes(), StreamState(), ctypes.c_size_t()
-
-    def whole(self):
-        output, message = self.output, self.message
-        status = self.library.unifdef_text(
-            self.words, len(self.words), self.text, len(self.text), output, len(output), message,
-            len(message), self.sizes,
-        )  # fmt: skip
-        assert status in (0, 1), status
-
-    def stream(self):
-        """Feeds the text in chunks, and takes what has come after each."""
-        assert self.library.unifdef_open(self.state, self.words, len(self.words)) == 0
-        for at in range(0, len(self.text), CHUNK):
-            chunk = self.text[at : at + CHUNK]
-            assert self.library.unifdef_feed(self.state, chunk, len(chunk)) == 0
-            self.library.unifdef_take(self.state, self.output, len(self.output), self.size)
-        self.library.unifdef_finish(self.state, self.message, len(self.message), self.size)
-        self.library.unifdef_close(self.state)
-
-
-def main():
-    program, library = sys.argv[1:]
-    os.environ["UNIFDEF_LIBRARY"] = os.path.abspath(library)
-    sys.path.insert(0, str(Path(__file__).resolve().parent.parent / "lib" / "python"))
-    text, words = texts.files(HEADERS, "*.h", BYTES, [program]), texts.DECIDED
-    calls = Calls(text, b"".join(word.encode() + b"\0" for word in words))
-    with tempfile.NamedTemporaryFile() as file:
-        file.write(text)
-        file.flush()
-        outcomes = [texts.finished([program, *words], file.name, os.devnull) for _ in range(ROUNDS)]
-    rows = {
-        "`unifdef_text`, the whole text": seconds_of(calls.whole),
-        f"a stream, chunks of {CHUNK:,} bytes": seconds_of(calls.stream),
-        "the program, from a file to /dev/null": min(seconds for _, seconds in outcomes),
-    }
-    print(f"\nThe library on {len(text):,} bytes\n\n| | MB/s |\n| --- | --- |")
-    for name, seconds in rows.items():
-        print(f"| {name} | {len(text) / seconds / 1e6:,.0f} |")
-
-
-main()
+with tempfile.NamedTemporaryFile() as file:
+    file.write(text)
+    file.flush()
+    command = [program, *texts.DECIDED]
+    of_program = min(texts.finished(command, file.name, os.devnull) for _ in range(ROUNDS))
+print(f"\nThe library on {len(text):,} bytes\n\n| | MB/s |\n| --- | --- |")
+for name, seconds in {
+    "`unifdef_text`, the whole text": least_of(whole),
+    f"a stream, chunks of {CHUNK:,} bytes": least_of(stream),
+    "the program, from a file to /dev/null": of_program,
+}.items():
+    print(f"| {name} | {len(text) / seconds / 1e6:,.0f} |")

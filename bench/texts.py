@@ -6,6 +6,7 @@ import random
 import re
 import shutil
 import subprocess
+import sys
 import termios
 from concurrent.futures import ThreadPoolExecutor
 from pathlib import Path
@@ -72,19 +73,25 @@ def conditionals(limit, symbols):
     return "".join(form.format(*it) for it in zip(names, names, names, names)).encode()
 
 
+def check(command, status):
+    if status not in (0, 1):
+        sys.exit(f"bench: status {status}: {' '.join(map(str, command))[:200]}")
+
+
 def finished(command, source, output):
-    """Returns the status of one run, and its processor time in seconds."""
+    """Returns the processor time of one run in seconds."""
     actions = [
         (os.POSIX_SPAWN_OPEN, 0, source, os.O_RDONLY, 0),
         (os.POSIX_SPAWN_OPEN, 1, output, os.O_WRONLY | os.O_CREAT, 0o600),
     ]
     pid = os.posix_spawn(shutil.which(command[0]), command, os.environ, file_actions=actions)
     _, status, usage = os.wait4(pid, 0)
-    return os.waitstatus_to_exitcode(status), usage.ru_utime + usage.ru_stime
+    check(command, os.waitstatus_to_exitcode(status))
+    return usage.ru_utime + usage.ru_stime
 
 
 def peak(command, source):
-    """Returns the status of one run, and its peak memory in KiB before the end of the text.
+    """Returns the peak memory of one run in KiB before the end of the text.
 
     Memory is read when the run has read everything from a pipe and waits for more.
     """
@@ -98,7 +105,8 @@ def peak(command, source):
         waits = not unread and "State:\tR" not in state
         most = int((re.findall(r"VmHWM:\s*(\d+)", state) or [0])[0])
     child.stdin.close()
-    return child.wait(), most
+    check(command, child.wait())
+    return most
 
 
 def counted(command, text):
