@@ -160,9 +160,6 @@ def results(program: Path, released: Optional[Path], new: Optional[Path]) -> Ite
 
 def main() -> int:
     program = TOP / "unifdef"
-    if not os.access(program, os.X_OK):
-        print(f"differences: {program} is not there: run make", file=sys.stderr)
-        return 1
     programs = [Path(directory) / "unifdef" for directory in os.get_exec_path()]
     released, new = (next((it for it in programs if is_released(it, v)), None) for v in (OLD, NEW))
     for version, there in ((OLD, released), (NEW, new)):
@@ -178,5 +175,4 @@ def main() -> int:
     return 0 if wrong == 0 and len(found) > 30 else 1
 
 
-if __name__ == "__main__":
-    sys.exit(main())
+sys.exit(main())

@@ -34,6 +34,8 @@ PAGES = ["README.md", "docs/EXAMPLES.md", "docs/LIBRARY.md", "docs/unifdef.1"]
 # The tools that may not be there, each with those that it calls.
 TOOLS = {"cmake": "make cc", "meson": "ninja cc", "git": "", "cc": "", "make": "", "ninja": ""}
 BLOCK = re.compile(r"\n```(.*)((?s:.*?))(\n```(?=\n)|\Z)")
+# What a command prints on either stream, as text.
+BOTH = {"stderr": subprocess.STDOUT, "errors": "replace"}
 OPTION = re.compile(r"^(-[^:\n]*):  (.*)\ngives: ([012])(?:  (.*))?$", re.MULTILINE)
 
 
@@ -46,14 +48,13 @@ class Examples:
 
     def compare(self, what, wanted, found):
         """Counts an example, and returns whether it prints what is written."""
-        if wanted == found:
-            self.right += 1
-            return True
-        self.wrong += 1
-        print(f"{self.page}: {what}")
-        texts = wanted.split("\n"), found.split("\n")
-        print(*difflib.unified_diff(*texts, "written", "printed", lineterm=""), sep="\n")
-        return False
+        is_right = wanted == found
+        self.right, self.wrong = self.right + is_right, self.wrong + (not is_right)
+        if not is_right:
+            texts = wanted.split("\n"), found.split("\n")
+            differences = difflib.unified_diff(*texts, "written", "printed", lineterm="")
+            print(f"{self.page}: {what}", *differences, sep="\n")
+        return is_right
 
     def skip(self, why, command):
         """Counts an example that is left out, with the rest of its block."""
@@ -65,11 +66,6 @@ class Examples:
         counts = f"{self.right} right, {self.wrong} wrong, {self.left_out} left out"
         print(f"examples of {self.page}: {counts}")
         return not self.wrong and self.right > 0
-
-
-def run(command, place, top):
-    done = run_in_bash(command, place, top, stderr=subprocess.STDOUT, errors="replace")
-    return done.returncode, done.stdout
 
 
 def commands_in(block):
@@ -92,7 +88,7 @@ def run_block(examples, block):
             missing = [it for it in needed if not shutil.which(it)]
             if missing:
                 return examples.skip(f"{missing[0]} isn't there", command)
-            _, found = run(f"{command}\npwd > '{work}/at'", place, top)
+            found = run_in_bash(f"{command}\npwd > '{work}/at'", place, top, **BOTH).stdout
             place = Path(work, "at").read_text(encoding="utf-8").rstrip("\n")
             if not number and command.startswith("cat /usr/include/") and found != wanted:
                 return examples.skip("this machine has another header", command)
@@ -121,7 +117,8 @@ def run_manual(examples):
             for command, wanted in commands_in(block):
                 # The status is 0 if the pipe ends with another program.
                 status = int(command.rpartition("| ")[2].startswith("unifdef "))
-                found = "{} {}".format(*run(command, top, top))
+                done = run_in_bash(command, top, top, **BOTH)
+                found = f"{done.returncode} {done.stdout}"
                 examples.compare(command, f"{status} {wanted}", found)
     return examples.told() and count > 10 and examples.right > count
 
@@ -162,5 +159,4 @@ def main():
     return 0 if all(found) else 1
 
 
-if __name__ == "__main__":
-    sys.exit(main())
+sys.exit(main())
