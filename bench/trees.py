@@ -15,29 +15,28 @@ from concurrent.futures import ThreadPoolExecutor
 from pathlib import Path
 
 
-class Outcome:
-    def __init__(self, program, arguments, path):
-        command = [program, *arguments, path]
-        run = subprocess.run(command, stdin=subprocess.DEVNULL, capture_output=True)
-        self.output, self.status, self.fault = run.stdout, run.returncode, None
-        if self.status not in (0, 1):
-            # The text of the first line, without file and line.
-            first = run.stderr.decode("utf-8", "replace").split("\n")[0]
-            self.fault = re.sub(r" \(.*", "", first.split(": ")[-1])
+def outcome(program, path):
+    """Returns the output and the status, and the fault without file and line, if there is one."""
+    command = [program, *sys.argv[4:], path]
+    run = subprocess.run(command, stdin=subprocess.DEVNULL, capture_output=True)
+    first = run.stderr.decode("utf-8", "replace").split("\n")[0]
+    fault = re.sub(r" \(.*", "", first.split(": ")[-1])
+    return run.stdout, run.returncode, None if run.returncode in (0, 1) else fault
 
 
 def class_of(ours, theirs):
     """Returns the class of two outcomes, or None if they are the same."""
-    if (ours.output, ours.status) == (theirs.output, theirs.status):
+    (output, status, fault), (other, other_status, other_fault) = ours, theirs
+    if (output, status) == (other, other_status):
         return None
-    if ours.fault and theirs.fault:
-        return f"both: {ours.fault}; {theirs.fault}"
-    if ours.fault or theirs.fault:
-        return f"{'here' if ours.fault else 'there'} alone: {ours.fault or theirs.fault}"
-    if theirs.output == ours.output + b"\n":
+    if fault and other_fault:
+        return f"both: {fault}; {other_fault}"
+    if fault or other_fault:
+        return f"{'here' if fault else 'there'} alone: {fault or other_fault}"
+    if other == output + b"\n":
         return "there a newline after the last line"
-    pairs = zip(ours.output.split(b"\n"), theirs.output.split(b"\n"))
-    line = next((one for one, other in pairs if one != other), b"")
+    pairs = zip(output.split(b"\n"), other.split(b"\n"))
+    line = next((one for one, another in pairs if one != another), b"")
     if re.match(rb"\s*#\s*(el)?if\b.*(\b\d+\W*(&&|\|\|)|(&&|\|\|)[\s(]*\d+)", line):
         return "there a constant operand decides"
     return "other"
@@ -49,17 +48,15 @@ def main():
     paths = [it for it in every if it.is_file() and not it.is_symlink()]
 
     def both(path):
-        ours, theirs = (Outcome(program, sys.argv[4:], path) for program in programs)
-        kind = class_of(ours, theirs)
-        ours.output = theirs.output = None
-        return path, ours, theirs, kind
+        ours, theirs = (outcome(program, path) for program in programs)
+        return path, ours[1:], theirs[1:], class_of(ours, theirs)
 
     with ThreadPoolExecutor(os.cpu_count()) as pool:
         outcomes = list(pool.map(both, paths))
     print(f"{tree}: {len(paths)} files, {sum(it.stat().st_size for it in paths)} bytes")
     for name, found in zip(("here", "there"), list(zip(*outcomes))[1:3]):
-        faults = Counter(it.fault for it in found if it.fault)
-        changed = sum(it.status == 1 for it in found)
+        faults = Counter(fault for _, fault in found if fault)
+        changed = sum(status == 1 for status, _ in found)
         print(f"  {name}: {changed} files changed, {sum(faults.values())} with a fault")
         for fault, count in faults.most_common():
             print(f"    {count:6} {fault}")
