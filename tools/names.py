@@ -91,14 +91,6 @@ class Tree:
                 yield word
 
 
-def citations(text):
-    """Yields the line and the text of each citation in backquotes outside of code blocks."""
-    bare = without_code(text)
-    for found in re.finditer(r"`((?:[^`\n]|\n(?!\n))+)`", bare):
-        cited = " ".join(found.group(1).replace("\\|", "|").split())
-        yield bare.count("\n", 0, found.start()) + 1, cited
-
-
 def clauses(text):
     """Yields the line and each lowercase name in the column "Clause", if a table has it second."""
     inside = False
@@ -114,26 +106,29 @@ def headings(page):
     return {re.sub(r"[^\w -]", "", title.lower()).replace(" ", "-") for title in titles}
 
 
-def dead_links(page, text):
-    """Yields the line and each link of a page that leads to no file or no heading."""
+def is_dead(page, link):
+    """Returns whether a link of a page leads to no file or no heading."""
+    path, _, anchor = link.partition("#")
+    target = os.path.normpath(os.path.join(os.path.dirname(page), path)) if path else page
+    is_there = os.path.exists(target) and (not anchor or anchor in headings(target))
+    return "://" not in path and not is_there
+
+
+def problems(tree, page):
+    """Yields the position and the reason of what a page cites and isn't there."""
+    text = text_of(page)
+    bare = without_code(text)
+    for found in re.finditer(r"`((?:[^`\n]|\n(?!\n))+)`", bare):
+        cited = " ".join(found[1].replace("\\|", "|").split())
+        line = bare.count("\n", 0, found.start()) + 1
+        yield from (f"{page}:{line}: {name} doesn't exist" for name in tree.missing(cited))
     for found in re.finditer(r"\]\(([^()\s]+)\)", text):
-        path, _, anchor = found.group(1).partition("#")
-        target = os.path.normpath(os.path.join(os.path.dirname(page), path)) if path else page
-        if "://" in path:
-            continue
-        if not os.path.exists(target) or (anchor and anchor not in headings(target)):
-            yield text.count("\n", 0, found.start()) + 1, found.group(1)
-
-
-def problems(tree, pages):
-    for page in pages:
-        text = text_of(page)
-        for line, cited in citations(text):
-            yield from (f"{page}:{line}: {name} doesn't exist" for name in tree.missing(cited))
-        yield from (f"{page}:{line}: {link} leads nowhere" for line, link in dead_links(page, text))
-        for line, name in clauses(text):
-            if name not in tree.labels:
-                yield f"{page}:{line}: no clause is called {name}"
+        if is_dead(page, found[1]):
+            line = text.count("\n", 0, found.start()) + 1
+            yield f"{page}:{line}: {found[1]} leads nowhere"
+    for line, name in clauses(text):
+        if name not in tree.labels:
+            yield f"{page}:{line}: no clause is called {name}"
 
 
 def unlisted_messages(tree):
@@ -149,7 +144,8 @@ def unlisted_messages(tree):
 
 def main():
     tree = Tree()
-    found = list(problems(tree, sys.argv[1:] or filter(PAGES.fullmatch, tree.files)))
+    pages = sys.argv[1:] or filter(PAGES.fullmatch, tree.files)
+    found = [it for page in pages for it in problems(tree, page)]
     if not sys.argv[1:]:
         missing = (it for it in tree.commented if it[1] not in tree.ends)
         found += [f"{path}: {cited} doesn't exist" for path, cited in missing]
