@@ -1,11 +1,17 @@
 #!/usr/bin/env python3
-"""Compares what a compiler selects of C files before and after ./unifdef (README.md).
+"""Compares what a compiler selects of C before and after ./unifdef and ./unifdef-tree (README.md).
 
 Of each file, the conditional directives stay as they are, with their comments and continuations,
 and every other line becomes one word. Some symbols are chosen at random for options; each other one
 is left undefined or given a number. A text that the compiler (CC) rejects is left out, since some
-`#if` there has no value. A second run of `unifdef-tree -p` must change nothing. The status is 1 if
-a text is selected in another way, or changed by a second run.
+`#if` there has no value. A second run of `unifdef-tree -p` must change nothing.
+
+With --programs, each program is made from the seed: a file and some headers, which define and
+undefine names and include each other in sections. Two names are those of the options, and the
+source leaves them alone. A second run must change nothing. If no condition names a symbol of the
+options any more, the compiler must select the same without it, and with any other value.
+
+The status is 1 if something is selected in another way, or changed by a second run.
 """
 
 import argparse
@@ -34,6 +40,11 @@ NAME = re.compile(rb"[A-Za-z_][A-Za-z0-9_]*")
 NOT_CHOSEN = re.compile(
     rb"defined$|__(has_|is_|STDC|LINE__|FILE__|COUNTER__|INCLUDE_LEVEL__|DATE__|TIME__)"
 )
+
+# The names of a program, the forms of its conditions, and how these are found.
+DECIDED, OTHERS = ("A", "B"), ("C", "D", "E", "F")
+FORMS = ("defined({})", "!defined({})", "defined {}", "{}", "!{}", "{} > 1", "({} == 2)")
+CONDITION = re.compile(r"^\s*#\s*(?:if|ifdef|ifndef|elif)\b(.*)$", re.MULTILINE)
 
 # The kinds of results that a comparison must not have.
 WRONG = ("selected in another way", "changed by a second run", "numbered in another way", "wrong")
@@ -146,11 +157,11 @@ def compare(job):
     return f"{how} and edited" if edited else how, of
 
 
-def parsed(description, count=0, **flags):
+def parsed(description, **flags):
     """Returns the options of the command line, and each file with the seed."""
     parser = argparse.ArgumentParser(description=description)
     parser.add_argument("--seed", type=int, default=1)
-    parser.add_argument("--count", type=int, default=count, help="that many at random; 0 for all")
+    parser.add_argument("--count", type=int, default=0, help="that many at random; 0 for all")
     parser.add_argument("paths", nargs="*", default=["/usr/include"])
     for flag, text in flags.items():
         parser.add_argument(f"--{flag}", action="store_true", help=text)
@@ -177,10 +188,96 @@ def report(results, what):
     return sums, int(any(it in kinds for it in WRONG))
 
 
+def expression(rng):
+    text, count = "", rng.randrange(1, 4)
+    for left in reversed(range(count)):
+        text += rng.choice(FORMS).format(rng.choice(DECIDED + OTHERS))
+        text += rng.choice([" && ", " || "]) if left else ""
+    return text
+
+
+def opener(rng):
+    if rng.randrange(3) == 0:
+        return f"#{rng.choice(['ifdef', 'ifndef'])} {rng.choice(DECIDED + OTHERS)}"
+    return "#if " + expression(rng)
+
+
+def lines(rng, name, later, depth=0):
+    """Yields the lines of a file: text, definitions, inclusions of later files, and sections."""
+    for _ in range(rng.randrange(2, 5)):
+        what = rng.randrange(8)
+        if what == 0:
+            yield f"#define {rng.choice(OTHERS)} {rng.randrange(4)}"
+        elif what == 1:
+            yield f"#undef {rng.choice(OTHERS)}"
+        elif what == 2 and later:
+            yield f'#include "{rng.choice(later)}"'
+        elif what < 5 and depth < 3:
+            yield opener(rng)
+            yield from lines(rng, name, later, depth + 1)
+            for _ in range(rng.randrange(3)):
+                yield "#elif " + expression(rng)
+                yield from lines(rng, name, later, depth + 1)
+            if rng.randrange(2):
+                yield "#else"
+                yield from lines(rng, name, later, depth + 1)
+            yield "#endif"
+        else:
+            yield f"{name[0]}_{rng.randrange(10**6)} C D E F;"
+
+
+def run_tree(arguments, directory):
+    command = [UNIFDEF_TREE, "-q", *arguments, "--", directory]
+    return subprocess.run(command, capture_output=True).returncode
+
+
+def compare_program(seed):
+    """Returns whether a program is right, what it is, and how many symbols were gone from it."""
+    rng = random.Random(seed)
+    names = ["main.c", "h1.h", "h2.h", "h3.h"]
+    files = {n: "\n".join(lines(rng, n, names[i + 1 :])) + "\n" for i, n in enumerate(names)}
+    # Arguments of both, and of the compiler alone.
+    options = [rng.choice([f"-U{n}", f"-D{n}={rng.randrange(4)}"]) for n in DECIDED]
+    others = [f"-D{n}={rng.randrange(4)}" for n in OTHERS if rng.randrange(2)]
+    gone = 0
+    for prune in ([], ["-p"]):
+        of = f"seed {seed}: {prune} {options}:"
+        with tempfile.TemporaryDirectory() as directory:
+            for name, text in files.items():
+                Path(directory, name).write_text(text, encoding="ascii")
+            main_file = f"{directory}/main.c"
+            before = selected(options + others, path=main_file)
+            if run_tree(prune + options, directory) == 2:
+                return "wrong", f"{of} a fault", gone
+            if selected(options + others, path=main_file) != before:
+                return "selected in another way", of, gone
+            if run_tree(prune + options, directory) != 0:
+                return "changed by a second run", of, gone
+            texts = "".join(it.read_text(encoding="ascii") for it in Path(directory).iterdir())
+            named = " ".join(CONDITION.findall(texts))
+            for i, name in enumerate(DECIDED):
+                if re.search(rf"\b{name}\b", named):
+                    continue
+                gone += 1
+                rest = options[:i] + options[i + 1 :] + others
+                for other in ([], [f"-D{name}=0"], [f"-D{name}=3"]):
+                    if selected(rest + other, path=main_file) != before:
+                        return "wrong", f"{of} {name} isn't gone", gone
+    return "right", "", gone
+
+
 def main():
-    _, jobs = parsed("Compares what a compiler selects before and after unifdef.")
+    programs = "random programs in place of files, 300 by default"
+    options, jobs = parsed("Compares what a compiler selects before and after.", programs=programs)
+    first, count = options.seed * 10**6, options.count or 300
     with multiprocessing.Pool() as pool:
-        sys.exit(report(pool.imap_unordered(compare, jobs, chunksize=16), "files")[1])
+        if options.programs:
+            results = pool.imap_unordered(compare_program, range(first, first + count), chunksize=8)
+            sums, status = report(results, "programs")
+            print(f"{sums[0]} times a symbol was gone")
+        else:
+            _, status = report(pool.imap_unordered(compare, jobs, chunksize=16), "files")
+    sys.exit(status)
 
 
 if __name__ == "__main__":
