@@ -1,8 +1,7 @@
 """Measures unifdef programs and `cat` in turns, and prints tables (README.md).
 
 compare.py WORK NAME=PROGRAM..: keeps texts and outputs in the directory WORK, and compares the
-others with the first program. The status is 1 if its memory isn't below MOST_KIB, on DEEP below
-MOST_DEEP_KIB.
+others with the first program, whose memory must be below MOST_KIB, and on DEEP below MOST_DEEP_KIB.
 """
 
 import hashlib

@@ -2,16 +2,10 @@
 """Compares the numbers that a compiler gives to lines of C before and after ./unifdef -n and -b.
 
 As in selects.py, but a word has `__LINE__` after it, and a third of the files gets carriage
-returns. Each line that the compiler selects of the output must have the number that it has in the
-input:
-
-- under -b;
-- under -n, unless the last `#line` before it is in a group that the compiler skips: the compiler
-  ignores that `#line` too;
-- under each of them, and with -c, if the conditional directives are taken out, so that the
-  compiler selects all groups.
-
-With --fixed the texts are those in this script. The status is 1 if a line differs.
+returns. Under -b, each selected line must have its number of the input. So it must under -n, unless
+the last `#line` before it is in a group that the compiler skips, and under both, also with -c, if
+the conditional directives are taken out. With --fixed the texts are those in this script. The
+status is 1 if a line differs.
 """
 
 import multiprocessing

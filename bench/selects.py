@@ -6,9 +6,8 @@ and every other line becomes one word. Some symbols are chosen at random for opt
 is left undefined or given a number. A text that the compiler (CC) rejects is left out, since some
 `#if` there has no value. A second run of `unifdef-tree -p` must change nothing.
 
-With --programs, each program is made from the seed: a file and some headers, which define and
-undefine names and include each other in sections. Two names are those of the options, and the
-source leaves them alone. A second run must change nothing. If no condition names a symbol of the
+With --programs, each seed gives a file and some headers, which define and undefine other names than
+those of the options, and include each other in sections. If no condition names a symbol of the
 options any more, the compiler must select the same without it, and with any other value.
 
 The status is 1 if something is selected in another way, or changed by a second run.

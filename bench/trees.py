@@ -1,9 +1,8 @@
 """Runs two unifdefs over the C files of a tree and compares what they print, byte for byte.
 
-trees.py PROGRAM RELEASED TREE ARGUMENT..: prints the numbers of files and bytes, for each program
-the faults by name, and how many files have the same output and status. The others are counted by
-class, which depends on the two outcomes alone; README.md has the causes. Files of class `other` are
-named.
+trees.py PROGRAM RELEASED TREE ARGUMENT..: prints the numbers of files and bytes, the faults of each
+program, and how many files have the same output and status. The others are counted by class, which
+depends on the outcomes alone (README.md has the causes). Files of class `other` are named.
 """
 
 import os

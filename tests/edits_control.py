@@ -2,11 +2,11 @@
 """Tries tools/edits.py on a crate with wrong and right edits (`make edits-test`).
 
 The wrong ones are to be refused. The right ones change the contract of a law, which stays true,
-or a body under its contract, also that of a caller of a function with a wrong edit. So each is to
-be proved, although all are checked together. Two edits are of bodies with an answer, which then
-fails: without it, one is refused, and one isn't decided, as its contract accepts the body. One edit
-doesn't compile, and nothing is proved or refused of a crate that has it. Three edits are of
-definitions of a crate below: one is refused there, one by the crate itself, and one is proved.
+or a body under its contract, also that of a caller of a function with a wrong edit. They are to be
+proved, although all are checked together. Two edits are of bodies with an answer, which then fails:
+without it, one is refused, and one isn't decided, as its contract accepts the body. One edit
+doesn't compile. Three are of definitions of a crate below: one is refused there, one by the crate
+itself, and one is proved.
 """
 import os
 import sys

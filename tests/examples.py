@@ -4,11 +4,10 @@
     tests/examples.py [PAGE ..]     README.md, docs/EXAMPLES.md, docs/LIBRARY.md and docs/unifdef.1
                                     by default
 
-An example of a page is a block that begins with ```console. A line that begins with "$ " is a
-command, further lines of which begin with "> ". The lines up to the next command are its output, on
-either stream. The commands of a block run in order, in a directory of their own with the
-programs. The rest of a block is left out if a command needs a tool that isn't there, or if the
-block begins with a header of the machine that is another one here.
+An example of a page is a block that begins with ```console: commands after "$ ", with further lines
+after "> ", and what each prints, on either stream. The commands run in order, in a directory of
+their own with the programs. The rest of a block is left out if a command needs a tool that isn't
+there, or if the block begins with a header of the machine that is another one here.
 
 Under OPTIONS of the manual, a line has the arguments, a colon, two spaces and the input; the line
 after it has "gives:", the status and, after two spaces, the output. Under EXAMPLES there are
@@ -16,8 +15,7 @@ commands, each of which changes its text.
 
 In docs/LIBRARY.md and the `///` and `//!` comments of all crates, the lines of a ```rust block must
 be consecutive lines of a source of crates/example_library, which is proved and run. Those of a
-```text block, or of one without a language, must be consecutive lines of its stdout. Indentation is
-ignored.
+```text block, or of one without a language, must be consecutive lines of its stdout.
 """
 import difflib
 import os

@@ -6,9 +6,9 @@
     tests/quick.py NAME ..       those of --all that have these names; RT is Rattle's command
 
 The program that tools/unproved.sh built runs each case without lines about its streams. The crate
-test_runner runs the others, whose streams are in memory; with --all it runs every case. Both stop
-at a bad index, an overflow and a bad access. What a task printed is shown only if it failed. No
-task is bounded by the clock, but one that hangs ends after an hour.
+test_runner runs the others over memory, and with --all every case. Both stop at a bad index, an
+overflow and a bad access. What a task printed is shown only if it failed. None is bounded by the
+clock, but one that hangs ends after an hour.
 """
 import concurrent.futures
 import os
