@@ -16,9 +16,7 @@ fail() {
 }
 
 # build NAME WORD..: builds a program with the archive under sanitizers.
-build() {
-  "${cc[@]}" "${flags[@]}" "${checked[@]}" -o "$work/$1" "${@:2}" lib/libunifdef.a
-}
+build() { "${cc[@]}" "${flags[@]}" "${checked[@]}" -o "$work/$1" "${@:2}" lib/libunifdef.a; }
 
 # The header alone, for C and for C++.
 for language in c:-std=c99 c++:-std=c++11; do

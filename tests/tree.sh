@@ -4,7 +4,7 @@
 #
 #   tests/tree.sh [SUBJECT|TEST ..]     all tests, those of tests/tree/SUBJECT.sh, or a function
 #
-# Each failed check is printed with its file and line.
+# Each failed check is printed with its file and line. patch and util-linux must be there.
 # shellcheck disable=SC2034 # Some names are for those files.
 source "$(dirname "$0")/checks.sh"
 needs ./unifdef ./unifdef-tree
@@ -146,11 +146,9 @@ can_trace() { has strace && strace -o /dev/null true 2> /dev/null; }
 traced() { under "$1" strace -f -o "$work/calls" -e trace="$2" -- "${@:3}"; }
 injected() {
   local how=(-e trace="${2%%:*}" -e inject="$2")
-  under "$1" "${by_default[@]}" strace -f -o /dev/null "${how[@]}" -- "${@:3}"
+  # What a shell in the background starts ignores some signals.
+  under "$1" env --default-signal strace -f -o /dev/null "${how[@]}" -- "${@:3}"
 }
-# A shell that was started in the background ignores some signals, and so does what it starts.
-by_default=(env --default-signal)
-"${by_default[@]}" true 2> /dev/null || by_default=()
 
 # in_directory DIRECTORY: runs the tests in a directory of its own below a directory.
 in_directory() {

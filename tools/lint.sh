@@ -44,12 +44,6 @@ scripts+=(packaging/completions/unifdef.bash tests/tree/*.sh)
 if has shellcheck; then
   try shellcheck "${scripts[@]}"
 fi
-for script in "${scripts[@]}"; do
-  case $(head -n 1 "$script") in
-    '#!/bin/sh') ! command -v dash > /dev/null || try dash -n "$script" ;;
-    *) try bash -n "$script" ;;
-  esac
-done
 mapfile -t modules < <(files -name '*.py' -print | sort)
 if has flake8; then
   try flake8 "${modules[@]}"

@@ -24,7 +24,6 @@ test_statuses() {
   check diff -r was src
   cp "$work/out" diff
   run 0 -x2 -DA -- src
-  has patch || return 0
   check patch -s -p1 -d was -i ../diff
   check diff -r was src
 }

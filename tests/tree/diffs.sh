@@ -43,7 +43,6 @@ applies() {
 # The diffs of -n turn each text into its output, and back. Each text has another trap for them.
 test_diffs() {
   local options
-  has patch || { left_out 'patch is not there: applying diffs'; return; }
   for options in -DA -UA '-b -DA' '-b -UA' '-c -UA' '-b -c -DA' '-l -UA' '-t -DA'; do
     fresh 'src/a name with spaces.c' $'src/tab\t, "quotes", back\\slash and\nnewline.c'
     put src/plain.c "a\\nb\\nc\\n${text}d\\n"
@@ -69,7 +68,6 @@ test_diffs() {
 # No path in a diff begins with ./, and one that begins or ends with a space is quoted.
 test_diff_paths() {
   local path
-  has patch || return 0
   fresh ' first.c' 'last.c ' src/x.c
   for path in . ./ ././ .//; do
     tree -n -q -DA -g '*' -- "$path"
@@ -110,11 +108,9 @@ test_undoes() {
   after '2 -d -DA src' is src/a.c 'yes\n'
   prints 0 grep -c linked.c
   cp "$work/out" "$work/diff"
-  if has patch; then
-    check same "$(grep -c '^--- ' "$work/diff")" 2
-    patch -s -R -p0 -i "$work/diff"
-    check diff -r "$work/was" src
-  fi
+  check same "$(grep -c '^--- ' "$work/diff")" 2
+  patch -s -R -p0 -i "$work/diff"
+  check diff -r "$work/was" src
   after 'any -n -DA src' check cmp "$work/out" "$work/diff"
   after 'any -n -d -DA src' check cmp "$work/out" "$work/diff"
   tree -w -d -q -DA src/linked.c
@@ -124,7 +120,6 @@ test_undoes() {
 
 # So it does for an absolute path, and for one that begins with ../.
 test_undoes_elsewhere() {
-  has patch || return 0
   anew tree -d -DA "$work/run/src"
   is src/a.c 'yes\n'
   patch -s -R -d / -p1 -i "$work/out"

@@ -51,10 +51,6 @@ test_links() {
 test_refusals() {
   local as=as_nobody
   is_root || as=run
-  if is_root && ! has setpriv; then
-    left_out 'setpriv is not there: files that refuse a user'
-    return
-  fi
   fresh src/unreadable.c src/locked.c
   mkdir src/sealed src/closed
   put src/{sealed,closed}/a.c "$text"
@@ -86,7 +82,7 @@ test_refusals() {
 
 # Rights to run as the owner go if the owner is another one.
 test_setuid() {
-  is_root && has setpriv || return 0
+  is_root || return 0
   fresh src/a.c
   chmod 6777 src/a.c
   chown 65534 src
@@ -99,11 +95,9 @@ test_locks() {
   local kind long taken='src/a.c: Another run is at it; if none is, remove src/.unifdef-tree.a.c'
   fresh src/a.c
   put src/.unifdef-tree.a.c 'left\n'
-  if has flock; then
-    under 2 flock src/.unifdef-tree.a.c -- -DA src
-    says "$taken"
-    is src/a.c "$text" and src/.unifdef-tree.a.c 'left\n'
-  fi
+  under 2 flock src/.unifdef-tree.a.c -- -DA src
+  says "$taken"
+  is src/a.c "$text" and src/.unifdef-tree.a.c 'left\n'
   after 'any -n -DA src' is src/.unifdef-tree.a.c 'left\n'
   ln src/.unifdef-tree.a.c linked
   after '1 -DA src' says_only '1 changed, 0 unchanged, 0 faulty' '4 lines removed'
@@ -141,7 +135,6 @@ test_unrenamed() {
   else
     left_out 'files cannot be mounted here'
   fi
-  has setpriv || return 0
   fresh src/a.c
   chmod 666 src/a.c
   chmod 1777 src

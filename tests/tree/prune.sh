@@ -33,12 +33,10 @@ test_pruned_files() {
   cp "$work/out" diff
   after 'any -d -p -UVMS src' check cmp "$work/out" diff
   is src/a.c "$pruned"
-  if has patch; then
-    patch -s -R -p0 -i diff
-    check diff -r was src
-    patch -s -p0 -i diff
-    is src/a.c "$pruned"
-  fi
+  patch -s -R -p0 -i diff
+  check diff -r was src
+  patch -s -p0 -i diff
+  is src/a.c "$pruned"
   for words in -b -l; do
     prunes "$unpruned" "$words -UVMS" "$pruned\\n\\n\\n"
   done

@@ -66,7 +66,6 @@ counted() { grep -o 'unifdef-tree: [0-9]* of .* files' | tr '\r' '\n'; }
 
 test_counter() {
   local words none='unifdef-tree: 0 changed, 100 unchanged, 0 faulty'
-  has script || return 0
   alone src/{1..100}.c "$text"
   on_terminal '-DA src'
   prints $'unifdef-tree: 0 of 100 files \nunifdef-tree: 64 of 100 files' counted
@@ -85,7 +84,6 @@ test_counter() {
 # Removed lines are red, added ones green, and the head is cyan.
 test_colours() {
   local esc=$'\x1b' plain
-  has script || return 0
   fresh src/a.c
   after 'any -n -q -UA src' prints 0 grep -c "$esc"
   plain=$(cat "$work/out")
