@@ -6,7 +6,6 @@ others with the first program, whose memory must be below MOST_KIB, and on DEEP 
 
 import hashlib
 import os
-import re
 import shutil
 import statistics
 import sys
@@ -26,7 +25,6 @@ COUNTED_BYTES = min(BYTES // 10, 1_000_000)
 EMPTY_LINES = 20_000_000
 MOST_KIB, MOST_DEEP_KIB = 2048, 3072
 NOWHERE = Path(os.devnull)
-CONDITIONAL = re.compile(rb"^[ \t]*#[ \t]*(?:if|ifn?def|el(?:if|ifn?def|se)|endif)\b", re.MULTILINE)
 
 # Numbers of symbols with the options under which each text is measured.
 ROWS = {
@@ -97,14 +95,6 @@ def best(case, programs, output):
     return times, outputs
 
 
-def contents(measures):
-    heading("Lines for one conditional", "text", "lines", "for one")
-    for path in dict.fromkeys(case.text for case in measures):
-        text = path.read_bytes()
-        lines, found = text.count(b"\n"), len(CONDITIONAL.findall(text))
-        row(path.name, f"{lines:,}", f"{lines / found:,.0f}" if found else "none")
-
-
 def speeds(measures, programs, title, output):
     columns = [f"{it} MB/s" for it in (*programs, "cat")]
     columns += ["output"] if output != NOWHERE else []
@@ -170,7 +160,6 @@ def memory(measures, programs, work):
 def main():
     work, programs = Path(sys.argv[1]), dict(argument.split("=", 1) for argument in sys.argv[2:])
     measures = list(cases(work, programs))
-    contents(measures)
     speeds(measures, programs, "Speed, with the output in a file", work / "output")
     speeds(measures, programs, "Speed, with the output going nowhere", NOWHERE)
     instructions(measures, programs)

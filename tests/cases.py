@@ -9,6 +9,7 @@ streams is left out, since these need a reader and a writer over memory.
 """
 
 import argparse
+import getopt
 import os
 import re
 import subprocess
@@ -120,30 +121,18 @@ def cases_in(names: Iterable[Path] = (DATA,)) -> Iterator[Case]:
             yield read(Path(os.path.relpath(path)))
 
 
-def operand_of(arguments: list[str]) -> Optional[str]:
-    """Returns the first operand: the first word that is no option and no argument of one."""
-    words = iter(arguments)
-    for word in words:
-        if word == "--":
-            return next(words, None)
-        if word == "-" or not word.startswith("-"):
-            return word
-        if re.fullmatch(r"-[^DUix]*[DUix]", word):
-            next(words, None)
-    return None
-
-
 def run(program: Path, case: Case) -> Answer:
     """Runs a program on the input of a case: its standard input, or the file of its operand."""
-    operand = operand_of(case.arguments)
+    try:
+        operands = getopt.getopt(case.arguments, "bcD:i:KklnSstU:x:")[1]
+    except getopt.GetoptError:
+        operands = []  # No input is read then.
+    how = {"capture_output": True, "timeout": HANG, "input": case.input}
     with tempfile.TemporaryDirectory() as directory:
-        given = case.input
-        if operand not in (None, "", "-"):
-            (Path(directory) / operand).write_bytes(case.input)
-            given = b""
-        command = [str(program), *case.arguments]
-        how = {"capture_output": True, "cwd": directory, "timeout": HANG}
-        done = subprocess.run(command, input=given, **how)
+        if operands and operands[0] not in ("", "-"):
+            Path(directory, operands[0]).write_bytes(case.input)
+            how["input"] = b""
+        done = subprocess.run([str(program), *case.arguments], cwd=directory, **how)
     return Answer(done.stdout, done.stderr, done.returncode)
 
 
