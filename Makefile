@@ -323,11 +323,15 @@ selects: unifdef unifdef-tree
 lines: unifdef
 	bench/lines.py $(LINE_OPTIONS)
 
+# Each process takes ranges of cases in turn, so that none waits long for the others.
 ## compares the library with its reference on N hostile
-## texts; bench/hostile.sh has SEED, JOBS and CHECKS
+## texts from SEED on, in JOBS processes; CHECKS=options
+## tries what users of options may rely on
 hostile: kit
 	cd crates/test_runner && $(RT) run -- hostile 0 1 < /dev/null > /dev/null
-	N='$(N)' SEED='$(SEED)' JOBS='$(JOBS)' CHECKS='$(CHECKS)' bench/hostile.sh
+	seed=$(or $(SEED),0) cases=$(or $(N),100000) jobs=$(or $(JOBS),$$(nproc)); \
+	block=$$((cases / (jobs * 8) + 1)); seq $$seed $$block $$((seed + cases - 1)) | \
+	  xargs -P $$jobs -I{} crates/test_runner/out/test_runner hostile {} $$block $(CHECKS)
 
 ## the same for ./unifdef on parts of N real files
 fronts: unifdef
