@@ -43,6 +43,12 @@ holds() {
   done
 }
 
+# makes FILE TEXT STATUS ARGUMENT..: what a run must make of a file, without output.
+makes() {
+  gives "$3" '' "${@:4}"
+  holds "$1" "$2"
+}
+
 # listed: prints what a run may change of the files.
 listed() { find . -mindepth 1 -printf '%p %i %m %s %t\n' | sort; }
 
@@ -69,19 +75,15 @@ decides() {
 clients() {
   # WebKit's generate-api-header.py: the text comes by a pipe, and the status is 0 if it changed.
   fresh
-  gives 0 '' -DA -UB -x1 -oout.h -
-  holds out.h a
-  gives 1 '' -DQ -x1 -oout.h -
-  holds out.h "$(cat in.c)"
+  makes out.h a 0 -DA -UB -x1 -oout.h -
+  makes out.h "$(cat in.c)" 1 -DQ -x1 -oout.h -
   # C-Vise and C-Reduce: the file of -o is there, or is the input.
   fresh
   printf '\n#if 0\nz\n#endif\n' >> in.c
   gives 0 A -s in.c
   echo old > old.c
-  gives 0 '' -B -x 2 -UA -o old.c in.c
-  holds old.c $'b\n\n#if 0\nz\n#endif'
-  gives 0 '' -B -x 2 -k -o in.c in.c
-  holds in.c $'#ifdef A\na\n#else\nb\n#endif'
+  makes old.c $'b\n\n#if 0\nz\n#endif' 0 -B -x 2 -UA -o old.c in.c
+  makes in.c $'#ifdef A\na\n#else\nb\n#endif' 0 -B -x 2 -k -o in.c in.c
   gives 1 '' -B -x 0 -DA -o in.c in.c
   # unifdefall: later options override those of a header.
   fresh
@@ -101,8 +103,7 @@ options() {
   gives 1 '' -m -DA a.c same.c c.c
   holds a.c a same.c x c.c a
   fresh
-  gives 0 '' a.c -x1 -m same.c -DA
-  holds a.c a
+  makes a.c a 0 a.c -x1 -m same.c -DA
   fresh
   gives 1 '' -x1 -m same.c
   gives 0 '' -m same.c
@@ -115,8 +116,7 @@ options() {
   gives 1 '' -bM .bak -DA a.c same.c
   holds a.c $'\na' a.c.bak "$(cat in.c)" same.c.bak x c.c "$(cat in.c)"
   in_shell 'the modes of -M' same "$(stat -c %a a.c a.c.bak)" $'640\n640'
-  gives 1 '' -M '' -DA c.c
-  holds c.c a
+  makes c.c a 1 -M '' -DA c.c
   in_shell 'an empty suffix' test ! -e c.c.bak
   # Standard input and output, and what is no regular file.
   fresh
@@ -145,20 +145,16 @@ options() {
   in_shell 'the mode of a new file' same "$(stat -c %a private; cat private)" $'600\na'
   # Letters with their words attached or apart.
   fresh
-  gives 0 '' -x2 -DA -oout.c a.c
-  holds out.c a
-  gives 0 '' -Bx 2 -o out.c -UA a.c
-  holds out.c b
+  makes out.c a 0 -x2 -DA -oout.c a.c
+  makes out.c b 0 -Bx 2 -o out.c -UA a.c
   gives 1 '' -m -DA a.c c.c
   holds a.c a c.c a
   # Bytes of a name and of a value, and words that begin with a hyphen.
   fresh
   local odd=$'-n a\n\'"$(x)`y`\\*'
   cp in.c "./$odd"
-  gives 1 '' -m -DA -- "$odd"
-  holds "./$odd" a
-  gives 1 '' "-o$odd" -UA in.c
-  holds "./$odd" b
+  makes "./$odd" a 1 -m -DA -- "$odd"
+  makes "./$odd" b 1 "-o$odd" -UA in.c
   gives 1 a -D "A=\$(x) \"'*" in.c
   gives 1 b -U A -i DB=1 -iUC in.c
   in_shell 'the files that are left' same "$(ls -A)" "$odd"$'\na.c\nbad.c\nc.c\nin.c\nsame.c'
