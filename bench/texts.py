@@ -68,7 +68,6 @@ def conditionals(limit, symbols):
     """Returns conditionals alone, 16 bytes a line, over twice as many names as options."""
     rng = random.Random(symbols)
     form = "#ifdef {}\n#if {} > 1 && {}\n#elif !defined({})\n#endif\n#else\n#endif\n"
-
     names = (f"NAME_{rng.randrange(2 * symbols):04}" for _ in range(limit // 94 * 4))
     return "".join(form.format(*it) for it in zip(names, names, names, names)).encode()
 
