@@ -67,40 +67,38 @@ def skipped(arguments, text):
 
 
 def first_difference(expected, found, excused=()):
-    """Returns the first difference in words, if there is one, and the number of excused ones."""
-    if [w for w, _ in expected] != [w for w, _ in found]:
-        return "selected in another way", 0
-    wrong = [(*was, now) for was, (_, now) in zip(expected, found) if was[1] != now]
-    for word, number, other in wrong:
-        if word not in excused:
-            return f"{word.decode()}: numbered {other.decode()} in place of {number.decode()}", 0
-    return None, len(wrong)
+    """Returns the first difference in words, if there is one."""
+    if [word for word, _ in expected] != [word for word, _ in found]:
+        return "selected in another way"
+    for (word, number), (_, other) in zip(expected, found):
+        if number != other and word not in excused:
+            return f"{word.decode()}: numbered {other.decode()} in place of {number.decode()}"
+    return None
 
 
 def check(options, arguments, source):
-    """Returns what happened, the first difference, and how many lines were compared and excused."""
+    """Returns what happened, the first difference, and how many lines were compared."""
     before, all_before = numbers(arguments, source), numbers([], taken(source))
     if before is None:
-        return "rejected by the compiler", None, 0, 0
+        return "rejected by the compiler", None, 0
     of_word = dict(all_before)
-    compared, excused, changed = 0, 0, False
+    compared, changed = 0, False
     for flags in (["-b"], ["-n"], ["-c", "-b"], ["-c", "-n"]):
         run = subprocess.run([UNIFDEF, *options, *flags], input=source, capture_output=True)
         if run.returncode == 2:
-            return "faulty", None, 0, 0
+            return "faulty", None, 0
         after = numbers([], taken(run.stdout))
         all_after = [(word, of_word.get(word, b"?")) for word, _ in after]
-        difference, _ = first_difference(all_after, after)
+        difference = first_difference(all_after, after)
         compared += len(after)
         if difference is None and "-c" not in flags:
             changed = changed or run.returncode == 1
             lost = skipped(arguments, run.stdout) if "-n" in flags else ()
-            difference, count = first_difference(before, numbers(arguments, run.stdout), lost)
+            difference = first_difference(before, numbers(arguments, run.stdout), lost)
             compared += len(before)
-            excused += count
         if difference is not None:
-            return "numbered in another way", f"{' '.join(flags)}: {difference}", compared, excused
-    return ("changed" if changed else "left as they are"), None, compared, excused
+            return "numbered in another way", f"{' '.join(flags)}: {difference}", compared
+    return ("changed" if changed else "left as they are"), None, compared
 
 
 def compare(job):
@@ -112,8 +110,8 @@ def compare(job):
     if rng.randrange(3) == 0:
         source = source.replace(b"\n", b"\r\n")
     options, arguments = chosen(conditions, rng)
-    how, difference, *counts = check(options, arguments, source)
-    return how, f"{path}, seed {seed}: {shown(options)}: {difference}", *counts
+    how, difference, compared = check(options, arguments, source)
+    return how, f"{path}, seed {seed}: {shown(options)}: {difference}", compared
 
 
 def compare_fixed():
@@ -123,15 +121,8 @@ def compare_fixed():
         symbols = options.split()
         for world in ([], ["-DX"], ["-DX", "-DY"]):
             arguments = [o for o in symbols if o.startswith("-D")] + world
-            how, difference, *counts = check(symbols, arguments, source)
-            yield how, f"{options} {' '.join(world)}: {text!r}: {difference}", *counts
-
-
-def tell(results, what):
-    sums, status = report(results, what)
-    other = "have another number after a #line that the compiler skips"
-    print(f"{sums[0]} lines compared; {sums[1]} {other}")
-    sys.exit(status)
+            how, difference, compared = check(symbols, arguments, source)
+            yield how, f"{options} {' '.join(world)}: {text!r}: {difference}", compared
 
 
 def main():
@@ -139,10 +130,12 @@ def main():
     options, jobs = parsed("Compares the numbers of lines before and after -n and -b.", fixed=fixed)
     if options.fixed and not shutil.which(CC):
         sys.exit(print(f"lines: left out, since {CC} is not there"))
-    if options.fixed:
-        tell(compare_fixed(), "texts")
     with multiprocessing.Pool() as pool:
-        tell(pool.imap_unordered(compare, jobs, chunksize=16), "files")
+        results = pool.imap_unordered(compare, [] if options.fixed else jobs, chunksize=16)
+        results = compare_fixed() if options.fixed else results
+        sums, status = report(results, "texts" if options.fixed else "files")
+    print(f"{sums[0]} lines compared")
+    sys.exit(status)
 
 
 if __name__ == "__main__":
