@@ -21,8 +21,6 @@ unformatted() {
   rm -rf "$copy"
 }
 
-wide() { mandoc -T ascii "$1" | sed 's/.\x08//g' | awk 'length > 80'; }
-
 # finds WHAT TEXT: a text of findings must be empty.
 finds() {
   [ -z "$2" ] && return
@@ -36,18 +34,14 @@ if has mandoc; then
   finds mandoc "$(mandoc -T lint -W style docs/*.[13] 2>&1 |
     grep -v -e 'referenced manual not found' -e 'outdated mandoc.db')"
   for manual in docs/*.[13]; do
-    finds "$manual: more than 80 columns" "$(wide "$manual")"
+    finds "$manual" "$(mandoc -T ascii "$manual" | sed 's/.\x08//g' | awk 'length > 80')"
   done
 fi
 mapfile -t scripts < <(files -exec grep -lE '^#!.*[/ ](sh|bash)$' {} + | sort)
 scripts+=(packaging/completions/unifdef.bash tests/tree/*.sh)
-if has shellcheck; then
-  try shellcheck "${scripts[@]}"
-fi
+! has shellcheck || try shellcheck "${scripts[@]}"
 mapfile -t modules < <(files -name '*.py' -print | sort)
-if has flake8; then
-  try flake8 "${modules[@]}"
-fi
+! has flake8 || try flake8 "${modules[@]}"
 if has codespell; then
   # The others are words of Rust and of mandoc, and parts of names.
   finds codespell "$(codespell -q 3 -S 'out,data,*.svg,*.edit' \
@@ -57,9 +51,7 @@ try python3 tools/style.py
 try python3 tools/names.py
 try python3 tools/reading.py --check docs/PROVED.md
 try python3 tools/edits.py --read
-if has "$rt"; then
-  finds 'not as rt fmt has it' "$(unformatted)"
-fi
+! has "$rt" || finds 'not as rt fmt has it' "$(unformatted)"
 [ "$result" -ne 0 ] ||
   echo "manuals: ${#scripts[@]} scripts, ${#modules[@]} files of Python and all pages are in order"
 exit "$result"

@@ -38,11 +38,8 @@ test_full_disk() {
 
 # deep KIND N: prints an operand A in N bytes of parentheses or operators, which is A again.
 deep() {
-  case $1 in
-    '(A)') printf '%sA%s' "$(repeat '(' $(($2 / 2)))" "$(repeat ')' $(($2 / 2)))" ;;
-    '!A') printf '%sA' "$(repeat '!' "$2")" ;;
-    '- A') printf '%sA' "$(repeat '- ' $(($2 / 2)))" ;;
-  esac
+  local count=$(($2 / (${#1} - 1)))
+  printf '%sA%s' "$(repeat "${1%A*}" "$count")" "$(repeat "${1#*A}" "$count")"
 }
 
 # The deepest conditions with the stack that the manual names.
