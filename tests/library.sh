@@ -115,7 +115,6 @@ awk '/^\.Bd/ { n++; next } /^\.Ed/ { n += n > 1 } n == 2' "$work/examples" > "$w
 build example "$work/example.c"
 "$work/example" | diff -u "$work/wanted" - || fail 'the example of unifdef(3) prints this'
 
-needs python3
 export UNIFDEF_LIBRARY=$PWD/lib/libunifdef.so.1 PYTHONDONTWRITEBYTECODE=1
 (cd lib/python && python3 -m unifdef --test)
 if has mypy; then

@@ -68,24 +68,22 @@ if has pkg-config; then
   check 'install-lib: odd flags' same "<-I$odd/include><-L$odd/lib><-lunifdef>" \
     "$(eval "printf '<%s>' $(pkg-config --cflags --libs unifdef)")"
 fi
-if has python3; then
-  check 'install-lib: Python' same "[b'A', b'B']" "$(LD_LIBRARY_PATH=$prefix/lib \
-    PYTHONPATH=$prefix/lib/python3/dist-packages python3 -Bc "$names_in")"
-  in_path() { python3 -c 'import sys; sys.exit(sys.argv[1] not in sys.path)' "$1"; }
-  python_prefix=$(python3 -c 'import sys; print(sys.prefix)')
-  for it in "$python_prefix" "$python_prefix/"; do
-    check 'install-lib: where Python looks' in_path "$(packaging/pythondir.sh "$it")"
-  done
-  # python3 looks in the directory of a user if it is there.
-  export PYTHONUSERBASE=$work/user
-  mkdir -p "$(python3 -c 'import site; print(site.getusersitepackages())')"
-  if [ "$(python3 -c 'import site; print(site.ENABLE_USER_SITE)')" = True ]; then
-    check 'install-lib: where Python looks for a user' \
-      in_path "$(packaging/pythondir.sh "$PYTHONUSERBASE")"
-  fi
-  unset PYTHONUSERBASE
-  in_an_environment "$prefix/lib"
+check 'install-lib: Python' same "[b'A', b'B']" "$(LD_LIBRARY_PATH=$prefix/lib \
+  PYTHONPATH=$prefix/lib/python3/dist-packages python3 -Bc "$names_in")"
+in_path() { python3 -c 'import sys; sys.exit(sys.argv[1] not in sys.path)' "$1"; }
+python_prefix=$(python3 -c 'import sys; print(sys.prefix)')
+for it in "$python_prefix" "$python_prefix/"; do
+  check 'install-lib: where Python looks' in_path "$(packaging/pythondir.sh "$it")"
+done
+# python3 looks in the directory of a user if it is there.
+export PYTHONUSERBASE=$work/user
+mkdir -p "$(python3 -c 'import site; print(site.getusersitepackages())')"
+if [ "$(python3 -c 'import site; print(site.ENABLE_USER_SITE)')" = True ]; then
+  check 'install-lib: where Python looks for a user' \
+    in_path "$(packaging/pythondir.sh "$PYTHONUSERBASE")"
 fi
+unset PYTHONUSERBASE
+in_an_environment "$prefix/lib"
 rm -f "$work/refreshed"
 touch "$prefix/lib/libunifdef.so.0"
 check uninstall-lib make_lib uninstall-lib PREFIX="$prefix"
@@ -161,12 +159,10 @@ if has pkg-config; then
   check 'C: builds' built_by "$example"
   check 'C: runs' same "$(filtered "$root/$directory")" x
 fi
-if has python3; then
-  module=$root/usr/lib/python3/dist-packages
-  check 'Python: runs' same "[b'A', b'B']" "$(LD_LIBRARY_PATH=$root/$directory PYTHONPATH=$module \
-    PYTHONDONTWRITEBYTECODE='' PYTHONPYCACHEPREFIX='' python3 -c "$names_in")"
-  check 'Python: is compiled' test -e "$module/unifdef/__pycache__"
-fi
+module=$root/usr/lib/python3/dist-packages
+check 'Python: runs' same "[b'A', b'B']" "$(LD_LIBRARY_PATH=$root/$directory PYTHONPATH=$module \
+  PYTHONDONTWRITEBYTECODE='' PYTHONPYCACHEPREFIX='' python3 -c "$names_in")"
+check 'Python: is compiled' test -e "$module/unifdef/__pycache__"
 check 'goes away' in_root --purge python3-unifdef libunifdef-dev libunifdef1
 check 'leaves no module' test ! -e "$root/usr/lib/python3/dist-packages/unifdef"
 check 'leaves nothing' same "$(files_in "$root" -type f ! -path "$root/var/*")" ''

@@ -53,7 +53,7 @@ ln -s "$(type -P true)" "$kit"
 named() { "$make" -n -W HANDLES unifdef RT="$1" | sed -n "s/.*RT='\(.*\)' tools.*/\1/p"; }
 said_after() { unshare -m sh -c "$1 && cd '$here' && $2" 2>&1 | head -n 1; }
 check 'RT by a relative path' same "$(named "$(realpath -s --relative-to=. "$kit")")" "$kit"
-if unshare -m true 2> /dev/null && has python3; then
+if unshare -m true 2> /dev/null; then
   check 'a read-only directory' same "make: $here cannot be written: build in a copy of it" \
     "$(said_after 'mount --bind -o ro . .' "$make -s kit RT=$kit")"
   check 'no /proc' same 'unproved: /proc is not mounted, where the program is found while it runs' \

@@ -54,11 +54,9 @@ check 'unpacks' tar -C "$work/unpacked" -xzf "unifdef-$version-linux-x86_64.tar.
 echo "$text" > "$work/a.c"
 check 'unifdef' same "$("$directory/bin/unifdef" -DA "$work/a.c"; echo $?)" $'x\n1'
 check 'unifdef-tree' same "$("$directory/bin/unifdef-tree" -q -DA "$work/a.c"; cat "$work/a.c")" x
-if has python3; then
-  check 'Python' same "$version" "$(PYTHONPATH=$directory/share/unifdef/python \
-    LD_LIBRARY_PATH=$directory/lib python3 -Bc \
-    'import unifdef; print(*unifdef.version(), sep=".")')"
-fi
+check 'Python' same "$version" "$(PYTHONPATH=$directory/share/unifdef/python \
+  LD_LIBRARY_PATH=$directory/lib python3 -Bc \
+  'import unifdef; print(*unifdef.version(), sep=".")')"
 
 # built WORD..: builds a C program by these words, and runs it.
 built() {
