@@ -63,13 +63,11 @@ built() {
   "${cc[@]}" -o "$work/filter" "$first/lib/examples/filter.c" "$@" &&
     same "$(LD_LIBRARY_PATH=$directory/lib "$work/filter" -DA <<< "$text")" x
 }
-if has "${cc[0]}"; then
-  check 'C, with the archive' built -I "$directory/include" "$directory/lib/libunifdef.a"
-  if has pkg-config; then
-    export PKG_CONFIG_PATH=$directory/lib/pkgconfig
-    read -ra flags <<< "$(pkg-config --define-prefix --cflags --libs unifdef)"
-    check 'C, by pkg-config' same "${flags[*]}" "-I$directory/include -L$directory/lib -lunifdef"
-    check 'C, with the shared library' built "${flags[@]}"
-  fi
+check 'C, with the archive' built -I "$directory/include" "$directory/lib/libunifdef.a"
+if has pkg-config; then
+  export PKG_CONFIG_PATH=$directory/lib/pkgconfig
+  read -ra flags <<< "$(pkg-config --define-prefix --cflags --libs unifdef)"
+  check 'C, by pkg-config' same "${flags[*]}" "-I$directory/include -L$directory/lib -lunifdef"
+  check 'C, with the shared library' built "${flags[@]}"
 fi
 finish
