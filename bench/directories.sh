@@ -2,16 +2,15 @@
 # Measures the processor time of ./unifdef-tree over a directory, beside programs that read the same
 # files, by hyperfine. README.md in this directory describes it. No run changes a file.
 #
-# directories.sh [DIRECTORY]: copies of the machine's headers by default. BENCH_COPIES: the number
-# of copies. BENCH_HEADERS: the directory of the headers. BENCH_RUNS: the number of runs.
+# BENCH_HEADERS: a directory, of which there are seven copies. BENCH_RUNS: the number of runs.
 source "$(dirname "$0")/common.sh"
 program=$top/unifdef-tree
 needs "$program" hyperfine
 mkdir "$work/headers"
-for n in $([ $# -gt 0 ] || seq "${BENCH_COPIES:-7}"); do
+for n in {1..7}; do
   cp -r "${BENCH_HEADERS:-/usr/include}" "$work/headers/$n"
 done
-cd "${1:-$work/headers}"
+cd "$work/headers"
 # A name that no file has, so that nothing changes, and one that most headers have.
 nowhere=-UNOFILEHASIT common=-U__cplusplus cat='find . -type f -exec cat {} +'
 commands=()

@@ -94,19 +94,6 @@ fi
 "${cc[@]}" "${flags[@]}" -O2 -o "$work/shared" lib/examples/filter.c -Llib -lunifdef
 [ "$(printf '#ifdef A\nx\n#endif\n' | LD_LIBRARY_PATH=lib "$work/shared" -DA)" = x ]
 
-# The deepest inputs with a stack of 1 MiB must give what they give with a large one.
-run_shared() { LD_LIBRARY_PATH=lib "$work/shared" "$1" < "$input" 2>&1 || echo "status $?"; }
-mkdir "$work/deep"
-for kind in $(deep); do
-  input=$work/deep/$kind
-  deep "$kind" > "$input"
-  for words in -DA -kUA -SDA; do
-    run_shared "$words" > "$work/wanted"
-    (ulimit -s 1024; run_shared "$words") | cmp - "$work/wanted" ||
-      fail "the filter needs a larger stack for $kind under $words"
-  done
-done
-
 # The example of the manual, and what it prints.
 sed -n '/^\.Sh EXAMPLES/,/^\.Sh ERRORS/p' docs/unifdef.3 | sed 's/\\e/\\/g' > "$work/examples"
 awk '/^\.Bd/ { n++; next } /^\.Ed/ { next } n == 1 && !/^\./' "$work/examples" | sed '/^}$/q' \
@@ -122,4 +109,8 @@ if has mypy; then
 else
   left_out mypy
 fi
+mkdir "$work/deep"
+for kind in $(deep); do
+  deep "$kind" > "$work/deep/$kind"
+done
 tests/library.py "$work/deep" "${filters[@]}"

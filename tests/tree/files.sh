@@ -170,18 +170,19 @@ test_overlay() {
 
 # A run in place over real headers is like unifdef on each file.
 test_real_headers() {
-  local name ended differ=0
+  local name changed=0
   [ -d /usr/include/linux ] || return 0
   fresh
   cp -rL /usr/include/linux src
-  cp -r src was
+  cp -r src wanted
   tree -q -g '*' -D__KERNEL__ -U__cplusplus -- src
   while IFS= read -r name; do
-    ended=0
-    "$UNIFDEF" -D__KERNEL__ -U__cplusplus "was/${name#src/}" > "$work/out" 2> /dev/null || ended=$?
-    [ "$ended" -lt 2 ] || cp "was/${name#src/}" "$work/out"
-    cmp -s "$work/out" "$name" || differ=$((differ + 1))
-  done < <(find src -type f)
-  check same "$differ" 0
-  check test "$(diff -rq was src | wc -l)" -gt 0
+    "$UNIFDEF" -D__KERNEL__ -U__cplusplus "$name" > "$work/out" 2> /dev/null
+    if [ "$?" -eq 1 ]; then
+      changed=$((changed + 1))
+      cp "$work/out" "$name"
+    fi
+  done < <(find wanted -type f)
+  check diff -r wanted src
+  check test "$changed" -gt 0
 }
