@@ -151,8 +151,7 @@ def memory(measures, programs, work):
         most = max(most, held[0])
         row(case.name, *[f"{kib:,}" for kib in held])
     (work / "deep").write_bytes(DEEP)
-    first = next(iter(programs.values()))
-    deep = peak([first, *texts.c_words(1000)], work / "deep")
+    deep = peak([next(iter(programs.values())), *texts.c_words(1000)], work / "deep")
     row("an `#if` of 65,536 bytes, 1,000 symbols", f"{deep:,}", *[""] * len(programs))
     return most, deep
 

@@ -75,8 +75,7 @@ def main():
     program, reference, tree = sys.argv[1:4]
     cases, seed = map(int, sys.argv[4:6])
     paths = [it for it in sorted(Path(tree).rglob("*")) if it.is_file() and not it.is_symlink()]
-    seeds = range(seed, seed + cases)
-    todo = [(paths[it % len(paths)], it, program, reference) for it in seeds]
+    todo = [(paths[it % len(paths)], it, program, reference) for it in range(seed, seed + cases)]
     with ThreadPoolExecutor(os.cpu_count()) as pool:
         sys.exit(report(pool.map(compare, todo), f"cases of {len(paths)} files")[1])
 

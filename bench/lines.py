@@ -88,8 +88,7 @@ def check(options, arguments, source):
         if run.returncode == 2:
             return "faulty", None, 0
         after = numbers([], taken(run.stdout))
-        all_after = [(word, of_word.get(word, b"?")) for word, _ in after]
-        difference = first_difference(all_after, after)
+        difference = first_difference([(word, of_word.get(word, b"?")) for word, _ in after], after)
         compared += len(after)
         if difference is None and "-c" not in flags:
             changed = changed or run.returncode == 1

@@ -186,8 +186,7 @@ def main():
         write(f"{lower}/specs/Steps.antt", STEPS)
         write(f"{crate}/src/lib.rt", SOURCE)
         for name, divisor in {"half": 2, "third": 3}.items():
-            answers = ANSWERS.format(name=name, divisor=divisor)
-            write(f"{crate}/proofs/{name}/Answers.antt", answers)
+            write(f"{crate}/proofs/{name}/Answers.antt", ANSWERS.format(name=name, divisor=divisor))
         write_edits(f"{crate}/must-fail", EDITS)
         write_edits(f"{crate}/must-fail", EDITS_BELOW, "../lower/specs/Steps.antt")
         write_edits(f"{crate}/must-fail-second", UNREADABLE)

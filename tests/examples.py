@@ -116,8 +116,7 @@ def run_manual(examples):
                 # The status is 0 if the pipe ends with another program.
                 status = int(command.rpartition("| ")[2].startswith("unifdef "))
                 done = run_in_bash(command, top, top, **BOTH)
-                found = f"{done.returncode} {done.stdout}"
-                examples.compare(command, f"{status} {wanted}", found)
+                examples.compare(command, f"{status} {wanted}", f"{done.returncode} {done.stdout}")
     return examples.told() and count > 10 and examples.right > count
 
 
@@ -153,8 +152,7 @@ def main():
     for it in ("unifdef", "unifdef-tree"):
         if not os.access(TOP / it, os.X_OK):
             return f"examples: {it} is not there: run make {it}"
-    found = [KINDS.get(it, run_page)(Examples(it)) for it in sys.argv[1:] or PAGES]
-    return 0 if all(found) else 1
+    return 0 if all([KINDS.get(it, run_page)(Examples(it)) for it in sys.argv[1:] or PAGES]) else 1
 
 
 sys.exit(main())

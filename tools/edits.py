@@ -225,8 +225,7 @@ def owners_of(line, every):
     """Returns the path and name of functions that a line calls unproved. None if it's no error."""
     at, answer, owners = OBLIGATION.match(line), ANSWER.match(line), []
     if at:
-        number = int(at[2])
-        owners = [it for it in every if it.path == at[1] and it.first <= number <= it.last][-1:]
+        owners = [it for it in every if it.path == at[1] and it.first <= int(at[2]) <= it.last][-1:]
     elif answer:
         # MODULE/TYPE/NAME or MODULE/NAME. The module is the type's, if it has another one, and none
         # for the root of the crate.

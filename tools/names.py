@@ -135,8 +135,7 @@ def unlisted_messages(tree):
     """Yields each part of a message of the program that the manual doesn't have."""
     listed = text_of("docs/unifdef.1").partition("\n.Sh DIAGNOSTICS\n")[2].partition("\n.Sh ")[0]
     for path in filter(re.compile(r"crates/unifdef(_cli)?/src/.*\.rt").fullmatch, tree.files):
-        source = without_comments(path, text_of(path))
-        for literal in re.findall(r'"((?:[^"\\]|\\.)*)"', source):
+        for literal in re.findall(r'"((?:[^"\\]|\\.)*)"', without_comments(path, text_of(path))):
             for part in re.split(r"\{\w+\}|\\n", literal):
                 if part.strip(": ") not in listed:
                     yield f"docs/unifdef.1: no message '{part.strip(': ')}' of {path}"

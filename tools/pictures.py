@@ -64,8 +64,7 @@ def draw_header(file):
     for row, (words, left) in enumerate(zip(before, in_place)):
         y, gone = top + line * row, words and not left
         if words != left:
-            shade = "removed" if gone else "edited"
-            drawn.append(rect(6, y, width - 6, line, f'class="{shade}"'))
+            drawn.append(rect(6, y, width - 6, line, f'class="{"removed" if gone else "edited"}"'))
         drawn.append(text(12, y + 13, words, GONE if gone else ""))
     edited = [left for words, left in zip(before, in_place) if left not in ("", words)]
     for row, words in enumerate(after):
