@@ -13,19 +13,26 @@ name=unifdef-tree TREE=$here/unifdef-tree UNIFDEF=$here/unifdef first=$work moun
 subjects=(names files patterns arguments lists symbols prune squeeze diffs limits streams calls races)
 text='#ifdef A\nyes\n#else\nno\n#endif\n'
 
-# check COMMAND..: the command must succeed.
+# check COMMAND..: the command must succeed. What fails is told on the stream 7.
+exec 7>&1
 check() {
   local at=1
   "$@" && passed=$((passed + 1)) && return
   failed=$((failed + 1))
   while [[ ${BASH_SOURCE[at]} == */tree.sh ]]; do at=$((at + 1)); done
-  echo "tree-test: $work: ${BASH_SOURCE[at]##*/}:${BASH_LINENO[at - 1]}: ${FUNCNAME[at]}: ${*@Q}"
+  echo "tree-test: $work: ${BASH_SOURCE[at]##*/}:${BASH_LINENO[at - 1]}: ${FUNCNAME[at]}: ${*@Q}" >&7
 }
 holds() { [ "$(cat "$1"; echo .)" = "$(printf '%b' "$2"; echo .)" ]; }
 is_root() { [ "$(id -u)" -eq 0 ]; }
 left_out() { echo "tree-test: left out, since $1"; }
 number() { stat -c %i "$1"; }
 repeat() { printf "%0$2d" 0 | sed "s/0/$1/g"; }
+
+# exits STATUS COMMAND..: a command must end so, also if its streams are closed.
+exits() {
+  "${@:2}"
+  check same "$?" "$1"
+}
 
 # ends STATUS: the last run must have ended so. After `any`, it may have ended in any way.
 ends() { [ "$1" = any ] || check same "$status" "$1"; }

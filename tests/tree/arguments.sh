@@ -38,8 +38,7 @@ test_usage() {
     # A line for each option.
     prints $'-\n0\nB\nD\nK\nU\nV\nb\nc\nd\ng\nh\ni\nk\nl\nn\np\nq\nr\ns\nt\nw\nx' letters
   done
-  "$TREE" -h > /dev/full 2> /dev/null
-  check same "$?" 2
+  exits 2 "$TREE" -h > /dev/full 2> /dev/null
   put src/good.c '#if A == 2\nyes\n#endif\n'
   tree -D 'A=1 ' -D 'A=2' -U "B" src
   is src/good.c 'yes\n'

@@ -91,8 +91,7 @@ test_diff_paths() {
 test_lost_diffs() {
   fresh src/a.c src/b.c
   put src/c.c '#endif\n'
-  "$TREE" -d -DA -- src > /dev/full 2> "$work/err"
-  check same "$?" 2
+  exits 2 "$TREE" -d -DA -- src > /dev/full 2> "$work/err"
   says_only 'stdout: Cannot be written' '1 changed, 0 unchanged, 1 faulty' '4 lines removed'
   is src/a.c 'yes\n' and src/b.c "$text"
   "$TREE" -DA -- src > /dev/full 2> "$work/err"

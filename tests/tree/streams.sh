@@ -3,39 +3,30 @@
 # Messages that can't be written.
 test_full_messages() {
   fresh src/a.c
-  "$TREE" -DA src 2> /dev/full
-  check same "$?" 2
+  exits 2 "$TREE" -DA src 2> /dev/full
   is src/a.c 'yes\n'
-  "$TREE" -q -UA src 2> /dev/full
-  check same "$?" 0
+  exits 0 "$TREE" -q -UA src 2> /dev/full
 }
 
 # No file of the tree is opened in the place of a closed stream, which is written to.
 test_closed_streams() {
   anew mkdir src/.unifdef-tree.a.c
-  (cd src && "$TREE" -DA a.c 2>&-)
-  check same "$?" 2
+  exits 2 env -C src "$TREE" -DA a.c 2>&-
   is src/a.c "$text"
-  "$TREE" -DA src >&- 2>&-
-  check same "$?" 2
+  exits 2 "$TREE" -DA src >&- 2>&-
   is src/a.c "$text" and src/directory/b.c 'yes\n'
-  "$TREE" -DA src/a.c <&- >&- 2>&-
-  check same "$?" 2
+  exits 2 "$TREE" -DA src/a.c <&- >&- 2>&-
   is src/a.c "$text"
   anew ln src/a.c linked.txt
-  (cd src && "$TREE" -q -d -w -DA a.c >&- 2> "$work/err")
-  check same "$?" 2
+  exits 2 env -C src "$TREE" -q -d -w -DA a.c >&- 2> "$work/err"
   says 'stdout: Cannot be written'
   is src/a.c 'yes\n'
   anew ln src/directory/b.c linked.txt
-  "$TREE" -w -DA src/directory >&- 2>&-
-  check same "$?" 2
+  exits 2 "$TREE" -w -DA src/directory >&- 2>&-
   is src/directory/b.c 'yes\n'
   small_tree
-  "$TREE" -DA src/a.c <&- > "$work/out" 2> "$work/err"
-  check same "$?" 1
-  "$TREE" -0 -DA <&- 2> "$work/err"
-  check same "$?" 2
+  exits 1 "$TREE" -DA src/a.c <&- > "$work/out" 2> "$work/err"
+  exits 2 "$TREE" -0 -DA <&- 2> "$work/err"
   says_only 'stdin: Cannot be read'
 }
 
