@@ -40,6 +40,17 @@ applies() {
   check diff -r . "$work/old"
 }
 
+# taken WORD..: patch and git take the diff of the last run, which shows what these words change.
+taken() {
+  cp "$work/out" "$work/diff"
+  cp -r . "$work/old"
+  run 0 -q -x2 "$@"
+  cp -r . "$work/new"
+  applies patch -s -p0 -F0
+  applies git apply -p0
+  rm -rf "$work/old" "$work/new"
+}
+
 # The diffs of -n turn each text into its output, and back. Each text has another trap for them.
 test_diffs() {
   local options
@@ -55,13 +66,7 @@ test_diffs() {
     put src/far.c "$text$(yes line | head -n 40)\\n$text"
     put src/minus.c '#ifdef A\n-- a/x\n++ b/x\n@@ -1 +1 @@\n#endif\n-- b\n'
     tree -n $options src
-    cp "$work/out" "$work/diff"
-    cp -r . "$work/old"
-    run 0 -q -x2 $options src
-    cp -r . "$work/new"
-    applies patch -s -p0 -F0
-    applies git apply -p0
-    rm -rf "$work/old" "$work/new"
+    taken $options src
   done
 }
 
@@ -78,13 +83,7 @@ test_diff_paths() {
 --- src/x.c
 +++ src/x.c' grep '^[-+][-+][-+] '
   done
-  cp "$work/out" "$work/diff"
-  cp -r . "$work/old"
-  tree -q -x2 -DA -g '*' -- .
-  cp -r . "$work/new"
-  applies patch -s -p0 -F0
-  applies git apply -p0
-  rm -rf "$work/old" "$work/new"
+  taken -DA -g '*' -- .
 }
 
 # No file is changed once its change can't be shown.
