@@ -58,16 +58,9 @@ OBLIGATION = re.compile(r"note: (?:\./)?(src/\S+?\.rt):(\d+):\d+: (?=.*is not pr
 ANSWER = re.compile(r"(?:\./)?proofs/(\S+)/(?:Answers|Invariants|Proof)\.antt:\d+:\d+: error: ")
 ERROR = re.compile(r"(?:note: )?(?:\./)?\S+:\d+:\d+: error")
 
-# An error in an answer, the beginning of one, and what a check says of a goal that is false.
+# An error in an answer, and what a check says of a goal that is false.
 IN_ANSWER = re.compile(r"(?:\./)?(proofs/\S+/Answers\.antt):(\d+):\d+: error: ")
-BEGINS_ANSWER = re.compile(r"(?:pub )?\S+ : ")
-FALSE = re.compile(r"the facts known there allow values at which this goal is false")
-
-# The root of a crate, as the module of a file.
-ROOT = re.compile(r"(^|/)lib$")
-
-# What a check says of a function that isn't proved.
-UNPROVED = re.compile(r"fn \S+: (?:not proved|no proof)")
+FALSE = "the facts known there allow values at which this goal is false"
 
 # An error that shows only that an edit took away a name, and says little of the contract.
 NAME = re.compile(r"has no field|is not in scope|has no `|was not admitted")
@@ -153,12 +146,11 @@ class Room:
         first = min([below.index(it) for it in edited], default=len(below))
         self.below = below[first:]
         found_repository(top, place, (*below, crate))
-        for it in below:
-            # Of what was made of a crate below, only the library is needed, unless it is edited.
+        for it in (*below, crate):
+            # Of what was made of a crate that isn't checked, only the library is needed.
             how = {"ignore": shutil.ignore_patterns("incremental"), "copy_function": link}
-            how = {"copy_function": link_kept} if it in self.below else how
+            how = {"copy_function": link_kept} if it in (*self.below, crate) else how
             shutil.copytree(f"{top}/crates/{it}", f"{place}/crates/{it}", **how)
-        shutil.copytree(f"{top}/crates/{crate}", self.directory, copy_function=link_kept)
 
     def read(self, path):
         return text_of(f"{self.directory}/{path}", "")
@@ -230,7 +222,8 @@ def owners_of(line, every):
         # MODULE/TYPE/NAME or MODULE/NAME. The module is the type's, if it has another one, and none
         # for the root of the crate.
         named = [it for it in every if it.name == answer[1].split("/")[-1]]
-        owners = [it for it in named if answer[1].startswith(re.sub(ROOT, "", it.path[4:-3]))]
+        module_of = {it: re.sub(r"(^|/)lib$", "", it.path[4:-3]) for it in named}
+        owners = [it for it in named if answer[1].startswith(module_of[it])]
         owners = owners or (named if len(named) == 1 else [])
     elif not ERROR.match(line):
         return None
@@ -262,7 +255,8 @@ def verdict_of(status, said):
     if not status:
         return PROVED, ["the contract accepts it"]
     goals = [it for it in said if OBLIGATION.match(it) or ERROR.match(it)]
-    goals = goals or [it for it in said if UNPROVED.match(it)] or said[-1:]
+    unproved = [it for it in said if re.match(r"fn \S+: (?:not proved|no proof)", it)]
+    goals = goals or unproved or said[-1:]
     return REFUSED if is_unproved(status, said) else BAD, goals
 
 
@@ -281,7 +275,7 @@ def try_edits(room, edits, alone):
 def without_answers(text, numbers):
     """Returns a file without the answers of some lines: without any if one is above them all."""
     lines, kept = text.split("\n"), []
-    begins = [it for it, line in enumerate(lines) if BEGINS_ANSWER.match(line)]
+    begins = [it for it, line in enumerate(lines) if re.match(r"(?:pub )?\S+ : ", line)]
     if min(numbers) <= min(begins, default=len(lines)):
         return "-- None.\n"
     for begin, end in zip([0, *begins], [*begins, len(lines)]):
@@ -300,7 +294,7 @@ def try_unanswered(room, batch, answered):
     reasons = batch.reasons(said, room) if status else {}
     for edit in mine:
         goals = reasons.get(edit, [])
-        false = [it for it in goals if FALSE.search(it)]
+        false = [it for it in goals if FALSE in it]
         if not status or (reasons and not goals):
             yield edit.name, PROVED, "the contract accepts it without an answer"
         else:
