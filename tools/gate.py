@@ -10,7 +10,6 @@ last line is that of `rt ci`, and so is the status.
 `rt ci` runs in a copy of the crates, without the edits that tools/edits.py tries. The programs that
 it builds are copied back, with their times; if it succeeds, also to ./unifdef and ./unifdef-tree.
 """
-import glob
 import os
 import re
 import shutil
@@ -43,15 +42,16 @@ def is_of_gate(file):
 def copy_crates(top):
     """Copies the crates to a directory, with the edits that the gate tries. `rt ci` takes it as the
     top of a repository, since it contains one of the name `.git`."""
+
+    def ignored(directory, names):
+        edits = (it for it in names if it.endswith(".edit"))
+        others = (it for it in edits if not is_of_gate(f"{directory}/{it}"))
+        return {"out", "must-fail-second", *others}
+
     os.mkdir(f"{top}/.git")
     for it in ("HANDLES", "crates.txt"):
         shutil.copy2(f"{HERE}/{it}", top)
-    for crate in libraries():
-        ignore = shutil.ignore_patterns("out", "must-fail", "must-fail-second")
-        shutil.copytree(f"{HERE}/crates/{crate}", f"{top}/crates/{crate}", ignore=ignore)
-        for it in filter(is_of_gate, glob.glob(f"{HERE}/crates/{crate}/must-fail/*.edit")):
-            os.makedirs(f"{top}/crates/{crate}/must-fail", exist_ok=True)
-            shutil.copy2(it, f"{top}/crates/{crate}/must-fail")
+    shutil.copytree(f"{HERE}/crates", f"{top}/crates", ignore=ignored)
 
 
 def take_programs(top, status):

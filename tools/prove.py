@@ -251,7 +251,5 @@ class Build:
 
 
 if __name__ == "__main__":
-    if sys.argv[1:2] in (["-h"], ["--help"]):
-        sys.exit(__doc__)
     end_by_signals()
     sys.exit(0 if Build(sys.argv[1:] or ["unifdef_cli"]).run() else 1)
