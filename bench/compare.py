@@ -1,7 +1,7 @@
 """Measures unifdef programs and `cat` in turns, and prints tables (README.md).
 
 compare.py WORK NAME=PROGRAM..: keeps texts and outputs in the directory WORK, and compares the
-others with the first program, whose memory must be below MOST_KIB, and on DEEP below MOST_DEEP_KIB.
+others with the first program, whose memory must be below MOST_KIB, or else MOST_DEEP_KIB.
 """
 
 import hashlib
@@ -21,7 +21,6 @@ RUNS = int(os.environ.get("BENCH_RUNS", "5"))
 FILES = int(os.environ.get("BENCH_FILES", "10000"))
 HEADERS = os.environ.get("BENCH_HEADERS", "/usr/include")
 SOURCES = os.environ.get("BENCH_SOURCES", "")
-COUNTED_BYTES = min(BYTES // 10, 1_000_000)
 EMPTY_LINES = 20_000_000
 MOST_KIB, MOST_DEEP_KIB = 2048, 3072
 NOWHERE = Path(os.devnull)
@@ -33,9 +32,6 @@ ROWS = {
     "comments": [(50,)],
     "conditionals": [(50,), (1000,)],
 }
-
-# The condition that takes the most memory: as long as a line may be, with parentheses.
-DEEP = b"#if " + b"(" * 32_760 + b"__cplusplus" + b")" * 32_760 + b"\n#endif\n"
 
 
 class Case(NamedTuple):
@@ -112,7 +108,7 @@ def instructions(measures, programs):
     def of_byte(job):
         case, program = job
         text, command = case.text.read_bytes(), [program, *case.words]
-        text = text[: text.rfind(b"\n", 0, COUNTED_BYTES) + 1]
+        text = text[: text.rfind(b"\n", 0, min(BYTES // 10, 1_000_000)) + 1]
         return (counted(command, text) - counted(command, b"")) / len(text)
 
     if not shutil.which("valgrind"):
@@ -140,7 +136,7 @@ def starts(programs, work):
 
 
 def memory(measures, programs, work):
-    """Prints the peak memory in KiB. Returns the most of the first program, and that on DEEP."""
+    """Prints the peak memory. Returns the most of the first program, and that on a deep text."""
     (work / "empty").write_bytes(b"\n" * EMPTY_LINES)
     name = f"{EMPTY_LINES:,} empty lines, 50 symbols"
     measures = [*measures, Case(name, work / "empty", texts.c_words(50))]
@@ -150,7 +146,9 @@ def memory(measures, programs, work):
         held = [peak(it, case.text) for it in commands(programs, case.words, "cat").values()]
         most = max(most, held[0])
         row(case.name, *[f"{kib:,}" for kib in held])
-    (work / "deep").write_bytes(DEEP)
+    # The condition that takes the most: as long as a line may be, with parentheses.
+    nested = b"(" * 32_760 + b"__cplusplus" + b")" * 32_760
+    (work / "deep").write_bytes(b"#if " + nested + b"\n#endif\n")
     deep = peak([next(iter(programs.values())), *texts.c_words(1000)], work / "deep")
     row("an `#if` of 65,536 bytes, 1,000 symbols", f"{deep:,}", *[""] * len(programs))
     return most, deep

@@ -20,8 +20,6 @@ from selects import CC, CONDITIONAL, UNIFDEF, bare, chosen, code_of, logical_lin
 from selects import parsed, report, selected, shown
 
 WORD = b"line_%d __LINE__ "
-RENUMBERED = re.compile(rb"#line (\d+)\s*$")
-
 MIXED = b"/* a\n * b\n */ c\n#ifdef A\n/* d\n*/\n#endif\ne /* f\n*/ g\n"
 MIXED += b"#if defined X && \\\n    1\nh \\\n\ni\n#endif\nj"
 # Options and a text. `X` is left undecided, and is defined for the compiler in one of two runs.
@@ -56,7 +54,7 @@ def skipped(arguments, text):
     marked, marks, count = [], {}, 0
     for line in logical_lines(text):
         code = code_of(line)
-        if RENUMBERED.match(code):
+        if re.match(rb"#line \d+\s*$", code):
             count += 1
             line = [b"mark_%d\n" % count]
         elif not CONDITIONAL.match(code):
