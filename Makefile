@@ -88,8 +88,7 @@ native: $(SOURCES)
 	$(PROVE)
 	cp $(CRATE)/out/unifdef_cli unifdef-native
 
-# The library for C. `rt doc` prints a page in the directory of the kit, which has the C functions
-# that allocate memory.
+# The library for C. The kit, of which `rt doc` prints a page, has C functions that allocate memory.
 ## proves and builds lib/libunifdef.a and lib/libunifdef.so
 lib: lib/libunifdef.a
 

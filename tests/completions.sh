@@ -30,9 +30,8 @@ in_fish() {
   fish --no-config -c 'source $argv[1]/unifdef.fish; source $argv[1]/unifdef-tree.fish
     complete -C $argv[2]' "$work" "$1"
 }
-# zsh completes only at a terminal, so this script makes one. The shell announces that it is ready,
-# and, by a second key after the one that completes, that it has completed. An hour for each is a
-# guard against hanging.
+# zsh completes only at a terminal, so this script makes one. The shell announces that it is ready
+# and, by a second key, that it has completed. An hour for each is a guard against hanging.
 cat > "$work/ask.zsh" << 'END'
 zmodload zsh/zpty
 zpty -b shell zsh -f -i

@@ -138,8 +138,7 @@ pub returns : goal.returns
 returns c = pow_mono (div-le_self c.args.a {divisor})
 """
 
-# The verdict on each edit, with its name, its old and its new text. The edit that doesn't compile
-# comes first by its name, so that it is in the first batch.
+# The verdict, the name, the old and the new text of each edit: in the first batch, one is broken.
 EDITS = [
     (BAD, "broken_same", "let b = a;", "let b = c;"),
     (REFUSED, "half_is_more", "let quotient = a / 2;", "let quotient = a + 1;"),

@@ -14,8 +14,7 @@ field() {
     it == id && $1 == field { sub(/^[^:]*: */, ""); print }' "$here/.pre-commit-hooks.yaml"
 }
 
-# gives ID STATUS OUTPUT TEXT: runs a hook with -UVMS on two files, one of them with this text. An
-# entry of the language `script` is a file of the repository.
+# gives ID STATUS OUTPUT TEXT: runs a hook with -UVMS on two files, one of them with this text.
 gives() {
   local words
   printf '%b' "$4" > a.c

@@ -2,8 +2,7 @@
 # Makes the files of a release in two clones of the last commit, and runs what is in the tarball of
 # the programs. The heading of CHANGELOG.md has a date there.
 #
-# The clones get the programs and the library of this directory. They are in directories of other
-# lengths, and the second one has another umask and another time zone.
+# The clones get what is built here. The second one has another path, umask and time zone.
 source "$(dirname "$0")/checks.sh"
 needs git dpkg-deb objdump lib/libunifdef.a .git
 [ -z "$(git status --porcelain)" ] || echo 'release: what is not committed is left out'

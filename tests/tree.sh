@@ -13,7 +13,7 @@ name=unifdef-tree TREE=$here/unifdef-tree UNIFDEF=$here/unifdef first=$work moun
 subjects=(names files patterns arguments lists symbols prune squeeze diffs limits streams calls races)
 text='#ifdef A\nyes\n#else\nno\n#endif\n'
 
-# check COMMAND..: the command must succeed. What fails is told on the stream 7.
+# check COMMAND..: the command must succeed. Failures go to the stream 7.
 exec 7>&1
 check() {
   local at=1
@@ -111,9 +111,8 @@ is() {
 }
 none_left() { check same "$(find -L "$work/run" -name '.unifdef-tree*')" ''; }
 
-# fresh FILE..: makes a new tree, whose files are changed by -DA. alone FILE.. TEXT: one of files
-# with this text. small_tree: one with files that are changed, unchanged, faulty, and in a
-# directory. anew COMMAND..: runs a command over a small tree.
+# fresh FILE..: makes a new tree of files that -DA changes. alone FILE.. TEXT: one of files with a
+# text. small_tree: one of files of each kind. anew COMMAND..: runs a command over a small tree.
 fresh() {
   rm -rf "$work/run"
   mkdir -p "$work/run/src"

@@ -219,8 +219,7 @@ def owners_of(line, every):
     if at:
         owners = [it for it in every if it.path == at[1] and it.first <= int(at[2]) <= it.last][-1:]
     elif answer:
-        # MODULE/TYPE/NAME or MODULE/NAME. The module is the type's, if it has another one, and none
-        # for the root of the crate.
+        # MODULE/TYPE/NAME or MODULE/NAME, with the type's module, or none for the crate's root.
         named = [it for it in every if it.name == answer[1].split("/")[-1]]
         module_of = {it: re.sub(r"(^|/)lib$", "", it.path[4:-3]) for it in named}
         owners = [it for it in named if answer[1].startswith(module_of[it])]

@@ -36,8 +36,7 @@ CAUGHT = {"stdout": subprocess.PIPE, "stderr": subprocess.STDOUT, "errors": "rep
 FIRST = """ud_model ud_cond ud_text ud_sections ud_args ud_simplified
 ud_io ud_passes ud_engine ud_replace unifdef ud_tree""".split()
 
-# Among how many processors a check is split, if it is one of the longest of the chain. A split
-# check takes half as much time of a processor again.
+# Among how many processors the longest checks are split, which take half as much time again.
 SPLIT = {"ud_cond": 2, "ud_engine": 4}
 
 # The free bytes of memory for a crate beside another one, and for a check that is split.

@@ -16,8 +16,7 @@ COLUMNS = 100
 # The most words of a sentence of a page. The rule has 25, and this leaves some to judgement.
 WORDS_AT_MOST = 30
 
-# Words of no field, and what to write in their place. In pages and manuals there are more, and in
-# the pages for users, what types and definitions call a fault is an error.
+# Words and what to write in their place. There are more in pages, and still more in users' pages.
 WORDS = {
     r"\b(a|the|each|its|some|this|in|any) front\b|\bfronts? of (the|a|its|all)\b": "prefix",
     r"\bbehind (the|a|its|it|them|these) (\w+ )?(bytes?|letters?|keyword|words?|sign)": "after",

@@ -112,8 +112,7 @@ is_refusal() {
 }
 
 # refuse_each PLANNED ARGUMENT..: refuses each growth, alone and with all later ones. If PLANNED is
-# yes, the plan of the symbols reports it. No text makes a further growth. If none is refused,
-# nothing changes.
+# yes, the plan of the symbols reports it. No text makes a further growth.
 refuse_each() {
   local planned=$1 all at to reported=no wanted=0
   shift

@@ -58,8 +58,7 @@ rename EPERM EBUSY EXDEV EIO
 EOT
 }
 
-# The bytes of the new file are on the disk before it takes the place of the old one. A file system
-# may take all that is written, and say only then that it kept nothing.
+# The bytes of the new file are on the disk before it takes the place of the old one.
 test_syncs() {
   anew traced any fsync,rename -DA src
   check same "$(named 'fsync\|rename')" 'fsync rename fsync rename '
@@ -101,8 +100,7 @@ test_stops_showing() {
   check same "$(grep -c '/b.c"' "$work/calls")" 0
 }
 
-# A new file may be read by its user alone until it gets its mode. A mode that it has isn't set, and
-# no mode or owner is set by a name, where a link could be followed.
+# A new file is its user's alone until it gets its mode. No mode or owner is set by a name.
 test_modes() {
   anew chmod 644 src/a.c
   injected any fchmod:signal=KILL:when=1 -DA src

@@ -1,7 +1,6 @@
 # Files and directories that another program changes while a run is at them.
 
-# paused STATUS OPTIONS CALL N COMMAND..: runs a command while a run over the small tree waits in
-# its Nth call of CALL, after the call. strace announces that.
+# paused STATUS OPTIONS CALL N COMMAND..: runs a command while a run waits after its Nth CALL.
 paused() {
   local pid line tracer
   rm -f "$work/trace"
@@ -73,8 +72,7 @@ test_compares_bytes() {
   check same "$(stat -c %a src/a.c)" 600
 }
 
-# A change between the second reading of a file and the last look at it is found, though the size
-# stays: by the file's times, which were looked at before that reading.
+# A change after the second reading is found by the file's times, though the size stays.
 test_looks_at_times() {
   anew touch -d '2001-01-01' src/a.c
   under any strace -f -y -o "$work/calls" -e trace=read -- -DA src
@@ -112,8 +110,7 @@ test_finds_same_file() {
   check grep -q '^unifdef-tree: src/directory/b.c: Cannot be read' "$work/err"
 }
 
-# No call leaves a directory that becomes a link: neither between the look at it and its listing,
-# nor between the look at a file in it and the file's replacement.
+# No call leaves a directory that becomes a link before its listing, or before a replacement in it.
 test_stays_in_tree() {
   local number options
   anew traced any statx -DA src
