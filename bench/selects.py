@@ -71,10 +71,7 @@ def bare(line):
 
 
 def neutral(text, word=b"line_%d "):
-    """Returns the text with a word of its own for each other line's text, and the conditions.
-
-    A word has the number of its physical line in the text that is returned.
-    """
+    """Returns the text with a word with its number for each other line, and the conditions."""
     out, conditions, number = [], [], 1
     for line in logical_lines(text):
         kept, code = line, code_of(line)
@@ -174,8 +171,7 @@ def parsed(description, **flags):
 
 
 def report(results, what):
-    """Prints each wrong result, and how many there are of each kind. Each has the kind, what it is
-    of, and numbers, whose sums are returned, with the exit status."""
+    """Prints wrong results, and how many are of each kind. Returns the sums, and the status."""
     kinds, sums = Counter(), Counter()
     for kind, of, *numbers in results:
         kinds[kind] += 1

@@ -30,10 +30,7 @@ def c_words(symbols):
 
 
 def right_body(path, programs):
-    """Returns a file's bytes, or nothing if the programs differ on it or find a fault.
-
-    They read it as C and as plain text. Their lists of its symbols may differ, but have no fault.
-    """
+    """Returns a file's bytes, or nothing if the programs find a fault, or differ but for -s."""
     for mode in ([], ["-t"], ["-s"]):
         commands = ([program, *mode, *DECIDED, path] for program in programs)
         runs = [subprocess.run(command, capture_output=True) for command in commands]
@@ -90,10 +87,7 @@ def finished(command, source, output):
 
 
 def peak(command, source):
-    """Returns the peak memory of one run in KiB before the end of the text.
-
-    Memory is read when the run has read everything from a pipe and waits for more.
-    """
+    """Returns the peak memory in KiB of a run that has read all of a pipe and waits for more."""
     child = subprocess.Popen(command, stdin=subprocess.PIPE, stdout=subprocess.DEVNULL, bufsize=0)
     with open(source, "rb") as text:
         shutil.copyfileobj(text, child.stdin)

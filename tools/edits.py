@@ -71,8 +71,7 @@ Function = collections.namedtuple("Function", "path name first head last")
 
 
 def functions_of(path, text):
-    """Returns the functions of a file, by the layout of `rt fmt`: a function begins with its
-    attributes, and ends at the first brace as deep as its `fn`."""
+    """Returns the functions of a file: from their attributes to the first brace as deep as `fn`."""
     lines, found = text.split("\n"), []
     for begin, line in enumerate(lines, 1):
         named = FUNCTION.match(line)
@@ -186,8 +185,7 @@ class Batch:
         self.texts, self.edits, self.names = {}, [], set()
 
     def add(self, edit, read, alone):
-        """Adds an edit, and returns whether it fits beside the others. Functions of the same name
-        are never together, because their directories of proofs may be alike."""
+        """Adds an edit if it fits: functions of one name may have one directory of proofs."""
         applied = edit.apply(self.texts, read)
         names = {name for _, name in applied[1]} if applied else set()
         if self.edits and (alone or not names or not self.names or names & self.names):

@@ -30,9 +30,8 @@ PROGRAMS = {"unifdef_cli": "unifdef", "unifdef_tree_cli": "unifdef-tree"}
 
 
 def is_of_gate(file):
-    """Returns whether the gate tries the edit in this file: one of a definition of ud_model, which
-    is checked alone in any case, or one of a crate of laws itself, since `rt ci` edits one crate
-    alone."""
+    """Returns whether the gate tries the edit in this file: one of a definition of ud_model, or one
+    of a crate of laws itself, since `rt ci` edits one crate alone."""
     text = text_of(file)
     if "_laws/must-fail/" in file:
         return not text.startswith("file: ../")

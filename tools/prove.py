@@ -212,8 +212,7 @@ class Build:
 
     def jobs_of(self, crate):
         """Returns among how many processors a check that starts now is split: those that no other
-        check can use, if it is one of the longest, or two if nothing can run beside it. Without any
-        to split, none is."""
+        check can use, if it is one of the longest, or two if nothing can run beside it."""
         others = self.busy() + len(self.ready())
         most = self.split.get(crate, 1 if others or not self.split else 2)
         if most > 1 and free_memory() < FREE_FOR_ALL:
