@@ -11,6 +11,7 @@ itself, and one is proved.
 import os
 import sys
 import tempfile
+from pathlib import Path
 
 sys.path.insert(0, f"{os.path.dirname(os.path.dirname(os.path.realpath(__file__)))}/tools")
 from edits import BAD, OPEN, PROVED, REFUSED, edits_of, run
@@ -165,9 +166,8 @@ UNREADABLE = [
 
 
 def write(file, text):
-    os.makedirs(os.path.dirname(file), exist_ok=True)
-    with open(file, "w", encoding="utf-8") as it:
-        it.write(text)
+    Path(file).parent.mkdir(parents=True, exist_ok=True)
+    Path(file).write_text(text, encoding="utf-8")
 
 
 def write_edits(directory, edits, path="src/lib.rt"):

@@ -84,10 +84,8 @@ def show(lines):
 
 
 def jobs():
-    given = os.environ.get("RT_JOBS", "")
-    if given.isdigit() and int(given) > 0:
-        return int(given)
-    return max(min(processors(), free_memory() // CHECK), 1)
+    given = int(os.environ.get("RT_JOBS") or 0)
+    return given or max(min(processors(), free_memory() // CHECK), 1)
 
 
 def run(top, lanes):
