@@ -1,12 +1,9 @@
 #!/usr/bin/env bash
 # Runs packaging/unifdef2 by each shell that is there: the calls of programs that use unifdef 2.x,
 # the rules of -f, and faults. What must come out follows from the manual of 2.10, or from the text.
-#
-# unifdef2.sh [PROGRAM]: with ./unifdef, or PROGRAM.
-UNIFDEF=$(realpath "${1:-$(dirname "$0")/../unifdef}")
 source "$(dirname "$0")/checks.sh"
-[ -x "$UNIFDEF" ] || { echo "unifdef2: $UNIFDEF is not there: run make" >&2; exit 1; }
-export UNIFDEF
+needs ./unifdef
+export UNIFDEF=$here/unifdef
 umask 022
 script=$here/packaging/unifdef2
 
