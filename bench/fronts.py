@@ -16,7 +16,6 @@ from pathlib import Path
 from selects import report
 
 HANG = 3600
-SMALL_STACK = ["prlimit", f"--stack={1024 * 1024}"]
 FLAGS = ["-k", "-K", "-b", "-l", "-c", "-n", "-s", "-S", "-t", "-x1", "-x2", "-kK", "-bc", "-cn"]
 VALUES = ["", "=0", "=1", "=2", "=201112L", "=0x10", "=", "=A", "=-1", "=1u"]
 CONDITION = re.compile(rb"^[ \t]*#[ \t]*(?:if|ifdef|ifndef|elif|elifdef|elifndef)\b(.*)$", re.M)
@@ -60,7 +59,7 @@ def compare(job):
     dice = random.Random(seed)
     text = part_of(dice, path.read_bytes())
     arguments = arguments_for(dice, text)
-    ours = outcome(program, arguments, text, SMALL_STACK)
+    ours = outcome(program, arguments, text, ["prlimit", f"--stack={1024 * 1024}"])
     theirs = outcome(reference, ["reference", *arguments], text)
     if ours == theirs and ours[2] in (0, 1, 2):
         return "the same", ""

@@ -56,7 +56,6 @@ CALLS = [
 ]
 
 OLD, NEW = "2.10", "2.12"
-UNIFDEF2 = TOP / "packaging" / "unifdef2"
 
 
 def is_released(program: Path, version: str) -> bool:
@@ -138,7 +137,7 @@ def check_commands(program: Path, released: Optional[Path]) -> Iterator[bool]:
     os.environ["UNIFDEF"] = str(program)
     calls = [there for there, _ in pairs if "-B" not in there] + CALLS
     for call in calls if released else []:
-        found, wanted = (run_command(call, it) for it in (UNIFDEF2, released))
+        found, wanted = (run_command(call, it) for it in (TOP / "packaging/unifdef2", released))
         yield is_told(found == wanted, "unifdef2 as", call, found, "and 2.10:", wanted)
 
 

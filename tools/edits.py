@@ -21,9 +21,8 @@ prover finds values at which a goal is false, and else it isn't decided.
 An edit may be of definitions of a crate below, in files such as `../ud_model/specs/FILE.antt`. It
 is checked alone in each crate from that one up to its own, until one check refuses it.
 
-Prints a line for each edit, and how many there are at the end. The status is 1 if one is proved or
-can't be tried. With --read, it is 1 if an old text isn't in its file exactly once, or if two edits
-of a crate have one name.
+The status is 1 if an edit is proved or can't be tried: if an old text isn't in its file exactly
+once, or two edits of a crate have one name.
 """
 import argparse
 import collections

@@ -45,11 +45,6 @@ KINDS = {"md": "page", "1": "page", "3": "page", "rt": "rt", "antt": "antt"}
 KINDS |= dict.fromkeys(("sh", "py", "Makefile", "crates.txt", "run"), "script")
 
 
-def comment_of(line, kind):
-    found = re.match(MARKS[kind] + "(.*)", line)
-    return found and found[1]
-
-
 def kind_of(path):
     """Returns how the comments of a file are written, or None if it has none to check."""
     name = path.rpartition("/")[2]
@@ -68,7 +63,7 @@ def findings(path, text):
     kind, before = kind_of(path), None
     lines = (without_code(text) if kind == "page" else text).split("\n")
     for number, line in enumerate(lines, 1):
-        comment = comment_of(line, kind)
+        comment = (re.findall(f"^{MARKS[kind]}(.*)", line) or [None])[0]
         if len(line) > COLUMNS and not may_be_wide(path, line, comment):
             yield number, f"{len(line)} columns, {COLUMNS} at most"
         words = WORDS

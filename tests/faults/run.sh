@@ -1,8 +1,6 @@
 #!/usr/bin/env bash
 # Runs ./unifdef with failing reads and writes of the system, with a small stack, and with each
 # growth of memory refused in turn. README.md in this directory describes it.
-#
-# The program of crates/test_memory is left out if it isn't built.
 # shellcheck disable=SC2086 # Words of options are split.
 source "$(dirname "$0")/../checks.sh"
 name=faults
