@@ -32,7 +32,6 @@ LINE = re.compile(
     r'|(?P<part>[<>!])(?: (?P<text>.*)|"(?P<literal>.*)"(?: \* (?P<times>\d+))?|))'
     r"|(?P<stream>(?:reads?|writes?|first flush|flush|calls) .*)"
 )
-ARGUMENT = re.compile(r'"([^"\\]*)"|([^\s"]+)')
 
 
 class CaseError(ValueError):
@@ -92,7 +91,8 @@ def read(path: Path) -> Case:
             raise CaseError(f"{path}:{number}: unknown line {line!a}")
         who, has_streams = found["who"], has_streams or found["stream"] is not None
         if found["words"] is not None:
-            arguments = ["".join(it) for it in ARGUMENT.findall(found["words"])]
+            words = re.findall(r'"([^"\\]*)"|([^\s"]+)', found["words"])
+            arguments = ["".join(it) for it in words]
         elif found["copy"]:
             copied.append(who)
         elif found["status"]:

@@ -190,7 +190,7 @@ def arguments() -> None:
 
 
 def wrong_types() -> None:
-    """What isn't bytes, or no argument, is refused by its name."""
+    """What isn't bytes, or no argument, is refused by its name, and what is public has types."""
     for name, kind, call in (
         ("text", "str", lambda: unifdef.strip("#if A\n", "-DA")),
         ("text", "str", lambda: unifdef.run("x" * unifdef.LONG, "-DA")),
@@ -208,9 +208,6 @@ def wrong_types() -> None:
         refuses(f"{name} that is {kind}", TypeError, call, f"{name} must be ", f", not {kind}")
     zero = "argument 2 has a zero byte"
     refuses("a zero byte", ValueError, lambda: unifdef.run(b"x", "-DA", "a\0b"), zero)
-
-
-def hints() -> None:
     found = typing.get_type_hints(unifdef.run)
     check("the types of run", found["return"] is unifdef.Answer and "text" in found)
     check("what is public", set(dir(unifdef)) == {*unifdef.__all__, "__version__", "__doc__"})
@@ -322,7 +319,7 @@ def all_cases(programs: list[str]) -> int:
 
 
 def main() -> int:
-    for it in chunks, streams, buffers, long_texts, arguments, wrong_types, hints, as_program:
+    for it in chunks, streams, buffers, long_texts, arguments, wrong_types, as_program:
         it()
     libraries()
     pools()

@@ -25,7 +25,6 @@ from cases import TOP, cases_in  # noqa: E402
 from files import text_of  # noqa: E402
 from prove import RT, Commands, end_by_signals, processors, say  # noqa: E402
 
-UNPROVED = "crates/unifdef_cli/out/unproved"
 RUNNER = TOP / "crates" / "test_runner"
 TRY = [RT, "try", "--seconds", "3600"]
 # Those that take longest come first, so that none of them ends alone.
@@ -69,7 +68,7 @@ def stored_run(directory, arguments):
 
 def tasks(is_all):
     every = [it for it in cases_in() if is_all or it.has_streams]
-    yield Task("cases", TOP, ["tests/cases.py", UNPROVED])
+    yield Task("cases", TOP, ["tests/cases.py", "crates/unifdef_cli/out/unproved"])
     yield stored_run(RUNNER, [os.path.relpath(it.path.resolve(), RUNNER) for it in every])
     for directory in sorted((TOP / "crates").iterdir()) if is_all else []:
         texts = (text_of(it) for it in directory.glob("src/**/*.rt"))

@@ -6,9 +6,6 @@ import subprocess
 
 TOP = os.path.dirname(os.path.dirname(os.path.realpath(__file__)))
 
-# Directories of which no file belongs to it.
-OTHERS = (".git", "out", "__pycache__", "build", "release")
-
 
 def text_of(path, otherwise=None):
     """Returns the text of a file. If there is none, returns `otherwise`, if that is given."""
@@ -31,7 +28,8 @@ def tracked():
         return [it for it in listed if os.path.exists(f"{TOP}/{it}")]
     found = []
     for directory, below, names in os.walk(TOP):
-        below[:] = [it for it in below if it not in OTHERS and not it.startswith(".prove-")]
+        others = {".git", "out", "__pycache__", "build", "release"}
+        below[:] = [it for it in below if it not in others and not it.startswith(".prove-")]
         own = [it for it in names if not it.startswith("libunifdef.")]
         found += [os.path.relpath(os.path.join(directory, it), TOP) for it in own]
     return sorted(found)

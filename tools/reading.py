@@ -15,7 +15,6 @@ import sys
 
 from files import TOP, text_of
 
-ANSWER = "crates/ud_model/specs/answer/Answer.antt"
 ROW = re.compile(r"`([^`]+)` \| (\d+ files, [\d,]+ lines) \|$", re.MULTILINE)
 IMPORT = re.compile(r"^\s*(?:ghost )?use Rattle\.(\w+)\.specs\.([\w.]+?)\.\{", re.MULTILINE)
 
@@ -55,7 +54,7 @@ def check(page):
 
 if sys.argv[1:2] == ["--check"]:
     sys.exit(not check(sys.argv[2]))
-files = read_all(sys.argv[1:] or [ANSWER])
+files = read_all(sys.argv[1:] or ["crates/ud_model/specs/answer/Answer.antt"])
 for file, lines in files.items():
     print(f"{lines:6,} {file}")
 print(f"{sum(files.values()):6,} in {len(files)} files")
