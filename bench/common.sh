@@ -10,10 +10,7 @@ trap 'rm -rf "$work"' EXIT
 
 # needs PROGRAM..: fails if one isn't there.
 needs() {
-  local it
-  for it; do
-    command -v "$it" > /dev/null || { echo "$name: $it is not there" >&2; exit 1; }
-  done
+  type -P "$@" > /dev/null || { echo "$name: $* must be there" >&2; exit 1; }
 }
 
 # Installs Debian's program, if it is missing.

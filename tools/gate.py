@@ -20,12 +20,9 @@ import tempfile
 from files import text_of
 from prove import CAUGHT, HERE, RT, end_by_signals, free_memory, libraries, processors, say, take
 
-LOG = f"{HERE}/gate.log"
-
 # The memory in bytes of a check. `rt ci` plans up to 7 GB for one, and lets processors wait.
 CHECK = 3_000_000_000
 
-PROVED = re.compile(r"rt: \w+(?:: its tests are)? (proved|NOT PROVED)")
 PROGRAMS = {"unifdef_cli": "unifdef", "unifdef_tree_cli": "unifdef-tree"}
 
 
@@ -66,10 +63,10 @@ def show(lines):
     """Prints the lines of `rt ci` as they come, and writes them to gate.log. Those of a crate are
     kept until it is proved or not, and what is proved goes to the error stream, with the time."""
     block = []
-    with open(LOG, "w", encoding="utf-8") as log:
+    with open(f"{HERE}/gate.log", "w", encoding="utf-8") as log:
         for line in lines:
             print(line, end="", file=log, flush=True)
-            proved = PROVED.match(line)
+            proved = re.match(r"rt: \w+(?:: its tests are)? (proved|NOT PROVED)", line)
             if line.startswith("== "):
                 block = [line]
             elif block and not proved:
