@@ -1,7 +1,7 @@
 """Measures unifdef programs and `cat` in turns, and prints tables (README.md).
 
 compare.py WORK NAME=PROGRAM..: keeps texts and outputs in the directory WORK, and compares the
-others with the first program, whose memory must be below MOST_KIB, or else MOST_DEEP_KIB.
+others with the first program, whose memory must be below 2 MiB, and below 3 MiB on a deep text.
 """
 
 import hashlib
@@ -22,7 +22,6 @@ FILES = int(os.environ.get("BENCH_FILES", "10000"))
 HEADERS = os.environ.get("BENCH_HEADERS", "/usr/include")
 SOURCES = os.environ.get("BENCH_SOURCES", "")
 EMPTY_LINES = 20_000_000
-MOST_KIB, MOST_DEEP_KIB = 2048, 3072
 NOWHERE = Path(os.devnull)
 
 # Numbers of symbols with the options under which each text is measured.
@@ -161,7 +160,7 @@ def main():
     speeds(measures, programs, "Speed, with the output going nowhere", NOWHERE)
     instructions(measures, programs)
     starts(programs, work)
-    for most, limit in zip(memory(measures, programs, work), (MOST_KIB, MOST_DEEP_KIB)):
+    for most, limit in zip(memory(measures, programs, work), (2048, 3072)):
         if most >= limit:
             sys.exit(f"bench: the peak is {most} KiB; it should be less than {limit}")
 

@@ -139,7 +139,7 @@ pub returns : goal.returns
 returns c = pow_mono (div-le_self c.args.a {divisor})
 """
 
-# The verdict, the name, the old and the new text of each edit: in the first batch, one is broken.
+# The verdict on each edit, its name, its old and its new text. The first one breaks its batch.
 EDITS = [
     (BAD, "broken_same", "let b = a;", "let b = c;"),
     (REFUSED, "half_is_more", "let quotient = a / 2;", "let quotient = a + 1;"),

@@ -10,7 +10,8 @@ source "$(dirname "$0")/checks.sh"
 needs ./unifdef ./unifdef-tree
 export TERM=xterm
 name=unifdef-tree TREE=$here/unifdef-tree UNIFDEF=$here/unifdef first=$work mounted=''
-subjects=(names files patterns arguments lists symbols prune squeeze diffs limits streams calls races)
+subjects=(names files patterns arguments lists symbols prune squeeze diffs limits streams)
+subjects+=(calls races)
 text='#ifdef A\nyes\n#else\nno\n#endif\n'
 
 # check COMMAND..: the command must succeed. Failures go to the stream 7.
@@ -20,7 +21,7 @@ check() {
   "$@" && passed=$((passed + 1)) && return
   failed=$((failed + 1))
   while [[ ${BASH_SOURCE[at]} == */tree.sh ]]; do at=$((at + 1)); done
-  echo "tree-test: $work: ${BASH_SOURCE[at]##*/}:${BASH_LINENO[at - 1]}: ${FUNCNAME[at]}: ${*@Q}" >&7
+  echo "$work: ${BASH_SOURCE[at]##*/}:${BASH_LINENO[at - 1]}: ${FUNCNAME[at]}: ${*@Q}" >&7
 }
 holds() { [ "$(cat "$1"; echo .)" = "$(printf '%b' "$2"; echo .)" ]; }
 is_root() { [ "$(id -u)" -eq 0 ]; }

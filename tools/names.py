@@ -32,7 +32,7 @@ WORD = re.compile(r"[A-Za-z_]\w*")
 LABEL = re.compile(r"\b(?:ensures|requires)\*? (\w+) \{")
 COMMENTED = re.compile(r"^\s*(?://|--).*?\b(\w+(?:/\w+)+\.(?:antt|rt|md|sh|py))\b", re.MULTILINE)
 
-# Names of C, of examples, of what is built, that stand for others, of units, of Debian and Linux.
+# Names of C, examples, files that are built, units, Debian and Linux, and what stands for others.
 EXCEPTED = {
     *("intmax_t", "uintmax_t", "\\xHH", "a.c", "in.c", "third_party", "include/uapi"),
     *("lib/libunifdef.a", "lib/libunifdef.so", "libunifdef.so.1", "MB/s"),

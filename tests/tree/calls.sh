@@ -31,7 +31,7 @@ test_signals() {
   done
 }
 
-# So it is if such a call fails. The status is 2 then, unless both files are new.
+# Each file is old or new if such a call fails. The status is 2 then, unless both are new.
 test_failing_calls() {
   local call errors error i first count
   while read -r call errors; do
