@@ -150,10 +150,8 @@ test_overlay() {
   local layers=$work/layers
   is_root || return 0
   mkdir -p "$layers"
-  if ! mount -t tmpfs none "$layers" 2> /dev/null; then
-    left_out 'nothing can be mounted here: overlays'
-    return
-  fi
+  mount -t tmpfs none "$layers" 2> /dev/null ||
+    { left_out 'nothing can be mounted here: overlays'; return; }
   mkdir "$layers/lower" "$layers/upper" "$layers/work"
   put "$layers"/lower/{a,b,c}.c "$text"
   fresh

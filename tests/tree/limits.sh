@@ -130,10 +130,8 @@ test_little_memory() {
 # Each growth of memory is refused in turn: a message says so if the diff of a changed file is lost.
 test_lost_for_memory() {
   local i lost=0 untold=0 refusing=$work/refuse.so source=$here/tests/faults/refuse.c
-  if ! "${cc[@]}" -O1 -shared -fPIC -o "$refusing" "$source" -ldl 2> /dev/null; then
-    left_out 'there is no C compiler: refused memory'
-    return
-  fi
+  "${cc[@]}" -O1 -shared -fPIC -o "$refusing" "$source" -ldl 2> /dev/null ||
+    { left_out 'there is no C compiler: refused memory'; return; }
   fresh src/a.c
   under any env REFUSE_COUNT="$work/count" LD_PRELOAD="$refusing" -- -d -DA src
   check test -s "$work/out"
