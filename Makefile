@@ -19,9 +19,6 @@ LDCONFIG ?= /sbin/ldconfig
 RT ?= rt
 override RT := $(if $(findstring /,$(RT)),$(shell realpath -ms -- '$(RT)'),$(RT))
 
-# The processor of `make native`, which is no other's.
-CPU = x86-64-v3
-
 # Python leaves nothing next to its files.
 export PYTHONDONTWRITEBYTECODE = 1
 
@@ -82,6 +79,8 @@ unifdef-tree: $(SOURCES)
 	$(PROVE) unifdef_tree_cli
 	cp $(CRATE_TREE)/out/unifdef_tree_cli $@
 
+# The processor is no other target's.
+CPU = x86-64-v3
 ## proves and builds ./unifdef-native, for AVX2 or CPU=..
 native: export UNIFDEF_CPU = $(CPU)
 native: $(SOURCES)

@@ -23,8 +23,8 @@ released() {
 # directory: those of packages (deb) or of sources (deb-src) of a release of Debian.
 lists_of() {
   local key=/usr/share/keyrings/debian-archive-keyring.gpg own=$work/$2-$1
-  apt="apt-get -o Dir::Etc::SourceList=$own/list -o Dir::Etc::SourceParts=/dev/null -o Dir::State::Lists=$own/lists"
-  apt+=" -o Dir::Cache=$own/cache -o APT::Sandbox::User=root"
+  apt="apt-get -o Dir::Etc::SourceList=$own/list -o Dir::Etc::SourceParts=/dev/null"
+  apt+=" -o Dir::State::Lists=$own/lists -o Dir::Cache=$own/cache -o APT::Sandbox::User=root"
   [ -e "$own/updated" ] || { mkdir -p "$own/lists/partial" "$own/cache/archives/partial" &&
     echo "$1 [signed-by=$key] http://deb.debian.org/debian $2 main" > "$own/list" &&
     $apt update && touch "$own/updated"; }

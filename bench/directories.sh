@@ -13,7 +13,7 @@ done
 cd "$work/headers"
 # A name that no file has, so that nothing changes, and one that most headers have.
 nowhere=-UNOFILEHASIT common=-U__cplusplus cat='find . -type f -exec cat {} +'
-commands=()
+commands=(-N -i --style none -w 1 -r "${BENCH_RUNS:-5}" --export-json "$work/times")
 for words in $nowhere "-q $nowhere" "-r $nowhere" "-p $nowhere" "-p -q $nowhere" -s "-n $nowhere" \
   "-n $common" "-n -p $common"; do
   commands+=(-n "unifdef-tree $words" "$program $words -- .")
@@ -23,11 +23,11 @@ for other in 'rg -uuu -j1 -l NOFILEHASIT .' "$released" "$cat"; do
   [ "$other" != "$released" ] || command -v unifdef > /dev/null || continue
   ! command -v "${other%% *}" > /dev/null || commands+=(-n "$other" "$other")
 done
-hyperfine -N -i --style none -w 1 -r "${BENCH_RUNS:-5}" --export-json "$work/times" "${commands[@]}" 2> /dev/null
+hyperfine "${commands[@]}" 2> /dev/null
 find . -type f -printf '%s\n' | awk '{ n += $1 } END { print NR " files, " n " bytes" }'
 { "$program" -n $nowhere -- . 2>&1 > /dev/null || true; } | head -n 1
 printf '\n| command, in that directory | seconds | times `cat` |\n| --- | --- | --- |\n'
 python3 -c 'import json, sys
-rows = [(it["command"], it["user"] + it["system"]) for it in json.load(open(sys.argv[1]))["results"]]
+rows = [(it["command"], it["user"] + it["system"]) for it in json.load(sys.stdin)["results"]]
 for command, seconds in rows:
-    print(f"| `{command}` | {seconds:.2f} | {seconds / rows[-1][1]:.2f} |")' "$work/times"
+    print(f"| `{command}` | {seconds:.2f} | {seconds / rows[-1][1]:.2f} |")' < "$work/times"

@@ -39,7 +39,8 @@ pruned() {
   without=$(counted 'still name')
   rm -rf "$work/copy" && cp -a "$directory" "$work/copy"
   run -p -r "$@" || failed "$package"
-  printf '| %s | `%s` | %s | %s | %s |\n' "${directory##*/}" "$*" "$without" "$(counted 'edited')" "$(counted 'still name')"
+  printf '| %s | `%s` | %s | %s | %s |\n' "${directory##*/}" "$*" \
+    "$without" "$(counted edited)" "$(counted 'still name')"
   { run -p "$@" && unchanged; } || failed "a second run changes $package"
   squeezed "$@"
 }

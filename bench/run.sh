@@ -10,8 +10,9 @@ needs "$program"
 # Unpacks the program of Debian 13, and tries it: it may need another C library.
 newer() {
   local apt
-  lists_of deb trixie && cd "$work" && $apt download unifdef && dpkg -x unifdef_*.deb "$work/newer" &&
-    "$work/newer/usr/bin/unifdef" -V
+  [ -z "${BENCH_NEWER:-}" ] || return 0
+  lists_of deb trixie && cd "$work" && $apt download unifdef && dpkg -x unifdef_*.deb newer &&
+    newer/usr/bin/unifdef -V
 }
 
 # Builds the released program from its source.
@@ -29,7 +30,7 @@ programs=("this=$program")
 add() { ! got "the $1 unifdef" "$1" || programs+=("$1=$2"); }
 add released /usr/bin/unifdef
 add rebuilt "$work/rebuilt"
-if [ -n "${BENCH_NEWER:-}" ]; then programs+=("newer=$BENCH_NEWER"); else add newer "$work/newer/usr/bin/unifdef"; fi
+add newer "${BENCH_NEWER:-$work/newer/usr/bin/unifdef}"
 if [ -z "${BENCH_SOURCES:-}" ] && got 'C source' source_of postgresql-15; then
   BENCH_SOURCES=$work/source/postgresql-15
 fi

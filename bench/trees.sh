@@ -11,7 +11,8 @@ released >&2
 # Fetches the C files of the kernel's source as Debian packs it. The package isn't installed.
 if [ -z "$source" ]; then
   package=$(apt-cache depends linux-source | sed -n 's/^ *Depends: *//p' | head -n 1)
-  [ -n "$package" ] || { echo "trees: no package of the kernel's source: run apt-get update" >&2; exit 1; }
+  [ -n "$package" ] ||
+    { echo "trees: no package of the kernel's source: run apt-get update" >&2; exit 1; }
   echo "trees: fetching $package" >&2
   (cd "$work" && apt-get download "$package" > /dev/null 2>&1 && dpkg-deb -x ./*.deb package)
   mkdir "$work/source"

@@ -16,5 +16,5 @@ below() {
   esac
 }
 
-sed -e "s|@PREFIX@|$(escaped "$1")|" -e "s|@LIBDIR@|$(below "$1" "$2")|" -e "s|@INCLUDEDIR@|$(below "$1" "$3")|" \
-  -e "s|@VERSION@|$(packaging/version.sh)|" lib/unifdef.pc.in
+sed -e "s|@PREFIX@|$(escaped "$1")|" -e "s|@LIBDIR@|$(below "$1" "$2")|" \
+  -e "s|@INCLUDEDIR@|$(below "$1" "$3")|" -e "s|@VERSION@|$(packaging/version.sh)|" lib/unifdef.pc.in

@@ -6,5 +6,5 @@
 prefix=${1%/}
 directory=$(python3 -c 'import site, sys
 paths = site.getsitepackages() + [site.getusersitepackages()] * bool(site.ENABLE_USER_SITE)
-print(next((it for it in paths if it.startswith(sys.argv[1] + "/lib/")), ""))' "$prefix" 2> /dev/null)
+print(next((p for p in paths if p.startswith(sys.argv[1] + "/lib/")), ""))' "$prefix" 2> /dev/null)
 printf '%s\n' "${directory:-$prefix/lib/python3/dist-packages}"

@@ -7,7 +7,8 @@ IFS=:
 for entry in $PATH; do
   if [ "$entry" = "$directory" ]; then
     seen=yes
-  elif [ "$seen" = yes ] && [ -x "$entry/unifdef" ] && "$entry/unifdef" -V 2>&1 < /dev/null | grep -q '^Version: '; then
+  elif [ "$seen" = yes ] && [ -x "$entry/unifdef" ] &&
+    "$entry/unifdef" -V 2>&1 < /dev/null | grep -q '^Version: '; then
     echo "install: $directory/unifdef now comes before the released $entry/unifdef on PATH." >&2
     echo "install: DIFFERENCES in unifdef(1) lists what it does in another way." >&2
   fi

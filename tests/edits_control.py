@@ -159,10 +159,7 @@ EDITS_BELOW = [
     (PROVED, "law_step_of_four", "height = 3", "height = 4"),
 ]
 # Those of which one can't be applied, and one has the name of another.
-UNREADABLE = [
-    (BAD, "lesser_is_absent", "a % b", "b % a"),
-    (BAD, "origin_is_1", "a / 2", "a / 1"),
-]
+UNREADABLE = [(BAD, "lesser_is_absent", "a % b", "b % a"), (BAD, "origin_is_1", "a / 2", "a / 1")]
 
 
 def write(file, text):

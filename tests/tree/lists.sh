@@ -44,9 +44,10 @@ test_names_over_lines() {
   after '0 -s -r -t src' prints 'src/a.c:1: #if A && \
 src/a.c:3: #elif C /* c
 src/a.c:8: #ifdef E \'
-  # What isn't understood even so is listed by its first line. A file with a vertical tab, a condition
-  # with a quote and one with a split word are read line by line.
-  put src/a.c '#if A && \\\n  B\n#endif\n#if C D \\\n  E\n#elif F /* x\n\n*/ G\n#endif\n#if H I\n#endif\n'
+  # What isn't understood even so is listed by its first line. A file with a vertical tab, a
+  # condition with a quote and one with a split word are read line by line.
+  put src/a.c '#if A && \\\n  B\n#endif\n#if C D \\\n  E\n#elif F /* x\n
+*/ G\n#endif\n#if H I\n#endif\n'
   put src/b.c '#if A && \\\r\n  B\r\n#endif\r\n#if C D \\\r\n  E\r\n#endif\r\n#if H I\r\n#endif\r\n'
   put src/c.c '#if A && \\\n  B\n#endif\n\v\n#if C D\n#endif\n'
   put src/d.c '#if A && "q" \\\n  B\n#elif A \\\n\n#endif\n#if A\\\nB\n#endif\n'
