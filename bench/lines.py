@@ -127,10 +127,11 @@ def main():
     options, jobs = parsed("Compares the numbers of lines before and after -n and -b.", fixed=fixed)
     if options.fixed and not shutil.which(CC):
         sys.exit(print(f"lines: left out, since {CC} is not there"))
-    with multiprocessing.Pool() as pool:
-        results = pool.imap_unordered(compare, [] if options.fixed else jobs, chunksize=16)
-        results = compare_fixed() if options.fixed else results
-        sums, status = report(results, "texts" if options.fixed else "files")
+    if options.fixed:
+        sums, status = report(compare_fixed(), "texts")
+    else:
+        with multiprocessing.Pool() as pool:
+            sums, status = report(pool.imap_unordered(compare, jobs, chunksize=16), "files")
     print(f"{sums[0]} lines compared")
     sys.exit(status)
 

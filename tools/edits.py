@@ -184,7 +184,7 @@ class Batch:
         self.texts, self.edits, self.names = {}, [], set()
 
     def add(self, edit, read, alone):
-        """Adds an edit, if no other one is of a function of the same name. Returns whether it is."""
+        """Adds an edit if no other one is of a function of the same name. Returns whether it is."""
         applied = edit.apply(self.texts, read)
         names = {name for _, name in applied[1]} if applied else set()
         if self.edits and (alone or not names or not self.names or names & self.names):
