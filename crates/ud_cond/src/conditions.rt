@@ -100,21 +100,9 @@ pub(crate) fn sole_name(text: &[u8]) -> Option<&[u8]>
     let text = skip_white(text);
     let length = word_len(text);
     let word = &text[..length];
-    if is_name_word(word) && are_white(&text[length..]) {
-        Some(word)
-    } else {
-        None
-    }
-}
-
-/// Returns whether a run of word bytes is an identifier.
-fn is_name_word(word: &[u8]) -> bool
-    requires { are_word_bytes word.now ≡ true }
-    ensures { result ≡ is_identifier word.now }
-{
-    match word.first() {
-        Some(first) => !is_digit(*first),
-        None => false,
+    match word {
+        [first, ..] if !is_digit(*first) && are_white(&text[length..]) => Some(word),
+        _ => None,
     }
 }
 
@@ -181,20 +169,6 @@ fn condition_by_test(test: Test, text: &[u8], symbols: &Symbols, rules: Rules) -
     }
 }
 
-/// Returns the decision by the rows of `symbols`. Only a directive that begins a section makes
-/// the section plain text.
-#[inline(always)]
-fn condition_by_kind(kind: Kind, text: &[u8], symbols: &Symbols, rules: Rules) -> Answer
-    requires fits { length text.now ≤ LINE_BYTES }
-    ensures { as_decision result ≡ spec.condition_of kind text.now symbols.now (as_rules rules) }
-{
-    let answer = condition_by_test(kind.test(), text, symbols, rules);
-    Answer {
-        cond: answer.cond,
-        ignoring: kind.role() == Role::IfGroup && answer.ignoring,
-    }
-}
-
 /// Returns the condition of a directive that no continuation cuts, and whether its section is
 /// plain text.
 ///
@@ -218,5 +192,9 @@ pub fn condition(kind: Kind, text: &[u8], symbols: &Symbols, rules: Rules) -> An
     ensures { (calls : List Argument) → TableRepresents symbols.now calls →
         as_decision result ≡ spec.condition_of kind text.now calls (as_rules rules) }
 {
-    condition_by_kind(kind, text, symbols, rules)
+    let answer = condition_by_test(kind.test(), text, symbols, rules);
+    Answer {
+        cond: answer.cond,
+        ignoring: matches!(kind.role(), Role::IfGroup) && answer.ignoring,
+    }
 }

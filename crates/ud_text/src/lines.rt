@@ -252,7 +252,10 @@ impl<H: LineBuffer> Lines<H> {
         ensures represents { (text : List ℕ) → LinesRepresent self.old text →
             LinesRepresent self.new (text ++ text_of (as_line result)) }
     {
-        let (body, ending) = split_newline(first_of(lines));
+        let Some(at) = find_newline(lines) else {
+            unreachable!();
+        };
+        let (body, ending) = split_newline(&lines[..at + 1]);
         let number = self.consumed + 1;
         self.consumed = number;
         Line {
@@ -484,20 +487,6 @@ fn first_line(chunk: &[u8]) -> Option<&[u8]>
         Some(chunk.split_at(taken.used).0)
     } else {
         None
-    }
-}
-
-/// Returns the first of these whole lines, with its ending.
-#[inline(always)]
-fn first_of(lines: &[u8]) -> &[u8]
-    requires whole { AreWholeLines lines.now }
-    requires some { 0 < length lines.now }
-    requires fit { EachFits (whole_lines lines.now) }
-    ensures { IsFirstLine lines.now result.now }
-{
-    match find_newline(lines) {
-        Some(at) => &lines[..at + 1],
-        None => unreachable!(),
     }
 }
 

@@ -1,7 +1,7 @@
 //! Parsing the directive of a line.
 
 ghost use Rattle.std.specs.Prelude.{◌≡◌, ◌+◌, length, IfOk, IfNone, IfSome, MatchOption, Some};
-ghost use Rattle.std.specs.Prelude.{None};
+ghost use Rattle.std.specs.Prelude.{None, true};
 ghost use Rattle.ud_model.specs.text.Bytes.{skip_white};
 ghost use Rattle.ud_model.specs.sections.Directives.{text, content_of, skip_white_and_hash};
 ghost use Rattle.ud_model.specs.sections.Directives.{is_continued_outside_comment};
@@ -32,38 +32,12 @@ pub fn directive<'a>(scan: &Scan<'a>) -> Result<Option<Directive<'a>>, Cut>
     ensures keyword_within { IfOk result (λ found. IfSome found (λ d.
         d.keyword.at + d.keyword.len + length d.after.now ≡ length scan.now.masked.now)) }
 {
-    match after_hash(scan) {
-        Some(after) => directive_after_hash(scan, after),
-        None => Ok(None),
+    if !scan.fresh {
+        return Ok(None);
     }
-}
-
-/// Returns what follows the `#` of a line, or `None` if the line is certainly text. Such a line
-/// isn't fresh, or its first byte after white space is no `#`.
-#[inline(always)]
-fn after_hash<'a>(scan: &Scan<'a>) -> Option<&'a [u8]>
-    ensures none { IfNone result (content_of (as_scan scan.now) ≡ text) }
-    ensures some { IfSome result (λ after. skip_white_and_hash scan.now.masked.now ≡
-        Some after.now) }
-{
-    if scan.fresh {
-        skip_hash(scan.masked)
-    } else {
-        None
-    }
-}
-
-/// Parses the directive of a line. `after` follows its `#`.
-///
-/// # Errors
-/// The errors of `directive`.
-#[inline(always)]
-fn directive_after_hash<'a>(scan: &Scan<'a>, after: &'a [u8]) -> Result<Option<Directive<'a>>, Cut>
-    requires { skip_white_and_hash scan.now.masked.now ≡ Some after.now }
-    ensures value { content_found result ≡ content_of (as_scan scan.now) }
-    ensures keyword_within { IfOk result (λ found. IfSome found (λ d.
-        d.keyword.at + d.keyword.len + length d.after.now ≡ length scan.now.masked.now)) }
-{
+    let Some(after) = skip_white_and_hash(scan.masked) else {
+        return Ok(None);
+    };
     if has_split_keyword(scan, after) {
         return Err(Cut);
     }
@@ -72,7 +46,7 @@ fn directive_after_hash<'a>(scan: &Scan<'a>, after: &'a [u8]) -> Result<Option<D
 
 /// Returns what follows the `#`, if one comes first after white space. Most begin their line.
 #[inline(always)]
-fn skip_hash(masked: &[u8]) -> Option<&[u8]>
+fn skip_white_and_hash(masked: &[u8]) -> Option<&[u8]>
     ensures { MatchOption result (skip_white_and_hash masked.now ≡ None)
         (λ rest. skip_white_and_hash masked.now ≡ Some rest.now) }
 {
@@ -96,13 +70,13 @@ fn skip_rare_white(text: &[u8]) -> &[u8]
     }
 }
 
-/// Returns whether a continuation may split the keyword after `#`.
+/// Returns whether a continuation may split the keyword after the `#` of a fresh line.
 #[inline(always)]
 fn has_split_keyword(scan: &Scan<'_>, after: &[u8]) -> bool
+    requires { scan.now.fresh ≡ true }
     ensures { result ≡ has_split_keyword (as_scan scan.now) (Some after.now) }
 {
-    scan.fresh
-        && scan.joins_after
+    scan.joins_after
         && scan.comment != CommentAt::InLine
         && may_split_keyword(is_continued_outside_comment(scan), skip_white(after))
 }
@@ -134,18 +108,16 @@ fn is_keyword_prefix(text: &[u8]) -> bool
     }
 }
 
-/// Parses the directive whose keyword follows the `#` of a line, if the line is fresh.
+/// Parses the directive whose keyword follows the `#` of a fresh line.
 #[inline(always)]
 fn parse_after_hash<'a>(scan: &Scan<'a>, after: &'a [u8]) -> Option<Directive<'a>>
-    requires { skip_white_and_hash scan.now.masked.now ≡ Some after.now }
+    requires fresh { scan.now.fresh ≡ true }
+    requires hash { skip_white_and_hash scan.now.masked.now ≡ Some after.now }
     ensures value { directive_or_text result ≡
         content_after_hash (as_scan scan.now) (Some after.now) }
     ensures keyword_within { IfSome result (λ d. d.keyword.at + d.keyword.len + length d.after.now ≡
         length scan.now.masked.now) }
 {
-    if !scan.fresh {
-        return None;
-    }
     let rest = skip_rare_white(after);
     let keyword = leading_keyword(rest)?;
     Some(Directive {

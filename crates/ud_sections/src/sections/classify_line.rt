@@ -40,16 +40,9 @@ pub(crate) fn classify(scan: &Scan<'_>, keyword: Span, kind: LineKind) -> Classi
     ClassifiedLine {
         kind,
         keyword,
-        spans: joins_a_neighbor(scan),
+        spans: scan.joins_before || scan.joins_after,
         joins_before: scan.joins_before,
     }
-}
-
-/// Returns whether the line joins a neighbour.
-fn joins_a_neighbor(scan: &Scan<'_>) -> bool
-    ensures { result ≡ is_spanning (as_scan scan.now) }
-{
-    scan.joins_before || scan.joins_after
 }
 
 /// Returns the symbols' decision on a line's directive. A broken directive is undecided. One that

@@ -89,7 +89,7 @@ impl OpenSection {
         let (verdict, state) = self.state.next_group(part, cond);
         let inner = OpenSection {
             state,
-            else_seen: part == Part::AnElse,
+            else_seen: matches!(part, Part::AnElse),
             ignoring: self.ignoring,
             if_line: self.if_line,
         };

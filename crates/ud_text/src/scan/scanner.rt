@@ -98,17 +98,6 @@ fn initial_state() -> ScanState
     }
 }
 
-/// Returns whether the state is that of a C run without lines.
-#[inline(always)]
-fn is_initial(scan_state: ScanState) -> bool
-    ensures { result ≡ true → scanner_state_of scan_state ≡ initial_scanner_state }
-{
-    match scan_state.lexer.state {
-        LexState::Text => scan_state.lexer.white && !scan_state.joins,
-        _ => false,
-    }
-}
-
 /// Returns whether the line ends in a backslash that deletes its ending.
 fn is_spliced(line: &Line<'_>) -> bool
     ensures { result ≡ is_spliced (as_line line.now) }
@@ -539,7 +528,11 @@ impl<H> Scanner<H> {
             IsScanOf self.now (as_line line.now) (as_scan scan)) }
         ensures masked { IfSome result (λ scan. scan.masked.now ≡ line.now.body.now) }
     {
-        if !is_initial(self.scan_state) {
+        let state = self.scan_state;
+        let LexState::Text = state.lexer.state else {
+            return None;
+        };
+        if !state.lexer.white || state.joins {
             return None;
         }
         if line.ending.is_empty() || !has_no_mark(line.body) {

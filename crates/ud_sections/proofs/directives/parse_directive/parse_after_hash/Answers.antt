@@ -5,8 +5,8 @@ use Rattle.ud_sections.proofs.directives.parse_directive.parse_after_hash.Goals 
 
 pub overflow_sub-result : goal.overflow_sub-result
 overflow_sub-result c = length-skip_white_and_hash c.args.scan.now.masked.now c.args.after.now
-    c.skip_rare_white-rest.result.now c.requires c.skip_rare_white-rest.ensures
+    c.skip_rare_white-rest.result.now c.requires.hash c.skip_rare_white-rest.ensures
 
 pub returns-clause-keyword_within : goal.returns-clause-keyword_within
 returns-clause-keyword_within c =
-    grind (arith, length-drop, length-take-le, length-skip_white_and_hash c.args.scan.now.masked.now c.args.after.now c.skip_rare_white-rest.result.now c.requires c.skip_rare_white-rest.ensures, c.in_ok-keyword.ensures.some.bound)
+    grind (arith, length-drop, length-take-le, length-skip_white_and_hash c.args.scan.now.masked.now c.args.after.now c.skip_rare_white-rest.result.now c.requires.hash c.skip_rare_white-rest.ensures, c.in_ok-keyword.ensures.some.bound)
