@@ -17,11 +17,12 @@ ghost use Rattle.ud_model.specs.conditions.Symbols as ends;
 ghost use Rattle.ud_cond.specs.symbols.Keys as spec;
 ghost use Rattle.ud_cond.specs.symbols.SymbolTable.{TableRepresents, SetsEntry, name_cmp};
 ghost use Rattle.ud_cond.specs.symbols.SymbolTable.{same_key_cmp, IsRowOf, IsGapFor, name_at};
-ghost use Rattle.ud_cond.specs.symbols.SymbolTable.{AreSorted};
+ghost use Rattle.ud_cond.specs.symbols.SymbolTable.{AreSorted, LacksNames};
 ghost use Rattle.ud_cond.specs.CondViews.{as_entry, argument_for};
 
 use first_bytes::FirstBytes;
 use keys::key_of;
+use memchr::memmem;
 use name_filter::NameFilter;
 use std::alloc::Global;
 use std::cmp::Ordering;
@@ -36,6 +37,10 @@ mod name_filter;
 
 pub use calls::SymbolCalls;
 pub use fault::SymbolFault;
+
+/// The most names for which `may_stand_in` searches. Each search of a text costs a fifth of what
+/// reading its directives does.
+const FEW_NAMES: usize = 3;
 
 /// The entry of a name: how it is defined, and whether its sections are plain text.
 #[derive(Clone, Copy, Debug, PartialEq, Eq)]
@@ -278,6 +283,25 @@ impl Symbols {
             result ≡ false → (rest : List ℕ) → entry_in calls (byte ∷ rest) ≡ None }
     {
         self.first_bytes.contains(byte)
+    }
+
+    /// Returns whether a name that has an entry may stand in a text; `false` only if none does, not
+    /// even within a word.
+    ///
+    /// Searches the text for each name. With more than `FEW_NAMES` names, the result is `true`.
+    pub fn may_stand_in(&self, text: &[u8]) -> bool
+        ensures { (calls : List Argument) → TableRepresents self.now calls →
+            result ≡ false → LacksNames calls text.now }
+    {
+        if self.rows.len() > FEW_NAMES {
+            return true;
+        }
+        for i in 0..self.rows.len() {
+            if let Some(_) = memmem::find(text, self.rows[i].name()) {
+                return true;
+            }
+        }
+        false
     }
 
     /// Returns the number of rows.

@@ -31,6 +31,7 @@ pub mod EditLemmas
 pub mod PassLemmas
 pub mod FitLemmas
 pub mod NameLemmas
+pub mod LackingLemmas
 pub mod MentionLemmas
 pub mod DefinitionLemmas
 pub mod SearchLemmas

@@ -30,7 +30,7 @@ use Rattle.ud_passes.specs.declared.remaining.search.Place.{Place}
 use Rattle.ud_passes.specs.declared.walk.Walk.{Walk}
 use Rattle.ud_passes.proofs.DefinitionLemmas.{clear_drop, DefineNothing, lines_clear}
 use Rattle.ud_passes.proofs.MentionLemmas.{end_of_text, taken_long}
-use Rattle.ud_passes.proofs.NameLemmas.{has_word-newline}
+use Rattle.ud_passes.proofs.NameLemmas.{has_word-other}
 use Rattle.ud_passes.proofs.WalkLemmas.{walk_ends}
 
 -- 1. The mentions of more lines.
@@ -134,7 +134,7 @@ appends_seen table name start new seen read e a =
 -- A word of the texts of some mentions is a word of a condition among them.
 pub texts_have : (table : List Argument) (name file : List ℕ) (ms : List Mention) → has_word (bytes_eq name) false (flat_map (line_of table Texts file) ms) ≡ list_any (has_name name) ms
 texts_have table name file [] = refl
-texts_have table name file (m ∷ ms) = grind (arith, append_assoc, has_word-newline, texts_have table name file ms)
+texts_have table name file (m ∷ ms) = grind (arith, append_assoc, has_word-other, texts_have table name file ms)
 
 -- So a word of the texts of all mentions is a word of a condition that names a listed symbol.
 pub texts_name : {table : List Argument} {file : List ℕ} {old new : Search} (mode : Mode) (bytes : List ℕ) → Appends table file (mentions_of table mode bytes) old new → old.list.items ≡ [] →

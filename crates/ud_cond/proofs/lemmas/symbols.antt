@@ -8,3 +8,4 @@ pub mod TableLemmas
 pub mod SortedLemmas
 pub mod FilterLemmas
 pub mod StableLemmas
+pub mod OccurrenceLemmas

@@ -1,8 +1,8 @@
 -- SymbolTable: the calls that a table of symbols represents, and the order of its rows.
 -- `ud_model.specs.conditions.Table` defines the entry that a list of calls gives a name.
 -- (unifdef(1), `-D`, `-U`, `-iD`, `-iU`)
-use Rattle.std.specs.Prelude.{◌≡◌, ℕ, ◌<◌, ◌≤◌, List, [], length, get_or, None, Some, bytes_eq}
-use Rattle.std.specs.Prelude.{false, if◌then◌else◌}
+use Rattle.std.specs.Prelude.{◌≡◌, ℕ, ◌<◌, ◌≤◌, List, [], ◌++◌, length, get_or, None, Some}
+use Rattle.std.specs.Prelude.{bytes_eq, false, if◌then◌else◌}
 use Rattle.std.specs.Ordering.{nat_cmp, ordering_then}
 use Rattle.std.specs.declared.cmp.Ordering.{Ordering}
 use Rattle.std.specs.declared.cmp.Ordering.TheVariants.{Less, Greater}
@@ -53,3 +53,9 @@ pub record IsGapFor (rows : List Argument) (i : ℕ) (name : List ℕ) : Type 0 
   pub within : i ≤ length rows
   pub after : (k : ℕ) → k < i → name_cmp (name_at rows k) name ≡ Less
   pub before : (k : ℕ) → i ≤ k → k < length rows → name_cmp (name_at rows k) name ≡ Greater
+
+-- `LacksNames table text`: no name to which the table gives an entry stands in the text, not even
+-- within a word
+abbrev pub LacksNames : List Argument → List ℕ → Type 0
+LacksNames table text = (before name after : List ℕ) → text ≡ before ++ (name ++ after) →
+    entry_in table name ≡ None

@@ -1,14 +1,16 @@
 //! The names in a text that symbols have.
 
-ghost use Rattle.std.specs.Prelude.{◌≡◌, ◌≤◌, List, ℕ, false, length, bytes_eq};
+ghost use Rattle.std.specs.Prelude.{◌≡◌, ◌&&◌, ◌≤◌, List, ℕ, false, length, bytes_eq};
 ghost use Rattle.std.specs.List.{list_any};
 ghost use Rattle.ud_model.specs.conditions.Conditions.{is_listed};
 ghost use Rattle.ud_model.specs.conditions.Names.{names_of};
 ghost use Rattle.ud_model.specs.conditions.Table.{Argument};
 ghost use Rattle.ud_model.specs.declared.limits.TheConstants.{LINE_BYTES};
-ghost use Rattle.ud_cond.specs.symbols.SymbolTable.{TableRepresents};
-ghost use Rattle.ud_passes.specs.remaining.ListedNames.{has_listed, has_word};
+ghost use Rattle.ud_cond.specs.symbols.SymbolTable.{TableRepresents, LacksNames};
+ghost use Rattle.ud_passes.specs.remaining.ListedNames.{has_listed, has_word, ends_in_word};
+ghost use Rattle.ud_passes.specs.remaining.ListedNames.{begins_ending, splits_word};
 
+use memchr::memchr;
 use ud_cond::{Symbols, names};
 use ud_model::Kind;
 use ud_model::bytes::{is_word_byte, word_len};
@@ -58,6 +60,46 @@ pub(crate) fn has_word(name: &[u8], text: &[u8]) -> bool
         }
     }
     false
+}
+
+/// Returns whether a word may go on over a backslash between these bytes: it ends a line, and a
+/// word byte precedes it.
+fn is_split(before: &[u8], after: &[u8]) -> bool
+    ensures { result ≡ (ends_in_word false before.now && begins_ending after.now) }
+{
+    match before {
+        [.., last] if is_word_byte(*last) => after.starts_with(b"\n") || after.starts_with(b"\r"),
+        _ => false,
+    }
+}
+
+/// Returns whether a word may go on over a backslash at the end of a line.
+fn splits_word(text: &[u8]) -> bool
+    ensures { result ≡ splits_word false text.now }
+{
+    let mut at = 0;
+    while at < text.len() {
+        let Some(count) = memchr(b'\\', &text[at..]) else {
+            return false;
+        };
+        let end = at + count;
+        if is_split(&text[at..end], &text[end + 1..]) {
+            return true;
+        }
+        at = end + 1;
+    }
+    false
+}
+
+/// Returns whether a text may have a mention that names a symbol; `false` only if it has none.
+///
+/// A name stands in the text, unless it goes on over the end of a line.
+pub(crate) fn may_name(symbols: &Symbols, text: &[u8]) -> bool
+    ensures lacks { (calls : List Argument) → TableRepresents symbols.now calls →
+        result ≡ false → LacksNames calls text.now }
+    ensures unsplit { result ≡ false → splits_word false text.now ≡ false }
+{
+    symbols.may_stand_in(text) || splits_word(text)
 }
 
 /// Returns whether an operand of an `#if` or `#elif` is a symbol's name.

@@ -21,7 +21,7 @@ use crate::remaining::definitions::clear_len;
 use crate::remaining::lines::{append_reason, append_text};
 use crate::remaining::listing::Listing;
 use crate::remaining::mentions::{Begun, Class, take_line};
-use crate::remaining::names::has_listed;
+use crate::remaining::names::{has_listed, may_name};
 use crate::remaining::reasons::reason_of;
 use crate::walk::{LineScanner, Stretch, Walk};
 use std::alloc::{AllocError, Global};
@@ -315,6 +315,9 @@ impl Search {
         ensures added { OnOk result ((calls : List Argument) → TableRepresents symbols.now calls →
             Appends calls name.now (mentions_of calls mode text.now) self.old self.new) }
     {
+        if !may_name(symbols, text) {
+            return Ok(());
+        }
         let mut walk = Walk::new(*self.list.allocator(), text);
         let mut place = Place {
             number: 1,

@@ -1,6 +1,7 @@
 -- From the first line to the last.
 use Rattle.std.proofs.Common.{ℕ, List, [], length, append-nil, sym, ◌∙◌, ap, refl, arith}
 use Rattle.ud_text.proofs.lemmas.scan.PassLemmas.{nothing_left}
+use Rattle.ud_passes.proofs.LackingLemmas.{appends_nothing}
 use Rattle.ud_passes.proofs.SearchLemmas.{first_place, all_searched}
 use Rattle.ud_passes.proofs.remaining.search.Search.search.Goals as goal
 
@@ -17,3 +18,6 @@ pub returns-clause-added : goal.returns-clause-added
 returns-clause-added c = λ calls h.
     all_searched calls c.args.mode c.args.name.now c.args.text.now c.args.self.now c.loop-mode.self c.end.new.self c.loop-mode.place c.loop-mode.walk (c.loop-mode.invariant.searched calls h)
     (nothing_left c.loop-mode.walk.rest.now (sym c.is_at_end.ensures ∙ c.loop-mode-test.false)) (c.in_ok-end.ensures.appends calls h)
+
+pub returns-then-not-may_name-clause-added : goal.returns-then-not-may_name-clause-added
+returns-then-not-may_name-clause-added c = λ calls h. appends_nothing calls c.args.mode c.args.name.now c.args.text.now c.args.self.now (c.may_name.ensures.lacks calls h c.if-not-may_name.true) (c.may_name.ensures.unsplit c.if-not-may_name.true)
