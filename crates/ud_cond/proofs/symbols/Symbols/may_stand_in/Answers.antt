@@ -5,9 +5,6 @@ use Rattle.ud_cond.specs.symbols.SymbolTable.{name_at, no_row}
 use Rattle.ud_cond.proofs.lemmas.symbols.OccurrenceLemmas.{StandsNowhere, lacking, up_to}
 use Rattle.ud_cond.proofs.symbols.Symbols.may_stand_in.Goals as goal
 
-pub loop-i-init : goal.loop-i-init
-loop-i-init c = λ k low. absurd (omega arith)
-
 pub loop-i-preserved : goal.loop-i-preserved
 loop-i-preserved c =
     let rows = c.self.inside.rows.items in

@@ -5,16 +5,6 @@ use Rattle.ud_cond.specs.expressions.Stacks.{frames, IsSettled}
 use Rattle.ud_cond.proofs.lemmas.expressions.StackLemmas.{settled-top}
 use Rattle.ud_cond.proofs.expressions.stacks.Stacks.pop_operator.Goals as goal
 
-pub push-requires : goal.push-requires
-push-requires g c = let most = c.self.invariant.2.0 in
-    let held = c.self.invariant.1 in
-    (omega arith, omega (arith, c.in-Some-Binary.ensures.len))
-
-pub push-requires-in-Some-Opening : goal.push-requires-in-Some-Opening
-push-requires-in-Some-Opening g c = let most = c.self.invariant.2.0 in
-    let held = c.self.invariant.1 in
-    (omega arith, omega (arith, c.in-Some-Opening.ensures.len))
-
 pub returns-then-precedence-least-clause-none : goal.returns-then-precedence-least-clause-none
 returns-then-precedence-least-clause-none g c =
     let operands = reverse c.self.inside.operands.items in
