@@ -20,7 +20,6 @@ ghost use Rattle.ud_cond.specs.symbols.SymbolTable.{same_key_cmp, IsRowOf, IsGap
 ghost use Rattle.ud_cond.specs.symbols.SymbolTable.{AreSorted, LacksNames};
 ghost use Rattle.ud_cond.specs.CondViews.{as_entry, argument_for};
 
-use first_bytes::FirstBytes;
 use keys::key_of;
 use memchr::memmem;
 use name_filter::NameFilter;
@@ -31,7 +30,6 @@ use ud_model::bytes::{is_identifier, is_name};
 
 mod calls;
 mod fault;
-mod first_bytes;
 mod keys;
 mod name_filter;
 
@@ -188,23 +186,20 @@ pub struct Symbols {
     rows: Vec<Row>,
     /// The filter of the rows' names.
     filter: NameFilter,
-    /// The first bytes of the rows' names.
-    first_bytes: FirstBytes,
 }
 
 impl Model for Symbols {
     ghost use Rattle.std.specs.Prelude.{List};
     ghost use Rattle.ud_model.specs.conditions.Table.{Argument};
     ghost use Rattle.ud_cond.specs.symbols.SymbolTable.{AreSorted};
-    ghost use Rattle.ud_cond.specs.symbols.NameFilters.{AllNames, has_slot, has_first};
+    ghost use Rattle.ud_cond.specs.symbols.NameFilters.{AllNames, has_slot};
 
     ghost Value = { List Argument };
 
     ghost view = { λ s. s.rows.items };
 
     ghost invariant = { λ s. AreSorted s.rows.items ×
-        AllNames (has_slot s.filter.words) s.rows.items ×
-        AllNames (has_first s.first_bytes.bytes) s.rows.items };
+        AllNames (has_slot s.filter.words) s.rows.items };
 }
 
 impl Symbols {
@@ -217,7 +212,6 @@ impl Symbols {
             alloc,
             rows: Vec::new(alloc),
             filter: NameFilter::new(),
-            first_bytes: FirstBytes::new(),
         }
     }
 
@@ -274,15 +268,6 @@ impl Symbols {
             Ok(i) => Some(self.rows[i].entry()),
             Err(_) => None,
         }
-    }
-
-    /// Returns whether a name that begins with this byte may have an entry.
-    #[inline(always)]
-    pub fn may_begin_with(&self, byte: u8) -> bool
-        ensures { (calls : List Argument) → TableRepresents self.now calls →
-            result ≡ false → (rest : List ℕ) → entry_in calls (byte ∷ rest) ≡ None }
-    {
-        self.first_bytes.contains(byte)
     }
 
     /// Returns whether a name that has an entry may stand in a text; `false` only if none does, not
@@ -420,7 +405,6 @@ impl Symbols {
         ensures fault { OnErr result (IsErrOf result SymbolFault.OutOfMemory) }
     {
         self.filter.insert(key);
-        self.first_bytes.insert(row.name());
         let added = self.rows.insert(i, row);
         match added {
             Ok(()) => Ok(()),

@@ -1,7 +1,5 @@
--- NameFilters: the slots and the first bytes by which most unlisted names are rejected without a
--- search.
+-- NameFilters: the slots by which most unlisted names are rejected without a search.
 use Rattle.std.specs.Prelude.{◌≡◌, ℕ, ◌*◌, ◌/◌, ◌%◌, ◌^◌, ◌==◌, List, [], ◌∷◌, get_or, Bool, true}
-use Rattle.std.specs.Prelude.{false}
 use Rattle.std.specs.Int.{bit_at}
 use Rattle.ud_model.specs.conditions.Table.{Argument}
 use Rattle.ud_cond.specs.symbols.Keys.{key_of}
@@ -23,15 +21,6 @@ slot_is_set noted key = bit_of noted (slot_of key) == 1
 -- `has_slot noted name`: the slot of the key of the name is set in `noted`
 abbrev pub has_slot : List ℕ → List ℕ → Bool
 has_slot noted name = slot_is_set noted (key_of name)
-
--- `has_byte bytes b`: the set `bytes`, which has a truth for each byte, has `b`
-abbrev pub has_byte : List Bool → ℕ → Bool
-has_byte bytes b = get_or bytes b false
-
--- `has_first bytes name`: the set has the first byte of the name, if there is one
-abbrev pub has_first : List Bool → List ℕ → Bool
-has_first bytes [] = true
-has_first bytes (b ∷ name) = has_byte bytes b
 
 -- `AllNames p rows`: the name of each row passes the test `p`
 abbrev pub AllNames : (List ℕ → Bool) → List Argument → Type 0

@@ -14,21 +14,15 @@ ghost use Rattle.ud_passes.specs.remaining.Definitions.{IsClear};
 use crate::remaining::names::is_listed;
 use memchr::memchr;
 use ud_cond::Symbols;
-use ud_model::bytes::{is_word_byte, skip_white, word_len};
+use ud_model::bytes::{skip_white, word_len};
 
-/// Returns whether a text begins, after white space, with the name of a symbol. Most names begin
-/// with a byte that no symbol begins with.
+/// Returns whether a text begins, after white space, with the name of a symbol.
 #[inline(always)]
 fn begins_with_name(symbols: &Symbols, text: &[u8]) -> bool
     ensures { (calls : List Argument) → TableRepresents symbols.now calls →
         result ≡ is_listed calls (leading_word (skip_white text.now)) }
 {
     let name = skip_white(text);
-    if let Some(first) = name.first() {
-        if is_word_byte(*first) && !symbols.may_begin_with(*first) {
-            return false;
-        }
-    }
     is_listed(symbols, name.split_at(word_len(name)).0)
 }
 
