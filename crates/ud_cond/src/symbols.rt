@@ -38,7 +38,7 @@ pub use fault::SymbolFault;
 
 /// The most names for which `may_stand_in` searches. Each search of a text costs a fifth of what
 /// reading its directives does.
-const FEW_NAMES: usize = 3;
+const FEW_NAMES: usize = 4;
 
 /// The entry of a name: how it is defined, and whether its sections are plain text.
 #[derive(Clone, Copy, Debug, PartialEq, Eq)]
