@@ -1,6 +1,6 @@
 -- PartLemmas: a line is compared with its parts, part by part: it equals them if the rests are
 -- equal.
-use Rattle.std.proofs.Common.{◌≡◌, ◌∙◌, ◌≤◌, ◌+◌, ◌⊎◌, inl, inr, ℕ, List, [], ◌∷◌, ◌++◌, length, take, drop, get_or, min, Bool, true, false, ◌&&◌, nat_eq, bytes_eq, arith, nat_le, length-append, Bor, zero, suc, add-one, refl, sym, ap, ap₂, subst, append_assoc, append-nil, take-append-drop}
+use Rattle.std.proofs.Common.{◌≡◌, ◌∙◌, ◌≤◌, ◌+◌, ◌⊎◌, ℕ, List, [], ◌∷◌, ◌++◌, length, take, drop, get_or, min, Bool, true, false, ◌&&◌, nat_eq, bytes_eq, arith, nat_le, length-append, Bor, zero, suc, refl, sym, ap, ap₂, append_assoc, append-nil, take-append-drop, rules}
 use Rattle.std.specs.List.{flat_map}
 use Rattle.std.proofs.lemmas.List.{take-append-le, length-take, append_cancel_right}
 use Rattle.std.proofs.lemmas.Slice.Eq.{bytes_eq-Decides}
@@ -88,30 +88,19 @@ module _ (p more body ending prefix back : List ℕ) (split : Split p body prefi
 
   module _ (b : List ℕ) (is : bytes_eq (take (length prefix) body) prefix ≡ true) (rest : b ≡ drop (length prefix) body) where
     ends : (back ≡ []) ⊎ (b ≡ [])
-    ends = or_end split.ends
-      where
-        or_end : (back ≡ []) ⊎ (length body ≡ length prefix) → (back ≡ []) ⊎ (b ≡ [])
-        or_end (inl none) = inl none
-        or_end (inr e) = inr (no_rest prefix b body (stripped body prefix b is rest) e)
+    ends = grind (arith, common_steps)
 
     behind_body : bytes_eq (p ++ more) (body ++ ending) ≡ bytes_eq (back ++ more) (b ++ ending)
-    behind_body =
-        ap₂ (λ (x y : List ℕ). bytes_eq (x ++ more) (y ++ ending)) split.whole (stripped body prefix b is rest)
-        ∙ in_body prefix back more b ending ends
+    behind_body = grind (arith, common_steps, stripped, in_body)
 
     -- the ending doesn't begin with the rest of the part
     pub other_ending : bytes_eq (take (length back) ending) back ≡ false → bytes_eq (p ++ more) (body ++ ending) ≡ false
-    other_ending h = behind_body ∙ by_end ends
-      where
-        by_end : (back ≡ []) ⊎ (b ≡ []) → bytes_eq (back ++ more) (b ++ ending) ≡ false
-        by_end (inl none) = absurd (cc (subst (λ (x : List ℕ). bytes_eq (take (length x) ending) x ≡ false) none h))
-        by_end (inr none) = subst (λ (x : List ℕ). bytes_eq (back ++ more) (x ++ ending) ≡ false) (sym none) (other_front back more ending h)
+    other_ending h = grind (arith, common_steps, behind_body, other_front)
 
     -- without the part and what it equals, the rests are compared
     pub next_part : (e : List ℕ) → bytes_eq (take (length back) ending) back ≡ true → e ≡ drop (length back) ending →
         bytes_eq (p ++ more) (body ++ ending) ≡ bytes_eq more (b ++ e)
-    next_part e same last =
-        behind_body ∙ ap (λ (x : List ℕ). bytes_eq (back ++ more) (b ++ x)) (stripped ending back e same last) ∙ (grind (arith, bytes_eq, same_front, ends))
+    next_part e same last = search (rules, behind_body, stripped, same_front, ends)
 
 -- the part of no bytes
 abbrev pub no_part : Bor (List ℕ)
@@ -137,6 +126,4 @@ take_firsts (suc k) (suc n) (p ∷ ps) h = ap (λ (t : List ℕ). p.now ++ t) (t
 pub one_before : (first : Bor (List ℕ)) (ps : List (Bor (List ℕ))) (n : ℕ) → n ≤ 4 →
     bytes_of (take (n + 1) (first ∷ get_or ps 0 no_part ∷ get_or ps 1 no_part ∷ get_or ps 2 no_part ∷ get_or ps 3 no_part ∷ []))
     ≡ first.now ++ bytes_of (take n ps)
-one_before first ps n h = rw add-one
-    (ap (λ (t : List (Bor (List ℕ))). first.now ++ bytes_of (take n t)) (sym (grind arith))
-    ∙ ap (λ (t : List ℕ). first.now ++ t) (take_firsts 4 n ps h))
+one_before first ps n h = grind (arith, take_firsts 4 n ps h)

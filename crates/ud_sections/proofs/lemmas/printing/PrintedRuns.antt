@@ -1,15 +1,13 @@
 -- PrintedRuns: the output for the next line by its verdict, and for many text lines by that for
 -- one.
-use Rattle.std.proofs.Common.{arith, ◌≡◌, ℕ, List, [], ◌∷◌, ◌++◌, Bool, true, false, map, refl, sym, ap, ap₂, subst, append_assoc, append-nil}
+use Rattle.std.proofs.Common.{arith, ◌≡◌, ℕ, List, [], ◌∷◌, ◌++◌, Bool, true, false, map, refl, sym, ap₂, subst, append_assoc, append-nil}
 use Rattle.ud_model.specs.text.Lines.{Line, text_of}
-use Rattle.ud_model.specs.answer.Printing.{Judged, last_removed, piece_after, pieces_by, complement_verdict, complemented}
+use Rattle.ud_model.specs.answer.Printing.{Judged, last_removed, piece_after, pieces_by}
 use Rattle.ud_model.specs.declared.verdict.Verdict.{Verdict}
 use Rattle.ud_model.specs.declared.verdict.Verdict.TheVariants.{Keep, Remove}
 use Rattle.ud_model.proofs.answer.PrintingLemmas.{last_removed-more}
 use Rattle.ud_sections.specs.printing.Styles.{renumber_style}
-use Rattle.ud_sections.specs.printing.PrinterOutputs.{judged_text, PrintsOne, GivesLineOutput}
-use Rattle.ud_sections.specs.declared.printing.line_output.LineOutput.{LineOutput}
-use Rattle.ud_sections.specs.declared.printing.line_output.LineOutput.TheVariants.{Whole, Nothing, Ending, Parts}
+use Rattle.ud_sections.specs.printing.PrinterOutputs.{judged_text, PrintsOne}
 use Rattle.ud_sections.proofs.lemmas.printing.RenumberLemmas.{removed_piece, following_piece}
 
 -- `own l` is printed for each text line `l` with this verdict, however many come after lines that the
@@ -35,21 +33,3 @@ kept_one removed h = grind (arith, following_piece, last_removed-more)
 -- after a removed line, nothing is printed for a removed one
 pub removed_one : (removed : Bool) → removed ≡ true → PrintsOne (λ before. removed ≡ last_removed before) (piece_after renumber_style) Remove (λ l. [])
 removed_one removed h = grind (arith, removed_piece, last_removed-more)
-
-module _ (given : List Judged → Type 0) (piece : List Judged → Judged → List ℕ) where
-  map_more : (before js : List Judged) → map complemented (before ++ js) ≡ map complemented before ++ map complemented js
-  map_more [] js = refl
-  map_more (j ∷ before) js = ap (λ ks. complemented j ∷ ks) (map_more before js)
-
-  complement_one : (verdict other : Verdict) (own : Line → List ℕ) → other ≡ complement_verdict verdict → PrintsOne given piece other own →
-      PrintsOne (λ bs. given (map complemented bs)) (λ bs j. piece (map complemented bs) (complemented j)) verdict own
-  complement_one verdict other own h k = grind (arith, map_more)
-
-  -- the complement prints for lines with this verdict what the printer prints for lines with the
-  -- other one
-  pub complement_leaves : (verdict other : Verdict) (left : LineOutput) → other ≡ complement_verdict verdict → GivesLineOutput given piece other left →
-      GivesLineOutput (λ bs. given (map complemented bs)) (λ bs j. piece (map complemented bs) (complemented j)) verdict left
-  complement_leaves verdict other Whole e h = complement_one verdict other text_of e h
-  complement_leaves verdict other Nothing e h = complement_one verdict other (λ l. []) e h
-  complement_leaves verdict other Ending e h = complement_one verdict other (λ l. l.ending) e h
-  complement_leaves verdict other Parts e h = tt

@@ -1,6 +1,5 @@
 -- ActionLemmas: how a line changes the open sections of a text, and which mark it has.
-use Rattle.std.proofs.Common.{◌≡◌, ℕ, suc, ◌+◌, ◌-◌, List, [], ◌∷◌, ◌++◌, length, slice_get, Bool, true, false, not, ◌&&◌, ◌||◌, Option, Some, None, refl, sym, ◌∙◌, ap, ap₂, append_assoc, append-nil, length-append, arith, take, if◌then◌else◌}
-use Rattle.std.proofs.Math.Seq.{take-append_seam}
+use Rattle.std.proofs.Common.{◌≡◌, ℕ, suc, ◌-◌, List, [], ◌∷◌, ◌++◌, length, slice_get, Bool, true, false, not, ◌&&◌, ◌||◌, Option, Some, None, refl, sym, ◌∙◌, ap, ap₂, append_assoc, append-nil, length-append, arith, take, if◌then◌else◌}
 use Rattle.ud_model.specs.declared.cond.Cond.{Cond}
 use Rattle.ud_model.specs.declared.cond.Cond.TheVariants.{Yes, No, Unknown}
 use Rattle.ud_model.specs.text.Scans.{Reading}
@@ -9,7 +8,7 @@ use Rattle.ud_model.specs.sections.Faults.{Fault, eof_in_comment, premature_eof,
 use Rattle.ud_model.specs.sections.Pruning.{Part, an_elif, an_else, Mark, marked, is_inside_kept, endif_verdict, conds_of_elifs, conds_of_head, any_true, all_false, gives_way, ends_with_first_true, is_false, is_kept, first_kept_verdict, later_verdict}
 use Rattle.ud_model.specs.aids.SoFar.{verdict_so_far, nodes_so_far, groups_so_far, head_so_far, marks_so_far}
 use Rattle.ud_model.specs.sections.Items.{line_of}
-use Rattle.ud_model.proofs.sections.Growth.{Adds, adds_text, adds_if, elif_after_if, elif_after_elif, else_after_if, else_after_elif, adds_endif, adds_under, complete, conds-complete}
+use Rattle.ud_model.proofs.sections.Growth.{Adds, adds_text, adds_if, elif_after_if, elif_after_elif, else_after_if, else_after_elif, adds_endif, adds_under, complete}
 use Rattle.ud_sections.specs.declared.sections.open_section.OpenSection.{OpenSection}
 use Rattle.ud_sections.specs.declared.sections.open_section.StackOp.{StackOp}
 use Rattle.ud_sections.specs.declared.sections.open_section.StackOp.TheVariants.{Stay, Push, Replace, Pop}
@@ -25,6 +24,7 @@ use Rattle.ud_sections.specs.sections.ClassifiedLines.{item_kind}
 use Rattle.ud_model.specs.declared.verdict.Verdict.TheVariants.{Keep, Remove, ToEndif}
 use Rattle.ud_sections.specs.declared.sections.section_state.SectionState.{SectionState}
 use Rattle.ud_sections.specs.declared.sections.section_state.SectionState.TheVariants.{InRemoved, NoneKept, LastUnknown, LastFalse, AfterTrue}
+use Rattle.std.proofs.lemmas.Grind.{common_steps}
 
 -- The table by states is the table of verdicts by the groups so far.
 
@@ -52,9 +52,6 @@ kept_live c = grind arith
 
 kept_skip : (c : Cond) → is_kept_in (next_section_state LastFalse c) ≡ (not (is_false c) && true)
 kept_skip c = grind arith
-
-kept_seek : (c : Cond) → is_kept_in (next_section_state NoneKept c) ≡ (not (is_false c) && true)
-kept_seek c = grind arith
 
 kept_never : (c : Cond) → false ≡ (not (is_false c) && false)
 kept_never c = grind arith
@@ -88,7 +85,7 @@ seek_opener part c = grind arith
 -- the state of a section in a kept place agrees with the conditions of its groups
 pub agrees : (cs : List Cond) →
     Agrees (section_state_after NoneKept cs) (λ c. gives_way (cs ++ c ∷ [])) (gives_way cs) (all_false cs) (any_true cs) (ends_with_first_true cs)
-agrees [] = record { lives = refl; opener = seek_opener; endif = refl; kept = kept_seek }
+agrees [] = record { lives = refl; opener = seek_opener; endif = refl; kept = λ c. grind arith }
 agrees (No ∷ cs) = agrees cs
 agrees (Unknown ∷ cs) = live_agrees cs
 agrees (Yes ∷ []) = record { lives = refl; opener = λ part c. refl; endif = refl; kept = kept_never }
@@ -170,9 +167,7 @@ module _ (p : Bool) where
       change = Replace (section_with_group (section_of kept plain h) part c);
     };
     is_act = acts ∙ rw no_else refl;
-    marks_are =
-        append-nil _ ∙ ap (λ ms. nodes_so_far kept ns ++ ms) (marks ∙ ap (λ m. (head_so_far kept h ++ nodes_so_far (kept && is_inside_kept h) b) ++ m ∷ []) (opener_mark kept (conds_of_head h) part c))
-        ∙ simp append_assoc;
+    marks_are = grind (arith, common_steps, opener_mark);
     changes = ([], section_of kept plain h, refl, ap (λ l. l ∷ []) level);
   }
 
@@ -199,20 +194,15 @@ module _ (p : Bool) where
   moves kept plain d e f (adds_endif {ns = ns} {b = b} {h = h} {l = l}) = record {
     action = endif_action (section_of kept plain h);
     is_act = refl;
-    marks_are = ap₂ (λ ms m. (nodes_so_far kept ns ++ ms) ++ m ∷ []) (groups_complete kept h b)
-        (ap (λ cs. marked kept (endif_verdict cs)) (conds-complete h b) ∙ endif_mark kept (conds_of_head h))
-        ∙ simp append_assoc;
+    marks_are = grind (arith, common_steps, endif_mark);
     changes = (section_of kept plain h, refl);
   }
-  moves kept plain d e f (adds_under {ns = ns} {h = h} {t = t} {u = u} {x = x} a) =
-      let m : Moved p (kept && is_inside_kept h) (plain || (opener_of_head h).ignoring) (Some (section_of kept plain h)) t u x =
-      moves (kept && is_inside_kept h) (plain || (opener_of_head h).ignoring) (Some (section_of kept plain h)) (kept_inside kept h) refl a in
-      record {
-        action = m.action;
-        is_act = m.is_act;
-        marks_are = rw m.marks_are simp append_assoc;
-        changes = changes_under m.action.change (section_of kept plain h) _ _ m.changes;
-      }
+  moves kept plain d e f (adds_under {ns = ns} {h = h} {t = t} {u = u} {x = x} a) = grind (
+    arith,
+    moves (kept && is_inside_kept h) (plain || (opener_of_head h).ignoring) (Some (section_of kept plain h)) (kept_inside kept h) refl a,
+    append_assoc,
+    changes_under,
+  )
 
   -- a line with an action is added
   pub takes : (kept plain : Bool) (t : Tree Reading) (x : Item Reading) (a : Action) →
@@ -318,9 +308,7 @@ pub changes_deeper : (c : StackOp) (old new : List OpenSection) → Applies c ol
 changes_deeper c old new h k = grind (arith, length-append)
 
 front_of : (ls : List OpenSection) (l : OpenSection) → take (length (ls ++ l ∷ []) - 1) (ls ++ l ∷ []) ≡ ls
-front_of ls l = let k : length (ls ++ l ∷ []) ≡ length ls + 1 = length-append ls (l ∷ []) in
-    let e : length (ls ++ l ∷ []) - 1 ≡ length ls = omega (arith, k) in
-    rw e (take-append_seam ls (l ∷ []))
+front_of ls l = grind (arith, common_steps)
 
 -- the change of the old open sections gives the new ones
 pub changed_is : (c : StackOp) (old new : List OpenSection) → Applies c old new → applied c old ≡ new

@@ -1,11 +1,11 @@
 -- CheckLemmas: what the check of a line means for the line after sound ones.
-use Rattle.std.proofs.Common.{◌≡◌, ◌≢◌, ℕ, ◌<◌, ◌≤◌, ◌==◌, [], ◌∷◌, ◌++◌, Bool, true, false, ◌&&◌, if◌then◌else◌, Option, Some, None, Ok, Err, refl, sym, ◌∙◌, ap, subst, arith, length-append}
+use Rattle.std.proofs.Common.{◌≡◌, ◌≤◌, ◌==◌, [], ◌∷◌, ◌++◌, Bool, true, false, ◌&&◌, if◌then◌else◌, Option, Some, None, Ok, Err, refl, sym, ◌∙◌, ap, subst, arith, rules}
 use Rattle.std.proofs.lemmas.Bool.{eqb-true}
 use Rattle.ud_model.specs.text.Scans.{Reading, is_spanning}
 use Rattle.ud_model.specs.sections.Tree.{Item, Tree, lines, depth}
 use Rattle.ud_model.specs.sections.Pruning.{marks}
 use Rattle.ud_model.specs.sections.Items.{reading_of, line_of}
-use Rattle.ud_model.specs.sections.Faults.{FaultOf, is_obfuscated, is_directive, misplaced_fault, ends_removed, NoneHolds, cases}
+use Rattle.ud_model.specs.sections.Faults.{FaultOf, is_obfuscated, is_directive, ends_removed, NoneHolds, cases}
 use Rattle.ud_model.specs.declared.limits.TheConstants.{OPEN_SECTIONS}
 use Rattle.ud_model.proofs.sections.Growth.{Adds, lines-add}
 use Rattle.ud_model.proofs.sections.Unique.{grows}
@@ -16,13 +16,14 @@ use Rattle.ud_sections.specs.declared.sections.check.LineContext.{LineContext}
 use Rattle.ud_sections.specs.declared.sections.open_section.Action.{Action}
 use Rattle.ud_sections.specs.declared.sections.classify_line.ClassifiedLine.{ClassifiedLine}
 use Rattle.ud_sections.specs.sections.Actions.{act, Applies}
-use Rattle.ud_sections.specs.sections.Checking.{is_directive_kind, opens_section, is_obfuscated_by, misplaced_fault_by, checked_action, checked_by}
+use Rattle.ud_sections.specs.sections.Checking.{is_directive_kind, opens_section, is_obfuscated_by, checked_action, checked_by}
 use Rattle.ud_sections.specs.sections.OpenSections.{open_sections_of, section_at}
 use Rattle.ud_sections.specs.sections.Limits.{IsWithinLimits}
 use Rattle.ud_sections.specs.sections.SectionFaults.{fault_of}
 use Rattle.ud_sections.specs.sections.ClassifiedLines.{item_kind}
-use Rattle.ud_sections.proofs.lemmas.sections.LineFaults.{is_cut_item, out_of_place_fault, too_deep_fault, spoiled_fault, clear_line}
+use Rattle.ud_sections.proofs.lemmas.sections.LineFaults.{is_cut_item, too_deep_fault, spoiled_fault, clear_line}
 use Rattle.ud_sections.proofs.lemmas.sections.ActionLemmas.{mark_of, Moved, moves, takes, depth_levels, changes_deeper}
+use Rattle.std.proofs.lemmas.Grind.{common_steps}
 
 -- the context of the line after a text
 abbrev pub before_next : Bool → Tree Reading → LineContext
@@ -56,37 +57,23 @@ pub record Taken (p : Bool) (t : Tree Reading) (x : Item Reading) (a : Action) :
   pub marks_are : marks tree ≡ marks t ++ mark_of a ∷ []
   pub changes : Applies a.change (open_sections_of true p t) (open_sections_of true p tree)
 
-not_equal : (n : ℕ) → (n == OPEN_SECTIONS) ≡ false → n ≢ OPEN_SECTIONS
-not_equal n e q = let h : (OPEN_SECTIONS == OPEN_SECTIONS) ≡ false = subst (λ k. (k == OPEN_SECTIONS) ≡ false) q e in cc
-
 module _ (p : Bool) (t : Tree Reading) (x : Item Reading) where
   taken_by : (u : Tree Reading) → Adds t x u → Moved p true p None t u x → (a : Action) →
       act p (section_at None true p t) (item_kind x) (line_of x).number ≡ Some a → Taken p t x a
   taken_by u h k a l = grind (arith, lines-add, marks_so_far_same, mark_of)
 
   pub taken : (a : Action) → act p (section_at None true p t) (item_kind x) (line_of x).number ≡ Some a → Taken p t x a
-  taken a e = let s : (u : Tree Reading) × Adds t x u = takes p true p t x a e in
-      taken_by s.0 s.1 (moves p true p None refl refl s.1) a e
+  taken a e = grind (arith, takes, taken_by, moves)
 
   not_taken : act p (section_at None true p t) (item_kind x) (line_of x).number ≡ None → (u : Tree Reading) → lines u ≡ lines t ++ x ∷ [] → ⊥
-  not_taken none u e =
-      let m : Moved p true p None t u x = moves p true p None refl refl (grows t u x e) in
-      let h : Some m.action ≡ None = sym m.is_act ∙ none in
-      cc
+  not_taken none u e = grind (arith, moves p true p None refl refl (grows t u x e))
 
   shallow : (a : Action) (k : Taken p t x a) (b : Bool) → opens_section a.change ≡ b → depth t ≤ OPEN_SECTIONS →
       (b && (depth t == OPEN_SECTIONS)) ≡ false → depth k.tree ≤ OPEN_SECTIONS
-  shallow a k b h l m = grind (arith, length-append, depth_levels, changes_deeper, not_equal)
-
-  deep : (a : Action) (k : Taken p t x a) (b : Bool) → opens_section a.change ≡ b → (b && (depth t == OPEN_SECTIONS)) ≡ true → OPEN_SECTIONS < depth k.tree
-  deep a k b h l = grind (arith, changes_deeper, depth_levels, eqb-true)
+  shallow a k b h l m = grind (arith, common_steps, depth_levels, changes_deeper)
 
   spoils : (s : ClassifiedLine) (a : Action) → IsSeen x s → is_obfuscated_by (ends_removed (marks t)) s a ≡ is_obfuscated (marks t) x (mark_of a)
   spoils s a scanned = rw (scanned.kind, scanned.spans, scanned.joins, directive_shape x) refl
-
-  misplaced_is : act p (section_at None true p t) (item_kind x) (line_of x).number ≡ None →
-      misplaced_fault x ≡ Some (fault_of (misplaced_fault_by (item_kind x) (line_of x).number))
-  misplaced_is h = grind arith
 
   module _ (s : ClassifiedLine) (scanned : IsSeen x s) (w : IsWithinLimits (line_of x)) (whole : is_cut_item x ≡ false) (d : depth t ≤ OPEN_SECTIONS) where
     well_by : (c a : Action) → Taken p t x c → (k q : Bool) → (opens_section c.change && (depth t == OPEN_SECTIONS)) ≡ k →
@@ -109,7 +96,7 @@ module _ (p : Bool) (t : Tree Reading) (x : Item Reading) where
         (if k then Err (TooManyLevels (line_of x).number) else if q then Err (Obfuscated (line_of x).number) else Ok c) ≡ Err f → FaultOf (lines t) x (fault_of f)
     ill_by c f h true q push spoil e = let same : TooManyLevels (line_of x).number ≡ f = cc in
         subst (λ g. FaultOf (lines t) x (fault_of g)) same
-        (too_deep_fault (lines t) x w whole h.tree h.lines_are (deep c h (opens_section c.change) refl push))
+        (too_deep_fault (lines t) x w whole h.tree h.lines_are (grind (arith, changes_deeper, depth_levels, eqb-true)))
     ill_by c f h false true push spoil e = let same : Obfuscated (line_of x).number ≡ f = cc in
         subst (λ g. FaultOf (lines t) x (fault_of g)) same
         (spoiled_fault (lines t) x w whole h.tree h.lines_are (marks t) (mark_of c)
@@ -119,17 +106,12 @@ module _ (p : Bool) (t : Tree Reading) (x : Item Reading) where
     well_at : (r : Option Action) (a : Action) → act p (section_at None true p t) (item_kind x) (line_of x).number ≡ r →
         checked_action (before_next p t) s (line_of x).number r ≡ Ok a → Follows p t x a
     well_at None a none e = cc
-    well_at (Some c) a acts e =
-        well_by c a (taken c acts) (opens_section c.change && (depth t == OPEN_SECTIONS)) (is_obfuscated_by (ends_removed (marks t)) s c) refl refl e
+    well_at (Some c) a acts e = search (rules, well_by, taken)
 
     ill_at : (r : Option Action) (f : SectionFault) → act p (section_at None true p t) (item_kind x) (line_of x).number ≡ r →
         checked_action (before_next p t) s (line_of x).number r ≡ Err f → FaultOf (lines t) x (fault_of f)
-    ill_at None f none e = let same : misplaced_fault_by s.kind (line_of x).number ≡ f = cc in
-        subst (λ g. FaultOf (lines t) x (fault_of g)) same
-        (out_of_place_fault (lines t) x w t (fault_of (misplaced_fault_by s.kind (line_of x).number)) whole refl (not_taken none)
-        (misplaced_is none ∙ ap (λ k. Some (fault_of (misplaced_fault_by k (line_of x).number))) (sym scanned.kind)))
-    ill_at (Some c) f acts e =
-        ill_by c f (taken c acts) (opens_section c.change && (depth t == OPEN_SECTIONS)) (is_obfuscated_by (ends_removed (marks t)) s c) refl refl e
+    ill_at None f none e = grind (arith, not_taken)
+    ill_at (Some c) f acts e = search (rules, ill_by, taken)
 
     acts_alike : act p (section_at None true p t) (item_kind x) (line_of x).number ≡ act p (section_at None true p t) s.kind (line_of x).number
     acts_alike = ap (λ k. act p (section_at None true p t) k (line_of x).number) (sym scanned.kind)

@@ -1,12 +1,12 @@
 -- LineFaults: when a line after sound ones is sound, and which fault it has otherwise.
-use Rattle.std.proofs.Common.{◌≡◌, ◌<◌, ◌≤◌, List, [], ◌∷◌, ◌++◌, Bool, true, false, IsTrue, Some, refl, sym, ◌∙◌, ap, subst, arith}
+use Rattle.std.proofs.Common.{◌≡◌, ◌<◌, ◌≤◌, List, [], ◌∷◌, ◌++◌, Bool, true, false, IsTrue, refl, sym, ◌∙◌, ap, subst, arith}
 use Rattle.std.proofs.lemmas.List.{same_from_push}
 use Rattle.ud_model.specs.text.Scans.{Reading}
 use Rattle.ud_model.specs.sections.Directives.{content_of}
 use Rattle.ud_model.specs.sections.Tree.{Item, Tree, lines, depth}
 use Rattle.ud_model.specs.sections.Pruning.{Mark, marks}
 use Rattle.ud_model.specs.sections.Items.{reading_of, line_of}
-use Rattle.ud_model.specs.sections.Faults.{Fault, FaultOf, Case, past_last, too_long, cut, out_of_place, too_deep, obfuscated_case, is_cut, is_obfuscated, misplaced_fault, NoneHolds, cases, obfuscated, too_many_levels}
+use Rattle.ud_model.specs.sections.Faults.{FaultOf, Case, past_last, too_long, cut, out_of_place, too_deep, obfuscated_case, is_cut, is_obfuscated, NoneHolds, cases, obfuscated, too_many_levels}
 use Rattle.ud_model.specs.declared.limits.TheConstants.{OPEN_SECTIONS}
 use Rattle.ud_model.proofs.sections.Unique.{unique}
 use Rattle.ud_sections.specs.sections.Limits.{IsWithinLimits}
@@ -31,11 +31,6 @@ module _ (xs : List (Item Reading)) (x : Item Reading) (w : IsWithinLimits (line
   pub cut_fault : is_cut_item x ≡ true → FaultOf xs x (obfuscated (line_of x).number)
   cut_fault h = record { which = cut; holds = h; first = within_first [] tt; named = refl }
 
-  -- a directive that no tree accepts has the fault of its name
-  pub out_of_place_fault : (t : Tree Reading) (f : Fault) → is_cut_item x ≡ false → lines t ≡ xs →
-      ((u : Tree Reading) → lines u ≡ xs ++ x ∷ [] → ⊥) → misplaced_fault x ≡ Some f → FaultOf xs x f
-  out_of_place_fault t f h k l m = grind arith
-
   module _ (whole : is_cut_item x ≡ false) (u : Tree Reading) (e : lines u ≡ xs ++ x ∷ []) where
     too_deep_not : depth u ≤ OPEN_SECTIONS → ((v : Tree Reading) × (lines v ≡ xs ++ x ∷ []) × (OPEN_SECTIONS < depth v)) → ⊥
     too_deep_not d j = let q : j.0 ≡ u = unique j.0 u (j.1 ∙ sym e) in
@@ -48,12 +43,7 @@ module _ (xs : List (Item Reading)) (x : Item Reading) (w : IsWithinLimits (line
     -- a directive that spans lines and would have to be changed
     pub spoiled_fault : (before : List Mark) (m : Mark) → depth u ≤ OPEN_SECTIONS → marks u ≡ before ++ m ∷ [] →
         is_obfuscated before x m ≡ true → FaultOf xs x (obfuscated (line_of x).number)
-    spoiled_fault before m d k s = record {
-      which = obfuscated_case;
-      holds = (before, m, (u, e, k), s);
-      first = within_clear (out_of_place ∷ too_deep ∷ []) whole (λ j. j.1 (u, e), (too_deep_not d, tt));
-      named = refl;
-    }
+    spoiled_fault before m d k s = grind (arith, too_deep_not)
 
     -- a line isn't faulty if it and the lines before have a tree that isn't too deep, and it isn't
     -- obfuscated

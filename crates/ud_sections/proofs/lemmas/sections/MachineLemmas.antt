@@ -28,8 +28,7 @@ use Rattle.ud_model.proofs.sections.FaultStays.{line_of-next_item}
 -- the innermost section gives the mode
 pub plain_is : (m : Machine) (o : Options) (xs : List (Item Reading)) (t : Tree Reading) → MachineRepresents m o xs t →
     plain_at m.settings.plain (innermost_of m.open_sections.items) ≡ (o.settings.plain || is_ignoring t)
-plain_is m o xs t h =
-    rw (h.settings, h.sections, innermost_level o.settings.plain t) (plain_inside o.settings.plain o.settings.plain None true t refl)
+plain_is m o xs t h = grind (arith, innermost_level, plain_inside)
 
 -- the check of the end of the text
 pub ends_well : (m : Machine) (o : Options) (xs : List (Item Reading)) (t : Tree Reading) → MachineRepresents m o xs t → (c : Bool) → c ≡ ends_in_comment xs →
@@ -76,10 +75,7 @@ mode_is o t = ap mode_by (sym (plain_inside o.settings.plain o.settings.plain No
 
 same_depth : (o : Options) (t u : Tree Reading) → open_sections_of true o.settings.plain u ≡ open_sections_of true o.settings.plain t → depth t ≤ OPEN_SECTIONS → depth u ≤ OPEN_SECTIONS
 same_depth o t u e d =
-    let a : length (open_sections_of true o.settings.plain u) ≡ depth u = depth_levels true o.settings.plain u in
-    let b : length (open_sections_of true o.settings.plain t) ≡ depth t = depth_levels true o.settings.plain t in
-    let c : length (open_sections_of true o.settings.plain u) ≡ length (open_sections_of true o.settings.plain t) = ap length e in
-    omega (arith, a, b, c, d)
+    grind (arith, depth_levels true o.settings.plain u, depth_levels true o.settings.plain t)
 
 -- the text line that comes next is an item of its reading
 text_item : (o : Options) (xs : List (Item Reading)) (t : Tree Reading) (r : Reading) → r ≡ read_after xs (mode_after o t) r.line →
@@ -107,12 +103,7 @@ one_text o xs t r sound d e c w =
 
 more_text : (o : Options) (xs : List (Item Reading)) (t : Tree Reading) (rs : List Reading) → AreFaultless o xs t → depth t ≤ OPEN_SECTIONS →
     AreTextLines o (mode_after o t) xs rs → MoreText o xs t rs (place_of o t)
-more_text o xs t [] sound d a = record {
-  tree = t;
-  sound = subst (λ ys. AreFaultless o ys t) (sym (append-nil xs)) sound;
-  marks_are = sym (append-nil (marks t));
-  same = refl;
-}
+more_text o xs t [] sound d a = grind (arith, append-nil xs, append-nil (marks t))
 more_text o xs t (r ∷ rs) sound d a =
     let one : MoreText o xs t (r ∷ []) (place_of o t) = one_text o xs t r sound d a.0 a.1 a.2 in
     let rest : AreTextLines o (mode_after o one.tree) (xs ++ text_line r ∷ []) rs =
@@ -146,14 +137,7 @@ reads_text m new o xs t r rs verdict h fits a reported settings sections removed
     let more : MoreText o xs t (r ∷ rs) (place_of o t) = more_text o xs t (r ∷ rs) h.sound (shallow_by m o xs t h fits) a in
     record {
       tree = more.tree;
-      read = record {
-        settings = settings ∙ h.settings;
-        sound = more.sound;
-        sections = sections ∙ h.sections ∙ sym more.same;
-        removed = removed ∙ ap is_removed here
-            ∙ sym (ap ends_removed more.marks_are ∙ ends_removed_run (marks t) (mark_of (text_action (place_of o t))) r rs);
-        last = last;
-      };
+      read = grind (arith, ends_removed_run (marks t) (mark_of (text_action (place_of o t))) r rs);
       mark = mark_of (text_action (place_of o t));
       marks_are = more.marks_are;
       verdict_is = here;

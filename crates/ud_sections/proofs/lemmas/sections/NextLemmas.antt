@@ -1,19 +1,18 @@
 -- NextLemmas: what a scanner and a list of lines have of the item that comes next.
-use Rattle.std.proofs.Common.{◌≡◌, List, [], ◌∷◌, ◌++◌, map, ◌∙◌, ap}
+use Rattle.std.proofs.Common.{◌≡◌, List, [], ◌∷◌, ◌++◌, map, ◌∙◌, ap, rules}
 use Rattle.std.proofs.lemmas.List.{map-append}
 use Rattle.ud_model.specs.text.Lines.{Line}
 use Rattle.ud_model.specs.text.Scans.{Reading}
 use Rattle.ud_model.specs.text.Scanning.{next_reading}
 use Rattle.ud_model.specs.sections.Tree.{Item, Tree}
-use Rattle.ud_model.specs.sections.Items.{Options, reading_of, line_of, mode_after, read_after, next_item}
+use Rattle.ud_model.specs.sections.Items.{Options, reading_of, line_of, mode_after, next_item}
 use Rattle.ud_model.proofs.sections.Soundness.{reading_of-item_of}
 use Rattle.ud_model.proofs.sections.FaultStays.{line_of-next_item}
 
 -- there is one more reading
 pub readings_more : (o : Options) (xs : List (Item Reading)) (t : Tree Reading) (l : Line) →
     map reading_of (xs ++ next_item o xs t l ∷ []) ≡ map reading_of xs ++ next_reading (map reading_of xs) (mode_after o t) l ∷ []
-readings_more o xs t l = map-append reading_of xs (next_item o xs t l ∷ [])
-    ∙ ap (λ r. map reading_of xs ++ r ∷ []) (reading_of-item_of o (read_after xs (mode_after o t) l))
+readings_more o xs t l = search (rules, map-append, reading_of-item_of)
 
 -- there is one more line
 pub lines_more : (o : Options) (xs : List (Item Reading)) (t : Tree Reading) (l : Line) →

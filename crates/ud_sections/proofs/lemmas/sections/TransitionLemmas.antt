@@ -1,8 +1,8 @@
 -- TransitionLemmas: the machine's transition for the line that comes next.
-use Rattle.std.proofs.Common.{◌≡◌, ◌≤◌, List, [], ◌∷◌, ◌++◌, length, true, false, Result, Ok, Err, refl, sym, ◌∙◌, ap, ap₂, subst, arith}
+use Rattle.std.proofs.Common.{◌≡◌, ◌≤◌, List, [], ◌∷◌, ◌++◌, length, true, false, Result, Ok, Err, refl, sym, ◌∙◌, ap, subst, arith, rules}
 use Rattle.ud_model.specs.text.Lines.{Line}
 use Rattle.ud_model.specs.text.Scans.{Scan, Reading}
-use Rattle.ud_model.specs.sections.Directives.{Span, Content, text, content_of}
+use Rattle.ud_model.specs.sections.Directives.{Content, text, content_of}
 use Rattle.ud_model.specs.conditions.Table.{Argument}
 use Rattle.ud_model.specs.sections.Tree.{Item, Tree, lines, depth}
 use Rattle.ud_model.specs.sections.Pruning.{Mark, marks}
@@ -60,8 +60,7 @@ pub record TurnsWell (o : Options) (xs : List (Item Reading)) (t : Tree Reading)
 -- a machine keeps the context of the line
 pub before_is : (m : Machine) (o : Options) (xs : List (Item Reading)) (t : Tree Reading) → MachineRepresents m o xs t →
     context_of m ≡ before_next o.settings.plain t
-before_is m o xs t h =
-    rw (h.settings, h.sections, h.removed, innermost_level o.settings.plain t, depth_levels true o.settings.plain t) refl
+before_is m o xs t h = grind (arith, innermost_level, depth_levels)
 
 module _ (o : Options) (xs : List (Item Reading)) (t : Tree Reading) (l : Line) (e : lines t ≡ xs) (w : IsWithinLimits l) (shallow : depth t ≤ OPEN_SECTIONS) where
   within_item : IsWithinLimits (line_of (next_item o xs t l))
@@ -90,16 +89,8 @@ module _ (o : Options) (xs : List (Item Reading)) (t : Tree Reading) (l : Line) 
         mark = mark_of a;
         marks_are = f.marks_are;
         changes = f.changes;
-        decided =
-            ap₂ (λ (k : Line) (q : Span). record { line = k; verdict = a.verdict; keyword = q }) (sym (line_of-next_item o xs t l))
-            (scanned.keyword ∙ ap keyword_in (sym carried_item));
+        decided = grind (arith, line_of-next_item, carried_item);
       }
-
-  ill_seen : (s : ClassifiedLine) → SeenOn o (read_after xs (mode_after o t) l) carried s → (f : SectionFault) →
-      checked_by (before_next o.settings.plain t) s l.number ≡ Err f → FaultOf xs (next_item o xs t l) (fault_of f)
-  ill_seen s scanned f j = subst (λ ys. FaultOf ys (next_item o xs t l) (fault_of f)) e
-      (judged_ill o.settings.plain t (next_item o xs t l) s scanned.scanned within_item (ap is_cut carried_item ∙ scanned.whole) shallow f
-      (ap (λ n. checked_by (before_next o.settings.plain t) s n) (sym number_is) ∙ j))
 
   well_by : (s : ClassifiedLine) → SeenOn o (read_after xs (mode_after o t) l) carried s → (a : Result Action SectionFault) →
       checked_by (before_next o.settings.plain t) s l.number ≡ a → (turn : Transition) → transition_with s.keyword a ≡ Ok turn → TurnsWell o xs t l turn
@@ -109,19 +100,16 @@ module _ (o : Options) (xs : List (Item Reading)) (t : Tree Reading) (l : Line) 
       checked_by (before_next o.settings.plain t) s l.number ≡ a → (f : SectionFault) → transition_with s.keyword a ≡ Err f →
       FaultOf xs (next_item o xs t l) (fault_of f)
   ill_by s scanned (Ok a) j f q = cc
-  ill_by s scanned (Err g) j f q = let same : g ≡ f = cc in
-      subst (λ h. FaultOf xs (next_item o xs t l) (fault_of h)) same (ill_seen s scanned g j)
+  ill_by s scanned (Err g) j f q = grind (arith, judged_ill, within_item, carried_item, number_is)
 
   well_at : (s : Result ClassifiedLine Cut) → classified (read_after xs (mode_after o t) l).scan o.table (rules_of o.settings) carried ≡ s →
       (turn : Transition) → transition_of (before_next o.settings.plain t) l.number s ≡ Ok turn → TurnsWell o xs t l turn
-  well_at (Ok s) scanned turn q =
-      well_by s (seen_well o (read_after xs (mode_after o t) l) carried s scanned) (checked_by (before_next o.settings.plain t) s l.number) refl turn q
+  well_at (Ok s) scanned turn q = search (rules, well_by, seen_well)
   well_at (Err cut) scanned turn q = cc
 
   ill_at : (s : Result ClassifiedLine Cut) → classified (read_after xs (mode_after o t) l).scan o.table (rules_of o.settings) carried ≡ s →
       (f : SectionFault) → transition_of (before_next o.settings.plain t) l.number s ≡ Err f → FaultOf xs (next_item o xs t l) (fault_of f)
-  ill_at (Ok s) scanned f q =
-      ill_by s (seen_well o (read_after xs (mode_after o t) l) carried s scanned) (checked_by (before_next o.settings.plain t) s l.number) refl f q
+  ill_at (Ok s) scanned f q = search (rules, ill_by, seen_well)
   ill_at (Err cut) scanned f q = let same : Obfuscated l.number ≡ f = cc in
       subst (λ h. FaultOf xs (next_item o xs t l) (fault_of h)) same
       (subst (λ n. FaultOf xs (next_item o xs t l) (obfuscated n)) (sym number_is)
