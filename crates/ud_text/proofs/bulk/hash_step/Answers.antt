@@ -1,8 +1,7 @@
 -- A word that is no keyword, or a line that isn't white.
-use Rattle.std.proofs.Common.{inl, subst, List, ℕ, take, ◌+◌, ◌≤◌, ◌≡◌, length, true}
+use Rattle.std.proofs.Common.{arith}
 use Rattle.std.proofs.lemmas.List.{take_rest}
-use Rattle.ud_text.specs.bulk.BulkStates.{code_state, is_other_word}
-use Rattle.ud_text.specs.bulk.BulkLexemes.{NoSignificant}
+use Rattle.ud_text.specs.bulk.BulkStates.{code_state}
 use Rattle.ud_text.proofs.lemmas.bulk.ProgressLemmas.{passed_of}
 use Rattle.ud_text.proofs.lemmas.bulk.StepLemmas.{sign_step_read, sign_alone_read}
 use Rattle.ud_text.proofs.bulk.hash_step.Goals as goal
@@ -14,9 +13,4 @@ pub returns-clause-read : goal.returns-clause-read
 returns-clause-read c = λ start r. sign_alone_read r c.requires.first c.if-is_line_white_after.ensures
 
 pub returns-in-Some-clause-read : goal.returns-in-Some-clause-read
-returns-in-Some-clause-read c = λ start r.
-    let rest = take_rest c.args.lines.now (c.args.p.at + 1) in
-    sign_step_read r c.requires.first c.in-Some.count
-    (subst (λ (l : List ℕ). c.in-Some.count ≤ length l) rest c.in-Some.ensures.bound)
-    (subst (λ (l : List ℕ). NoSignificant (take c.in-Some.count l)) rest c.in-Some.ensures.plain)
-    (inl (subst (λ (l : List ℕ). is_other_word (take c.in-Some.count l) ≡ true) rest c.in-Some.ensures.other))
+returns-in-Some-clause-read c = grind (arith, take_rest, sign_step_read)

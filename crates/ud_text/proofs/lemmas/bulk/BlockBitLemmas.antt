@@ -1,12 +1,12 @@
 -- Blocks: the next significant byte by the remaining bits of a block.
-use Rattle.std.proofs.Common.{◌≡◌, ℕ, zero, suc, ◌+◌, ◌-◌, ◌/◌, ◌%◌, ◌^◌, ◌<◌, ◌≤◌, Bool, cond, List, [], ◌∷◌, map, length, take, drop, min, refl, sym, ap, ◌∙◌, inl, inr, arith}
+use Rattle.std.proofs.Common.{◌≡◌, ℕ, zero, suc, ◌+◌, ◌-◌, ◌/◌, ◌%◌, ◌^◌, ◌<◌, ◌≤◌, Bool, cond, List, [], ◌∷◌, map, length, take, drop, min, refl, sym, ap, ◌∙◌, arith}
 use Rattle.std.specs.Int.{w64, trailing_zeros}
 use Rattle.std.specs.List.{position_or_len, drop-map}
 use Rattle.std.proofs.lemmas.Bool.{cases_lt}
-use Rattle.std.proofs.Math.Nat.{zero-div, div-one, div-div-eq-div-mul, pow-suc, mul_comm}
+use Rattle.std.proofs.Math.Nat.{zero-div, div-one, div-div-eq-div-mul}
 use Rattle.std.proofs.Math.Seq.{drop-nil}
 use Rattle.std.proofs.Math.ListN.{length-drop}
-use Rattle.std.proofs.lemmas.List.{drop-take, take_all}
+use Rattle.std.proofs.lemmas.List.{drop-take}
 use Rattle.std.proofs.lemmas.Simd.{trailing_mask_l, leading_from_mask_l, length-chunk}
 use lib.Lanes.{mask_l}
 use Rattle.ud_text.specs.bulk.Blocks.{significant_bits}
@@ -20,8 +20,7 @@ mask_rest : (ms : List Bool) (k : ℕ) → mask_l ms / 2 ^ k ≡ mask_l (drop k 
 mask_rest ms zero = div-one (mask_l ms)
 mask_rest [] (suc k) = zero-div (2 ^ suc k) ∙ ap mask_l (sym (drop-nil (suc k)))
 mask_rest (m ∷ ms) (suc k) =
-    ap (λ (n : ℕ). mask_l (m ∷ ms) / n) (pow-suc 2 k ∙ mul_comm (2 ^ k) 2) ∙ sym (div-div-eq-div-mul (mask_l (m ∷ ms)) 2 (2 ^ k))
-    ∙ ap (λ (n : ℕ). n / 2 ^ k) (grind arith) ∙ mask_rest ms k
+    grind (arith, div-div-eq-div-mul (mask_l (m ∷ ms)) 2 (2 ^ k), mask_rest ms k)
 
 -- the remaining bits of a block are those of its bytes from a position on
 pub rest_bits : (bytes : List ℕ) (begin at : ℕ) → begin ≤ at → at ≤ begin + 64 →
@@ -81,17 +80,10 @@ module _ (bytes : List ℕ) (begin at bits : ℕ) (is : bits ≡ significant_bit
       sym (row_later bytes at (begin + 64 - at) (row_empty bytes at (begin + 64 - at) (omega arith) (omega arith) (bits / 2 ^ (at - begin)) left none)
       ∙ ap (λ (n : ℕ). n + position_or_len is_significant (drop n bytes)) there)
 
-  none_at_all : bits / 2 ^ (at - begin) ≡ 0 → length bytes < begin + 64 → (end : ℕ) → end ≡ length bytes →
-      end + position_or_len is_significant (drop end bytes) ≡ at + position_or_len is_significant (drop at bytes)
-  none_at_all none short end e = grind (arith, common_steps, take_all, length-drop, left, leading_from_mask_l, search_bound)
-
   -- what comes next lies after the block, if no bit remains
   pub left_empty : bits / 2 ^ (at - begin) ≡ 0 → (end : ℕ) → end ≡ min (begin + 64) (length bytes) →
       end + position_or_len is_significant (drop end bytes) ≡ at + position_or_len is_significant (drop at bytes)
-  left_empty none end e = elim (cases_lt (length bytes) (begin + 64)) [
-    | inl short ↦ none_at_all none short end (omega arith)
-    | inr room ↦ none_left none room end (omega arith)
-  ]
+  left_empty none end e = grind (arith, common_steps, none_left, left, leading_from_mask_l)
 
 -- A wrapped difference below 64 is the position in a block.
 pub record IsShift (at begin : ℕ) : Type 0 where

@@ -25,10 +25,6 @@ pub record BlockSpan (starred white : Bool) (bytes : List ℕ) : Type 0 where
 inside_step : (starred white : Bool) (b : ℕ) → (starred ≡ true → ((b == slash) ≡ false) × ((b == backslash) ≡ false)) → next_bulk_state (inside_state starred white) b ≡ inside_state (b == star) white
 inside_step starred white b h = grind arith
 
-pair_after : (starred : Bool) (b : ℕ) (bytes : List ℕ) → NoStarPair (star_before starred (b ∷ bytes)) →
-    (starred ≡ true → ((b == slash) ≡ false) × ((b == backslash) ≡ false)) × NoStarPair (b ∷ bytes)
-pair_after starred b bytes h = grind arith
-
 pair_star : (b : ℕ) (bytes : List ℕ) → NoStarPair (b ∷ bytes) → NoStarPair (star_before (b == star) bytes)
 pair_star b bytes h = grind arith
 
@@ -36,7 +32,7 @@ pair_star b bytes h = grind arith
 pub block_on : (bytes : List ℕ) (starred white : Bool) → NoStarPair (star_before starred bytes) → BlockSpan starred white bytes
 block_on [] starred white h = record { now = starred; leads = refl; quiet = tt }
 block_on (b ∷ bytes) starred white h =
-    let p : (starred ≡ true → ((b == slash) ≡ false) × ((b == backslash) ≡ false)) × NoStarPair (b ∷ bytes) = pair_after starred b bytes h in
+    let p : (starred ≡ true → ((b == slash) ≡ false) × ((b == backslash) ≡ false)) × NoStarPair (b ∷ bytes) = grind arith in
     let there : next_bulk_state (inside_state starred white) b ≡ inside_state (b == star) white = inside_step starred white b p.0 in
     let more : BlockSpan (b == star) white bytes = block_on bytes (b == star) white (pair_star b bytes p.1) in
     record {
@@ -91,17 +87,16 @@ module _ {start : BulkState} {bytes : List ℕ} {line : ℕ} {kept : BulkState} 
         prefix = r.prefix ++ (r.mid ++ (x ++ newline ∷ []));
         mid = y;
         rest = drop count (drop at bytes);
-        is = r.is
-            ∙ ap (λ (l : List ℕ). r.prefix ++ (r.mid ++ l)) (sym (rest_of r) ∙ sym (take-append-drop count (drop at bytes)) ∙ ap (λ (l : List ℕ). l ++ drop count (drop at bytes)) split
-            ∙ append_assoc (x ++ newline ∷ []) y (drop count (drop at bytes)))
-            ∙ ap (λ (l : List ℕ). r.prefix ++ l) (sym (append_assoc r.mid (x ++ newline ∷ []) (y ++ drop count (drop at bytes))))
-            ∙ sym (append_assoc r.prefix (r.mid ++ (x ++ newline ∷ [])) (y ++ drop count (drop at bytes)));
-        line_is = (let f : at ≡ length r.prefix + length r.mid = r.at_is in
-            let g : length (x ++ newline ∷ []) ≡ n = ap length e ∙ length-take-le n run k in
-            omega (arith, length-append r.prefix (r.mid ++ (x ++ newline ∷ [])), length-append r.mid (x ++ newline ∷ [])));
-        at_is = (let f : at ≡ length r.prefix + length r.mid = r.at_is in
-            let g : count ≡ length (x ++ newline ∷ []) + length y = sym (length-take-le count (drop at bytes) fits) ∙ ap length split ∙ length-append (x ++ newline ∷ []) y in
-            omega (arith, length-append r.prefix (r.mid ++ (x ++ newline ∷ [])), length-append r.mid (x ++ newline ∷ [])));
+        is = grind (
+          arith,
+          rest_of r,
+          take-append-drop count (drop at bytes),
+          append_assoc (x ++ newline ∷ []) y (drop count (drop at bytes)),
+          append_assoc r.mid (x ++ newline ∷ []) (y ++ drop count (drop at bytes)),
+          append_assoc r.prefix (r.mid ++ (x ++ newline ∷ [])) (y ++ drop count (drop at bytes)),
+        );
+        line_is = grind (arith, length-take-le, length-append);
+        at_is = grind (arith, length-take-le, length-append);
         passed = Skipped-append r.prefix (r.mid ++ (x ++ newline ∷ [])) r.passed
             (subst (λ (s : BulkState). Skipped kept (r.mid ++ (x ++ newline ∷ [])) s)
             (bulk_state_after-append kept r.mid (x ++ newline ∷ []) ∙ ap (λ (s : BulkState). bulk_state_after s (x ++ newline ∷ [])) r.leads ∙ there)
@@ -109,8 +104,7 @@ module _ {start : BulkState} {bytes : List ℕ} {line : ℕ} {kept : BulkState} 
             (HasNoStop-append kept r.mid (x ++ newline ∷ []) r.quiet (subst (λ (s : BulkState). HasNoStop s (x ++ newline ∷ [])) (sym r.leads) parts.0))));
         quiet = subst (λ (s : BulkState). HasNoStop s y) there parts.1;
         no_newline = keeps_one_line y (block_state u) h;
-        leads = ap (λ (s : BulkState). bulk_state_after s y) (sym there) ∙ sym (bulk_state_after-append (block_state u) (x ++ newline ∷ []) y)
-            ∙ ap (λ (l : List ℕ). bulk_state_after (block_state u) l) (sym split) ∙ on.leads;
+        leads = grind (arith, bulk_state_after-append);
       }
 
   -- the bytes end on a later line, which is the last one then

@@ -1,7 +1,7 @@
 -- Lines in which no `#` begins a directive, read in plain mode.
-use Rattle.std.proofs.Common.{◌≡◌, ℕ, zero, suc, ◌<◌, ◌≤◌, ◌+◌, ◌==◌, Bool, true, false, not, ◌&&◌, ◌||◌, if◌then◌else◌, List, [], ◌∷◌, ◌++◌, length, take, drop, get_or, Some, None, refl, sym, ◌∙◌, ap, subst, append_assoc, ne_eqb, arith}
+use Rattle.std.proofs.Common.{◌≡◌, ℕ, zero, suc, ◌<◌, ◌+◌, ◌==◌, Bool, true, false, not, ◌&&◌, ◌||◌, if◌then◌else◌, List, [], ◌∷◌, ◌++◌, length, take, drop, get_or, Some, None, refl, sym, ◌∙◌, ap, subst, append_assoc, ne_eqb, arith}
 use Rattle.std.specs.List.{concat}
-use Rattle.std.proofs.lemmas.List.{take-take, take-append-drop}
+use Rattle.std.proofs.lemmas.List.{take-append-drop}
 use Rattle.std.proofs.Math.Seq.{take-add, drop-cons}
 use Rattle.memchr.specs.Find.{Nowhere, Passes, is_byte}
 use Rattle.ud_model.specs.text.Bytes.{is_white, are_white, is_word_byte, skip_white, leading_word, newline, number_sign}
@@ -170,10 +170,6 @@ lines_before bytes n h last = by_begins (take n bytes) last.begins refl
     by_begins _ (after_newline x) e = let split : bytes ≡ x ++ newline ∷ drop n bytes =
         sym (take-append-drop n bytes) ∙ ap (λ (l : List ℕ). l ++ drop n bytes) (sym e) ∙ append_assoc x (newline ∷ []) (drop n bytes) in
         none_text (x ++ newline ∷ []) (begins_ends (x ++ newline ∷ []) (after_newline x)) (none-feed true x (drop n bytes) (subst (NoneBeginsDirective true) split h)).0
-
--- the same of a prefix
-pub lines_before_of : (lines : List ℕ) (m n : ℕ) → NoneBeginsDirective true (take m lines) → LastLineStarts (take m lines) n → n ≤ m → ArePlainText (take n lines)
-lines_before_of lines m n h last k = subst ArePlainText (take-take n m lines k) (lines_before (take m lines) n h last)
 
 -- the initial state is carried over lines in plain mode
 plain_carried : (l : List ℕ) (ls : List (List ℕ)) (n : ℕ) (before : List Reading) → ScannerRepresents initial_scanner_state (readings_after before (lines_in_mode Plain n (l ∷ ls)))

@@ -1,11 +1,11 @@
 -- Lexemes: where a slash, a backslash, a `#`, a literal and a line comment lead.
-use Rattle.std.proofs.Common.{◌≡◌, ℕ, ◌==◌, List, [], ◌∷◌, ◌++◌, Bool, true, false, not, ◌&&◌, ◌||◌, if◌then◌else◌, ◌⊎◌, refl, sym, ◌∙◌, ap, subst, ne_eqb, suc, zero, length, get_or, arith}
+use Rattle.std.proofs.Common.{◌≡◌, ℕ, ◌==◌, List, [], ◌∷◌, ◌++◌, Bool, true, false, ◌&&◌, ◌||◌, ◌⊎◌, refl, sym, ◌∙◌, ap, subst, ne_eqb, suc, zero, length, get_or, arith}
 use Rattle.std.proofs.lemmas.Bool.{eqb-true}
 use Rattle.ud_model.specs.text.Bytes.{is_quote, slash, number_sign, newline, carriage_return, star, backslash}
-use Rattle.ud_model.specs.aids.LexStates.{LexState, in_text, at_slash, in_line, in_literal, at_backslash, stays_white}
+use Rattle.ud_model.specs.aids.LexStates.{LexState, in_text, in_line, in_literal, at_backslash}
 use Rattle.ud_text.specs.bulk.BulkStates.{next_bulk_state, BulkState, code_state, stops_bulk, NoNewlineInBlock, bulk_state_after, spliced_after, is_other_word, HasNoStop}
 use Rattle.ud_text.proofs.lemmas.bulk.QuietLemmas.{bulk_state_after-append, HasNoStop-append, NoNewlineInBlock-append}
-use Rattle.ud_text.proofs.lemmas.bulk.BulkPlainLemmas.{not_special, plain_read}
+use Rattle.ud_text.proofs.lemmas.bulk.BulkPlainLemmas.{plain_read}
 use Rattle.ud_model.specs.text.Lines.{NoNewline}
 use Rattle.ud_text.specs.bulk.BulkLexemes.{NoSignificant, LineLexeme, NoComment, CodeLexeme, is_significant, may_splice}
 use Rattle.std.proofs.Math.Bool.{and-false}
@@ -27,36 +27,11 @@ pub record LiteralFront (white : Bool) (quote : ℕ) (bytes : List ℕ) : Type 0
 
 -- a slash that begins no comment, and the byte after it
 pub slash_read : (x : ℕ) (white : Bool) → is_significant x ≡ false → (x == star) ≡ false → CodeLexeme white (slash ∷ x ∷ [])
-slash_read x white e f =
-    let n : ((x == slash) ≡ false) × (is_quote x ≡ false) × ((x == backslash) ≡ false) × ((x == number_sign) ≡ false) = not_special x e in
-    record {
-      now_white = stays_white at_slash white x;
-      leads = rw (f, n.0, n.1, n.2) (by_return (x == carriage_return) (if x == newline then true else false));
-      quiet = (refl, (rw n.3 (by_feed (x == newline)), tt));
-      no_newline = (refl, (and-false (x == newline), tt));
-      no_comment = (refl, (rw (f, n.0) refl, tt));
-    }
-  where
-    by_return : (r v : Bool) → ◌≡◌ {A = BulkState} (record { state = in_text; white = v; spliced = if r then false else false }) (code_state v)
-    by_return r v = grind arith
-
-    by_feed : (t : Bool) → (if t then false else false) ≡ false
-    by_feed t = grind arith
+slash_read x white e f = grind (arith, and-false (x == newline))
 
 -- a `#` that belongs to no directive, and the plain text after it
 pub sign_read : (bytes : List ℕ) (white : Bool) → NoSignificant bytes → (is_other_word bytes ≡ true) ⊎ (white ≡ false) → CodeLexeme white (number_sign ∷ bytes)
-sign_read bytes white h why =
-    let more : CodeLexeme (white && false) bytes = plain_read bytes (white && false) h in
-    record {
-      now_white = more.now_white;
-      leads = more.leads;
-      quiet = (by_reason why, more.quiet);
-      no_newline = (refl, more.no_newline);
-      no_comment = (refl, more.no_comment);
-    }
-  where
-    by_reason : (is_other_word bytes ≡ true) ⊎ (white ≡ false) → (white && not (is_other_word bytes)) ≡ false
-    by_reason h = grind arith
+sign_read bytes white h why = grind (arith, plain_read bytes (white && false) h)
 
 stops_white : (p : LexState) (c : Bool) (b : ℕ) (rest : List ℕ) → (b == newline) ≡ false → stops_bulk (record { state = p; white = false; spliced = c }) b rest ≡ false
 stops_white p c b rest h = grind arith
@@ -81,8 +56,7 @@ literal_pair white q bytes b r k e =
     let here : BulkState = record { state = in_literal q; white = false; spliced = r.spliced } in
     record {
       spliced = spliced_after (at_backslash q) true b;
-      leads = bulk_state_after-append (code_state white) bytes (backslash ∷ b ∷ []) ∙ ap (λ (s : BulkState). bulk_state_after s (backslash ∷ b ∷ [])) r.leads
-          ∙ ap (λ (s : BulkState). bulk_state_after s (b ∷ [])) skips ∙ rw e refl;
+      leads = grind (arith, bulk_state_after-append);
       quiet = HasNoStop-append (code_state white) bytes (backslash ∷ b ∷ []) r.quiet
           (subst (λ (s : BulkState). HasNoStop s (backslash ∷ b ∷ [])) (sym r.leads)
           (refl, subst (λ (s : BulkState). HasNoStop s (b ∷ [])) (sym skips) (stops_white (at_backslash q) true b [] e, tt)));

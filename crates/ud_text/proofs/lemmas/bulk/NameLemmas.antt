@@ -46,5 +46,4 @@ pub name_in_front : (bytes word : List ℕ) → word ≡ skip_white bytes → 2 
 name_in_front bytes [] e h o s = absurd (omega arith)
 name_in_front bytes (a ∷ []) e h o s = absurd (omega arith)
 name_in_front bytes (a ∷ b ∷ more) e h o s =
-    let short : length (a ∷ b ∷ more) ≤ length bytes = past_white_within bytes (a ∷ b ∷ more) e in
-    name_front bytes a b more (length bytes - length (a ∷ b ∷ more) + 2) (sym e) (omega (arith, short)) o s
+    grind (arith, past_white_within bytes (a ∷ b ∷ more) e, name_front)

@@ -1,5 +1,5 @@
 -- Progress: from what is known up to a position to what is known further on.
-use Rattle.std.proofs.Common.{◌≡◌, ℕ, ◌+◌, ◌-◌, ◌<◌, ◌≤◌, List, [], ◌∷◌, ◌++◌, length, take, drop, Bool, true, false, refl, sym, ◌∙◌, ap, subst, append_assoc, append-nil, arith, length-append}
+use Rattle.std.proofs.Common.{◌≡◌, ℕ, ◌+◌, ◌-◌, ◌<◌, ◌≤◌, List, [], ◌∷◌, ◌++◌, length, take, drop, Bool, true, false, refl, sym, ◌∙◌, ap, subst, append_assoc, append-nil, arith, length-append, rules}
 use Rattle.std.proofs.lemmas.List.{take-append-drop, length-take-le}
 use Rattle.ud_model.specs.text.Scanning.{is_block}
 use Rattle.ud_model.specs.aids.LexStates.{kind_in_state}
@@ -50,13 +50,9 @@ module _ {start : BulkState} {bytes : List ℕ} {line : ℕ} {kept : BulkState} 
     prefix = r.prefix;
     mid = r.mid ++ run;
     rest = drop k (drop at bytes);
-    is = r.is
-        ∙ ap (λ (x : List ℕ). r.prefix ++ (r.mid ++ x)) (sym rest_of ∙ sym (take-append-drop k (drop at bytes)) ∙ ap (λ (x : List ℕ). x ++ drop k (drop at bytes)) (sym e))
-        ∙ ap (λ (x : List ℕ). r.prefix ++ x) (sym (append_assoc r.mid run (drop k (drop at bytes))));
+    is = grind (arith, rest_of, take-append-drop, append_assoc);
     line_is = r.line_is;
-    at_is = (let f : at ≡ length r.prefix + length r.mid = r.at_is in
-        let g : length run ≡ k = ap length e ∙ length-take-le k (drop at bytes) h in
-        omega (arith, length-append r.mid run));
+    at_is = grind (arith, length-take-le, length-append);
     passed = r.passed;
     quiet = HasNoStop-append kept r.mid run r.quiet (subst (λ (s : BulkState). HasNoStop s run) (sym r.leads) q);
     no_newline = NoNewlineInBlock-append kept r.mid run r.no_newline (subst (λ (s : BulkState). NoNewlineInBlock s run) (sym r.leads) l);
@@ -76,14 +72,9 @@ module _ {start : BulkState} {bytes : List ℕ} {line : ℕ} {kept : BulkState} 
         prefix = r.prefix ++ (x ++ newline ∷ []);
         mid = y;
         rest = r.rest;
-        is = r.is ∙ ap (λ (l : List ℕ). r.prefix ++ (l ++ r.rest)) split ∙ ap (λ (l : List ℕ). r.prefix ++ l) (append_assoc (x ++ newline ∷ []) y r.rest)
-            ∙ sym (append_assoc r.prefix (x ++ newline ∷ []) (y ++ r.rest));
-        line_is = (let f : line ≡ length r.prefix = r.line_is in
-            let g : length (x ++ newline ∷ []) ≡ n = ap length e ∙ length-take-le n r.mid h in
-            omega (arith, length-append r.prefix (x ++ newline ∷ [])));
-        at_is = (let f : at ≡ length r.prefix + length r.mid = r.at_is in
-            let g : length r.mid ≡ length (x ++ newline ∷ []) + length y = ap length split ∙ length-append (x ++ newline ∷ []) y in
-            omega (arith, length-append r.prefix (x ++ newline ∷ [])));
+        is = grind (arith, append_assoc);
+        line_is = grind (arith, length-take-le, length-append);
+        at_is = grind (arith, length-append);
         passed = Skipped-append r.prefix (x ++ newline ∷ []) r.passed
             (subst (λ (s : BulkState). Skipped kept (x ++ newline ∷ []) s) there (passed_quiet kept (x ++ newline ∷ []) r.passed.at_line (after_newline x) parts.0));
         quiet = subst (λ (t : BulkState). HasNoStop t y) there parts.1;
@@ -102,17 +93,12 @@ module _ {start : BulkState} {bytes : List ℕ} {line : ℕ} {kept : BulkState} 
   unfolding rest_of
   read_splice e k h s = let splice : List ℕ = take k (drop at bytes) in
       let ends : at + k ≡ length (r.prefix ++ (r.mid ++ take k (drop at bytes))) =
-      (let f : at ≡ length r.prefix + length r.mid = r.at_is in
-      let g : length (take k (drop at bytes)) ≡ k = length-take-le k (drop at bytes) h in
-      omega (arith, length-append r.prefix (r.mid ++ take k (drop at bytes)), length-append r.mid (take k (drop at bytes)))) in
+      grind (arith, length-take-le, length-append) in
       record {
         prefix = r.prefix ++ (r.mid ++ take k (drop at bytes));
         mid = [];
         rest = drop k (drop at bytes);
-        is = r.is
-            ∙ ap (λ (x : List ℕ). r.prefix ++ (r.mid ++ x)) (sym rest_of ∙ sym (take-append-drop k (drop at bytes)))
-            ∙ ap (λ (x : List ℕ). r.prefix ++ x) (sym (append_assoc r.mid (take k (drop at bytes)) (drop k (drop at bytes))))
-            ∙ sym (append_assoc r.prefix (r.mid ++ take k (drop at bytes)) (drop k (drop at bytes)));
+        is = grind (arith, rest_of, take-append-drop, append_assoc);
         line_is = ends;
         at_is = omega (arith, ends);
         passed = Skipped-append r.prefix (r.mid ++ take k (drop at bytes)) r.passed
@@ -124,18 +110,7 @@ module _ {start : BulkState} {bytes : List ℕ} {line : ℕ} {kept : BulkState} 
 
 -- nothing is read yet
 pub read_none : (start : BulkState) (bytes : List ℕ) → AtLine start → ReadTo start bytes 0 start 0 start
-read_none start bytes at = record {
-  prefix = [];
-  mid = [];
-  rest = bytes;
-  is = refl;
-  line_is = refl;
-  at_is = omega arith;
-  passed = passed_none start at;
-  quiet = tt;
-  no_newline = tt;
-  leads = refl;
-}
+read_none start bytes at = grind (arith, passed_none start)
 
 -- nothing is read yet, outside comments
 pub read_start : (bytes : List ℕ) (white : Bool) → ReadOutside (code_state white) bytes 0 (code_state white) 0 white 0
@@ -173,15 +148,14 @@ module _ {start : BulkState} {bytes : List ℕ} {line : ℕ} {kept : BulkState} 
 
   -- the bytes after the base
   pub plain_of : take (at - base) (drop base bytes) ≡ r.plain
-  plain_of = ap (λ (l : List ℕ). take (at - base) l)
-      (ap (λ (l : List ℕ). drop base l) (r.so_far.is ∙ ap (λ (l : List ℕ). r.so_far.prefix ++ (l ++ r.so_far.rest)) r.mid_is
-      ∙ ap (λ (l : List ℕ). r.so_far.prefix ++ l) (append_assoc r.before r.plain r.so_far.rest) ∙ sym (append_assoc r.so_far.prefix r.before (r.plain ++ r.so_far.rest)))
-      ∙ drop_front (r.so_far.prefix ++ r.before) (r.plain ++ r.so_far.rest) base (r.base_is ∙ sym (length-append r.so_far.prefix r.before)))
-      ∙ take_front r.plain r.so_far.rest (at - base)
-      (let e : at ≡ length r.so_far.prefix + length r.so_far.mid = r.so_far.at_is in
-      let f : base ≡ length r.so_far.prefix + length r.before = r.base_is in
-      let g : length r.so_far.mid ≡ length r.before + length r.plain = ap length r.mid_is ∙ length-append r.before r.plain in
-      omega arith)
+  plain_of = grind (
+    arith,
+    append_assoc r.before r.plain r.so_far.rest,
+    append_assoc r.so_far.prefix r.before (r.plain ++ r.so_far.rest),
+    drop_front (r.so_far.prefix ++ r.before) (r.plain ++ r.so_far.rest) base (r.base_is ∙ sym (length-append r.so_far.prefix r.before)),
+    take_front,
+    length-append r.before r.plain,
+  )
 
   -- further bytes are read outside comments
   pub read_text : (k : ℕ) → k ≤ length (drop at bytes) → CodeLexeme r.now_white (take k (drop at bytes)) → ReadOutside start bytes line kept base begins (at + k)
@@ -200,5 +174,4 @@ module _ {start : BulkState} {bytes : List ℕ} {line : ℕ} {kept : BulkState} 
 
   -- further bytes are read up to the beginning of a line, with a new base
   pub read_line : (k : ℕ) → k ≤ length (drop at bytes) → LineLexeme r.now_white (take k (drop at bytes)) → ReadOutside start bytes line kept (at + k) true (at + k)
-  read_line k h t = read_base true
-      (read_on r.so_far k (take k (drop at bytes)) refl h t.quiet t.no_newline (code_state true) t.leads)
+  read_line k h t = search (rules, read_base, read_on)

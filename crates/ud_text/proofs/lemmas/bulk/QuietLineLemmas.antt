@@ -1,13 +1,13 @@
 -- Quiet lines: a whole line that is read without a stop is text, and what is carried from it; many
 -- of them at once.
-use Rattle.std.proofs.Common.{◌≡◌, ◌≤◌, ℕ, suc, ◌+◌, ◌-◌, nat_eq, List, [], ◌∷◌, ◌++◌, length, take, Bool, true, false, not, ◌&&◌, ◌||◌, if◌then◌else◌, refl, sym, ◌∙◌, ap, subst, append_assoc, append-nil, arith, length-append}
+use Rattle.std.proofs.Common.{◌≡◌, ◌≤◌, ℕ, suc, ◌+◌, ◌-◌, nat_eq, List, [], ◌∷◌, ◌++◌, length, take, Bool, true, false, ◌||◌, if◌then◌else◌, refl, sym, ◌∙◌, ap, subst, append_assoc, append-nil, arith, length-append}
 use Rattle.std.specs.List.{concat, ends_with}
 use Rattle.std.proofs.lemmas.Bool.Decides.{Decides-eqb}
 use Rattle.std.proofs.lemmas.Slice.Eq.{ends_is}
 use Rattle.std.proofs.lemmas.List.{take-append-le}
 use Rattle.ud_model.specs.text.Lines.{NoNewline, IsWhole, ending_of, Line, line_at, numbered_from, whole_lines, split_lines}
 use Rattle.ud_model.specs.text.Scans.{Scan, Reading}
-use Rattle.ud_model.specs.text.Splicing.{is_spliced, is_empty, content, stays_open, spliced_text, c_run_of}
+use Rattle.ud_model.specs.text.Splicing.{is_spliced, content, stays_open, spliced_text, c_run_of}
 use Rattle.ud_model.specs.text.Scanning.{is_block, comment_at, scan_after, next_reading, readings_after}
 use Rattle.ud_model.specs.aids.LexStates.{LexState, in_text, at_slash, in_block, at_star, in_line, in_literal, at_backslash, kind_in_state, fresh_at, state_after_line, white_after_line, Masks}
 use Rattle.ud_model.specs.sections.Directives.{content_of, text, skip_white_and_hash}
@@ -18,7 +18,7 @@ use Rattle.ud_model.proofs.text.ScanLaws.{place_after, white_after, masked_after
 use Rattle.ud_model.proofs.text.ScanLemmas.{Masks-start}
 use Rattle.ud_text.specs.scan.ScannerState.{ScannerState, ScannerRepresents}
 use Rattle.ud_text.specs.bulk.BulkScanning.{lines_in_mode, HaveNoDirective, AreWholeLines, SkipsText}
-use Rattle.ud_text.specs.bulk.BulkStates.{line_state, BulkState, bulk_state_after, next_bulk_state, is_other_word, Skipped, HasNoStop, can_start, continues_line, scanner_state_at, AtLine}
+use Rattle.ud_text.specs.bulk.BulkStates.{line_state, BulkState, bulk_state_after, is_other_word, Skipped, HasNoStop, can_start, continues_line, scanner_state_at, AtLine}
 use Rattle.ud_text.specs.bulk.BulkLexemes.{IsLineStart, at_start}
 use Rattle.ud_text.proofs.lemmas.bulk.BulkPlainLemmas.{begins_ends}
 use Rattle.ud_text.proofs.lemmas.lines.ConsumeLemmas.{lines_joined, ends_joined}
@@ -27,6 +27,7 @@ use Rattle.ud_text.proofs.lemmas.scan.ScannerLemmas.{scan_carried, represents_co
 use Rattle.ud_text.proofs.lemmas.bulk.QuietLemmas.{bulk_state_after-append, bulk_state_after-place, bulk_state_after-white, HasNoStop-feed, HasNoStop-rest}
 use Rattle.ud_text.proofs.lemmas.bulk.TextLemmas.{Unsigned, text_unsigned, unsigned, NoWord}
 use Rattle.ud_model.specs.text.Bytes.{newline, carriage_return, backslash}
+use Rattle.std.proofs.lemmas.Grind.{common_steps}
 
 -- `IsTail spliced tail`: what follows a line's content, by whether the line is spliced
 pub data IsTail : Bool → List ℕ → Type 0 where
@@ -65,12 +66,7 @@ pub body_one_line : (l : List ℕ) (k : ℕ) → IsWhole l → 1 ≤ k → NoNew
 body_one_line l k h m = grind (arith, take-append-le, length-append, no_newline-take)
 
 body_split : (line : Line) → line.body ≡ content line ++ (if is_spliced line then backslash ∷ [] else [])
-body_split line = by_splice (ends_with nat_eq line.body (backslash ∷ [])) (not (is_empty line.ending))
-    (ends_is Decides-eqb line.body (backslash ∷ []) (ends_with nat_eq line.body (backslash ∷ [])) refl).0
-  where
-    by_splice : (s e : Bool) → (s ≡ true → line.body ≡ take (length line.body - 1) line.body ++ backslash ∷ []) →
-        line.body ≡ (if s && e then take (length line.body - 1) line.body else line.body) ++ (if s && e then backslash ∷ [] else [])
-    by_splice s e h = grind (arith, append-nil)
+body_split line = grind (arith, common_steps)
 
 feed_closes : (line : Line) → IsFeed line.ending → stays_open line ≡ is_spliced line
 feed_closes line h = grind arith
@@ -138,9 +134,6 @@ module _ (w : LexState) (white : Bool) (before : List Reading) (line : Line) (ca
   unfolding shown
   scanned = scan_carried (scanner_state_at w white) before line (masked_after w [] (content line)) (place_after w (content line)) (white_after w white (content line)) carried shown
 
-  not_fresh : (p : LexState) → can_start p ≡ true → fresh_at p white (content line) ≡ white
-  not_fresh p h = grind arith
-
   sign : (p : LexState) (tail : List ℕ) → can_start p ≡ true → NoNewline (content line) → is_other_word tail ≡ false → NoWord tail →
       HasNoStop (line_state p true) (content line ++ tail) → Unsigned (skip_white_and_hash (masked_after p [] (content line)))
   sign in_text tail e o f n q = unsigned (content line) tail in_text false tt o q f n
@@ -154,7 +147,7 @@ module _ (w : LexState) (white : Bool) (before : List Reading) (line : Line) (ca
   -- the line is text, if its content is read without a stop and no word continues after it
   pub line_is_text : (tail : List ℕ) → can_start w ≡ true → NoNewline (content line) → is_other_word tail ≡ false → NoWord tail →
       HasNoStop (line_state w white) (content line ++ tail) → content_of (scan_after before C line) ≡ text
-  line_is_text tail at o f n q = grind (arith, scanned, not_fresh, text_unsigned, sign)
+  line_is_text tail at o f n q = grind (arith, scanned, text_unsigned, sign)
 
 module _ (w : LexState) (white : Bool) (before : List Reading) (line : Line) (bytes : List ℕ) (shape : Shape line bytes)
     (at : can_start w ≡ true) (quiet : HasNoStop (line_state w white) bytes) (carried : ScannerRepresents (scanner_state_at w white) before) where
@@ -163,14 +156,13 @@ module _ (w : LexState) (white : Bool) (before : List Reading) (line : Line) (by
 
   led : Leads (place_after w (content line)) (white_after w white (content line)) (is_spliced line) (bulk_state_after (line_state w white) bytes)
   unfolding quiet_split
-  led =
-      subst (λ (b : List ℕ). Leads (place_after w (content line)) (white_after w white (content line)) (is_spliced line) (bulk_state_after (line_state w white) b)) (sym shape.is)
-      (subst (λ (s : BulkState). Leads (place_after w (content line)) (white_after w white (content line)) (is_spliced line) s)
-      (sym (bulk_state_after-append (line_state w white) (content line) shape.tail))
-      (subst (λ (p : LexState). Leads p (white_after w white (content line)) (is_spliced line) (bulk_state_after (bulk_state_after (line_state w white) (content line)) shape.tail)) (bulk_state_after-place (line_state w white) (content line))
-      (subst (λ (u : Bool). Leads (bulk_state_after (line_state w white) (content line)).state u (is_spliced line) (bulk_state_after (bulk_state_after (line_state w white) (content line)) shape.tail)) (bulk_state_after-white (line_state w white) (content line))
-      (tail_leads (bulk_state_after (line_state w white) (content line)) (is_spliced line) shape.tail shape.kind
-      (HasNoStop-rest (line_state w white) (content line) shape.tail quiet_split)))))
+  led = grind (
+    arith,
+    bulk_state_after-append (line_state w white) (content line) shape.tail,
+    bulk_state_after-place (line_state w white) (content line),
+    bulk_state_after-white (line_state w white) (content line),
+    tail_leads (bulk_state_after (line_state w white) (content line)) (is_spliced line) shape.tail shape.kind (HasNoStop-rest (line_state w white) (content line) shape.tail quiet_split),
+  )
 
   place_now : (bulk_state_after (line_state w white) bytes).state ≡ state_after_line (stays_open line) (place_after w (content line))
   place_now = led.state ∙ ap (λ (o : Bool). state_after_line o (place_after w (content line))) (sym shape.closes)
@@ -210,8 +202,7 @@ pub lines_read : (ls : List (List ℕ)) (n : ℕ) (w : LexState) (white : Bool) 
     HasNoStop (line_state w white) (concat ls) → ScannerRepresents (scanner_state_at w white) before → QuietLines before n ls (bulk_state_after (line_state w white) (concat ls))
 lines_read [] n w white before whole at quiet carried = record { represents = carried; texts = tt }
 lines_read (l ∷ ls) n w white before whole at quiet carried = let prefix : List ℕ = whole.0.0 in
-    let split : l ++ concat ls ≡ prefix ++ newline ∷ concat ls =
-    ap (λ (x : List ℕ). x ++ concat ls) whole.0.2 ∙ append_assoc prefix (newline ∷ []) (concat ls) in
+    let split : l ++ concat ls ≡ prefix ++ newline ∷ concat ls = grind (arith, append_assoc) in
     let parts : HasNoStop (line_state w white) (prefix ++ newline ∷ []) × HasNoStop (bulk_state_after (line_state w white) (prefix ++ newline ∷ [])) (concat ls) =
     HasNoStop-feed (line_state w white) prefix (concat ls) (subst (λ (x : List ℕ). HasNoStop (line_state w white) x) split quiet) in
     let first : HasNoStop (line_state w white) l = subst (λ (x : List ℕ). HasNoStop (line_state w white) x) (sym whole.0.2) parts.0 in
@@ -242,10 +233,6 @@ passes_none mode c = record { represents = λ n before h. h; texts = λ n before
 pub passed_none : (start : BulkState) → AtLine start → Skipped start [] start
 passed_none start at = record { ends = begins_ends [] at_start; skips = passes_none C (scanner_state_at start.state start.white); at_line = at }
 
--- a line begins after a newline
-feed_at_line : (s : BulkState) → AtLine (next_bulk_state s newline)
-feed_at_line s = record { is = refl; starts = (grind arith) }
-
 quiet_passes : (w : LexState) (white : Bool) (bytes : List ℕ) → can_start w ≡ true → AreWholeLines bytes → HasNoStop (line_state w white) bytes →
     SkipsText C (scanner_state_at w white) (scanner_state_at (bulk_state_after (line_state w white) bytes).state (bulk_state_after (line_state w white) bytes).white) bytes
 quiet_passes w white bytes at ends quiet = let ls : List (List ℕ) = whole_lines bytes in
@@ -259,7 +246,12 @@ quiet_passes w white bytes at ends quiet = let ls : List (List ℕ) = whole_line
 
 -- whole lines that are read without a stop are skipped
 pub passed_quiet : (start : BulkState) (bytes : List ℕ) → AtLine start → IsLineStart bytes → HasNoStop start bytes → Skipped start bytes (bulk_state_after start bytes)
-passed_quiet start bytes at b quiet = grind (arith, begins_ends, quiet_passes, bulk_state_after-append, feed_at_line)
+passed_quiet start bytes at b quiet = grind (
+  arith,
+  begins_ends,
+  quiet_passes,
+  bulk_state_after-append,
+)
 
 stands_append : (mode : Mode) (n : ℕ) (before : List Reading) (ls ms : List (List ℕ)) →
     readings_after before (lines_in_mode mode n (ls ++ ms)) ≡ readings_after (readings_after before (lines_in_mode mode n ls)) (lines_in_mode mode (n + length ls) ms)

@@ -1,13 +1,12 @@
 -- Quoted lines: a line ends outside block comments from a quote on, whatever its literals and its
 -- comments, if a star and a slash follow its last slash and star.
-use Rattle.std.proofs.Common.{◌≡◌, ℕ, zero, suc, ◌+◌, ◌-◌, ◌<◌, ◌≤◌, ◌==◌, List, [], ◌∷◌, ◌++◌, length, take, drop, get_or, Bool, true, false, ◌&&◌, ◌||◌, refl, sym, ◌∙◌, ap, ap₂, subst, arith, length-append}
+use Rattle.std.proofs.Common.{◌≡◌, ℕ, zero, suc, ◌+◌, ◌-◌, ◌<◌, ◌≤◌, ◌==◌, List, [], ◌∷◌, ◌++◌, length, take, drop, get_or, Bool, true, false, ◌&&◌, ◌||◌, refl, sym, ◌∙◌, ap, ap₂, subst, arith, length-append, rules}
 use Rattle.std.specs.List.{position_or_len}
 use Rattle.std.proofs.lemmas.Bool.{eqb-true}
 use Rattle.std.proofs.lemmas.List.{take_more, take_rest, get_or-drop, get_or-take, length-take-le}
 use Rattle.std.proofs.lemmas.List.Sums.{fails_before_first, passes_at_first}
-use Rattle.std.proofs.Math.Bool.{and-false}
 use Rattle.std.proofs.Math.ListN.{length-drop}
-use Rattle.ud_model.specs.text.Bytes.{is_quote, slash, newline, carriage_return, star, backslash}
+use Rattle.ud_model.specs.text.Bytes.{slash, newline, carriage_return, star, backslash}
 use Rattle.ud_model.specs.text.Scanning.{is_block}
 use Rattle.ud_model.specs.aids.LexStates.{at_slash, in_block, in_line, next_state, kind_in_state}
 use Rattle.ud_text.specs.bulk.BulkStates.{BulkState, code_state, NoNewlineInBlock, bulk_state_after, spliced_after, HasNoStop}
@@ -83,22 +82,9 @@ QuotedTo white begun l n = QuotedFront white begun (get_or l (n - 1) 0) (take n 
 abbrev pub opens_at : List ℕ → ℕ → Bool
 opens_at l n = opens (get_or l (n - 1) 0) (get_or l n 0)
 
--- the quote is read
-pub quoted_start : (l : List ℕ) → 0 < length l → is_quote (get_or l 0 0) ≡ true → (white : Bool) →
-    QuotedTo white 0 l 1
-quoted_start l h k white = grind arith
-
 -- the byte after another one than a slash begins no comment
 pub none_after : (a b : ℕ) → (a == slash) ≡ false → opens a b ≡ false
 none_after a b e = ap (λ (t : Bool). t && (b == star)) e
-
--- another byte than a star begins none
-pub none_with : (a b : ℕ) → (b == star) ≡ false → opens a b ≡ false
-none_with a b e = ap (λ (t : Bool). (a == slash) && t) e ∙ and-false (a == slash)
-
--- the byte after a star begins none
-pub star_opens : (l : List ℕ) (n m : ℕ) → get_or l n 0 ≡ star → m ≡ n + 1 → opens_at l m ≡ false
-star_opens l n m h k = grind arith
 
 to_next : (white : Bool) (later : ℕ) (l : List ℕ) (n : ℕ) → n < length l →
     QuotedFront white later (get_or l n 0) (take n l ++ get_or l n 0 ∷ []) →
@@ -184,8 +170,7 @@ module _ (l : List ℕ) (at count : ℕ)
   pub quoted_shut : (white : Bool) (begun : ℕ) → QuotedTo white begun l at → at + count < length l →
       (get_or l (at + count) 0 == newline) ≡ false → begun < at + count →
       get_or l (at + count - 1) 0 ≡ star → QuotedTo white 0 l (at + count + 1)
-  quoted_shut white begun r h e b f = quoted_close white begun l (at + count)
-      (quoted_run white begun r) b h f (found_slash h e)
+  quoted_shut white begun r h e b f = search (rules, quoted_close, quoted_run, found_slash)
 
   -- another slash was found
   pub quoted_more : (white : Bool) (begun : ℕ) → QuotedTo white begun l at → at + count < length l →

@@ -17,7 +17,7 @@ use Rattle.ud_text.proofs.lemmas.bulk.BulkPlainLemmas.{not_special}
 use Rattle.ud_text.proofs.lemmas.bulk.ProgressLemmas.{read_base, read_text, read_on, read_splice, plain_of, passed_of, settled, settled_at, begins-append}
 use Rattle.ud_text.proofs.lemmas.bulk.LexemeLemmas.{sign_read}
 use Rattle.ud_text.proofs.lemmas.bulk.BlockLemmas.{block_same, block_later, block_opened, block_closed, both_there}
-use Rattle.ud_text.proofs.lemmas.bulk.StepLemmas.{two_are, start_read, text_step_read, plain_step_read, looked, sign_step_read}
+use Rattle.ud_text.proofs.lemmas.bulk.StepLemmas.{start_read, text_step_read, plain_step_read, looked, sign_step_read}
 
 -- Each list of bytes has a last line.
 pub last_line_of : (l : List ℕ) → (n : ℕ) × LastLineStarts l n
@@ -235,12 +235,6 @@ none_on bytes at from end e h k low high = elim (cases_lt (k + 1) from) [
     by_tests : (t s q : Bool) → s ≡ false → q ≡ false → (t && (s || q)) ≡ false
     by_tests t s q h k = grind arith
 
--- No star pair ends up to a significant byte, if none ends with it.
-pub none_past : (bytes : List ℕ) (at end : ℕ) → ((k : ℕ) → at ≤ k → k + 1 < end → is_star_pair (get_or bytes k 0) (get_or bytes (k + 1) 0) ≡ false) →
-    (at < end → is_star_pair (get_or bytes (end - 1) 0) (get_or bytes end 0) ≡ false) →
-    (k : ℕ) → at ≤ k → k + 1 < end + 1 → is_star_pair (get_or bytes k 0) (get_or bytes (k + 1) 0) ≡ false
-none_past bytes at end h l k m o = grind arith
-
 pub none_before : (bytes : List ℕ) (n : ℕ) → ((k : ℕ) → k < n → k + 1 < length bytes → is_star_pair (get_or bytes k 0) (get_or bytes (k + 1) 0) ≡ false) → NoStarPair (take (suc n) bytes)
 none_before [] n h = tt
 none_before (a ∷ []) zero h = tt
@@ -257,13 +251,3 @@ none_before (a ∷ b ∷ bytes) (suc n) h = (
 pub none_between : (bytes : List ℕ) (at end : ℕ) → ((k : ℕ) → at ≤ k → k + 1 < end → is_star_pair (get_or bytes k 0) (get_or bytes (k + 1) 0) ≡ false) →
     NoStarPair (take (end - at) (drop at bytes))
 none_between bytes at end h = grind (arith, none_before, get_or-drop)
-
-two_at : (l : List ℕ) (n a b : ℕ) → n + 1 < length l → get_or l n 0 ≡ a → get_or l (suc n) 0 ≡ b → take 2 (drop n l) ≡ a ∷ b ∷ []
-two_at [] n a b h e f = absurd (omega arith)
-two_at (x ∷ l) zero a b h e f = two_are (x ∷ l) a b (omega arith) e f
-two_at (x ∷ l) (suc n) a b h e f = two_at l n a b (omega arith) e f
-
--- A star pair that ends with a slash closes a comment.
-pub closes_there : (bytes : List ℕ) (end : ℕ) → 0 < end → end < length bytes → is_star_pair (get_or bytes (end - 1) 0) (get_or bytes end 0) ≡ true →
-    (get_or bytes end 0 == slash) ≡ true → take 2 (drop (end - 1) bytes) ≡ star ∷ slash ∷ []
-closes_there bytes end low high h e = grind (arith, two_at, eqb-true)

@@ -1,6 +1,5 @@
 -- Splices: a line that a backslash at its end joins to the next one, outside comments and literals.
-use Rattle.std.proofs.Common.{◌≡◌, ◌≢◌, ℕ, ◌-◌, ◌⊎◌, inl, inr, nat_eq, List, [], ◌∷◌, ◌++◌, length, take, drop, Bool, true, false, not, ◌||◌, if◌then◌else◌, refl, sym, ◌∙◌, ap, subst, append_assoc, append-nil, arith, length-append}
-use Rattle.std.specs.List.{ends_with}
+use Rattle.std.proofs.Common.{◌≡◌, ◌≢◌, ℕ, ◌-◌, ◌⊎◌, inl, inr, nat_eq, List, [], ◌∷◌, ◌++◌, length, take, drop, Bool, true, false, not, ◌||◌, refl, sym, ◌∙◌, ap, subst, append_assoc, append-nil, arith, length-append, if◌then◌else◌}
 use Rattle.std.proofs.lemmas.Bool.{cases_eq}
 use Rattle.std.proofs.Math.Seq.{drop-append_seam, take-append_seam}
 use Rattle.ud_model.specs.text.Bytes.{newline, carriage_return, backslash}
@@ -19,18 +18,15 @@ use Rattle.ud_text.specs.bulk.BulkLexemes.{IsLineStart, at_start, after_newline,
 use Rattle.ud_text.proofs.lemmas.scan.ScannerLemmas.{represents_code}
 use Rattle.ud_text.proofs.lemmas.bulk.QuietLemmas.{bulk_state_after-append, bulk_state_after-place, bulk_state_after-white, HasNoStop-feed}
 use Rattle.ud_text.proofs.lemmas.bulk.QuietLineLemmas.{shown, line_is_text, passed_quiet, Skipped-append}
+use Rattle.std.specs.List.{ends_with}
 
 -- the end of two lists joined
 end_of : (xs ys : List ℕ) (n : ℕ) → n ≡ length ys → drop (length (xs ++ ys) - n) (xs ++ ys) ≡ ys
-end_of xs ys n e =
-    let there : length (xs ++ ys) - n ≡ length xs = omega (arith, e, length-append xs ys) in
-    ap (λ (k : ℕ). drop k (xs ++ ys)) there ∙ drop-append_seam xs ys
+end_of xs ys n e = grind (arith, length-append xs ys, drop-append_seam xs ys)
 
 -- the beginning of two lists joined
 front_of : (xs ys : List ℕ) (n : ℕ) → n ≡ length ys → take (length (xs ++ ys) - n) (xs ++ ys) ≡ xs
-front_of xs ys n e =
-    let there : length (xs ++ ys) - n ≡ length xs = omega (arith, e, length-append xs ys) in
-    ap (λ (k : ℕ). take k (xs ++ ys)) there ∙ take-append_seam xs ys
+front_of xs ys n e = grind (arith, length-append xs ys, take-append_seam xs ys)
 
 module _ (cont : List ℕ) (n : ℕ) where
   -- `IsJoined l`: a line of this content that ends in a splice
@@ -51,15 +47,13 @@ module _ (cont : List ℕ) (n : ℕ) where
           ∙ rw (end_of (cont ++ backslash ∷ []) (newline ∷ []) 1 refl) refl)
 
   joined_return : IsJoined (cont ++ backslash ∷ carriage_return ∷ newline ∷ [])
-  joined_return =
-      with_body (cont ++ backslash ∷ carriage_return ∷ newline ∷ []) (carriage_return ∷ newline ∷ []) ending
-      (ap (λ (x : List ℕ). take (length x - 2) x) (sym (append_assoc cont (backslash ∷ []) (carriage_return ∷ newline ∷ [])))
-      ∙ front_of (cont ++ backslash ∷ []) (carriage_return ∷ newline ∷ []) 2 refl) refl
-    where
-      ending : ending_of (cont ++ backslash ∷ carriage_return ∷ newline ∷ []) ≡ carriage_return ∷ newline ∷ []
-      ending =
-          ap (λ (x : List ℕ). ending_of x) (sym (append_assoc cont (backslash ∷ []) (carriage_return ∷ newline ∷ [])))
-          ∙ rw (end_of (cont ++ backslash ∷ []) (carriage_return ∷ newline ∷ []) 2 refl) refl
+  joined_return = grind (
+    arith,
+    with_body,
+    append_assoc cont (backslash ∷ []) (carriage_return ∷ newline ∷ []),
+    front_of (cont ++ backslash ∷ []) (carriage_return ∷ newline ∷ []) 2 refl,
+    end_of (cont ++ backslash ∷ []) (carriage_return ∷ newline ∷ []) 2 refl,
+  )
 
   pub joined_by : (s : List ℕ) → IsSplice s → IsJoined (cont ++ s)
   joined_by _ splice_newline = joined_feed

@@ -1,5 +1,5 @@
 -- Steps: what one step of the program reads, by the positions and slices that the step has.
-use Rattle.std.proofs.Common.{◌≡◌, ℕ, zero, suc, ◌+◌, ◌-◌, ◌<◌, ◌≤◌, ◌==◌, List, [], ◌∷◌, ◌++◌, length, take, drop, get_or, Bool, true, false, ◌||◌, ◌⊎◌, inr, refl, sym, ◌∙◌, ap, ap₂, subst, append_assoc, arith}
+use Rattle.std.proofs.Common.{◌≡◌, ℕ, zero, suc, ◌+◌, ◌-◌, ◌<◌, ◌≤◌, ◌==◌, List, [], ◌∷◌, ◌++◌, length, take, drop, get_or, Bool, true, false, ◌||◌, ◌⊎◌, inr, refl, sym, ◌∙◌, ap, ap₂, subst, arith}
 use Rattle.std.specs.List.{position_or_len}
 use Rattle.std.proofs.lemmas.Bool.{eqb-true}
 use Rattle.std.proofs.lemmas.List.{take_more, take_rest, take-append-drop, get_or-drop, get_or-take, length-take-le}
@@ -12,52 +12,24 @@ use Rattle.ud_model.specs.aids.LexStates.{LexState, in_text, in_block}
 use Rattle.ud_text.specs.bulk.BulkStates.{line_state, BulkState, code_state, is_other_word, inside_state, block_state}
 use Rattle.ud_text.proofs.lemmas.searching.MarkLemmas.{position_or_len-bound}
 use Rattle.ud_text.proofs.lemmas.bulk.BulkPlainLemmas.{plain_read, no_special_before}
-use Rattle.ud_text.proofs.lemmas.bulk.LexemeLemmas.{slash_read, sign_read, literal_byte, literal_pair, literal_closed, literal_unspliced, literal_line, line_comment_read, LiteralFront, spliced_by, unspliced}
+use Rattle.ud_text.proofs.lemmas.bulk.LexemeLemmas.{sign_read, literal_byte, literal_pair, literal_closed, literal_unspliced, literal_line, line_comment_read, LiteralFront, spliced_by, unspliced}
 use Rattle.ud_text.proofs.lemmas.bulk.LookLemmas.{shows_white}
 use Rattle.ud_text.proofs.lemmas.bulk.ProgressLemmas.{read_text, read_line, plain_of, plain_leads, read_none, read_start, read_base, read_splice}
 use Rattle.ud_text.proofs.lemmas.bulk.BlockLemmas.{block_same, block_later, block_opened}
 use Rattle.ud_text.specs.bulk.BulkLexemes.{black, NoStarPair, NoSignificant, LineLexeme, all_white, LastLineStarts, CodeLexeme, is_significant, IsWhiteAfter, new_line, IsSplice, may_splice}
 use Rattle.ud_text.specs.bulk.Progress.{ReadTo, ReadOutside}
 use Rattle.ud_text.specs.searching.Searches.{is_one_of}
-
-take_two : (l : List ℕ) → 2 ≤ length l → take 2 l ≡ get_or l 0 0 ∷ get_or l 1 0 ∷ []
-take_two l h = grind arith
-
-pub two_are : (l : List ℕ) (a b : ℕ) → 2 ≤ length l → get_or l 0 0 ≡ a → get_or l 1 0 ≡ b → take 2 l ≡ a ∷ b ∷ []
-two_are l a b h e f = take_two l h ∙ ap₂ (λ (x y : ℕ). x ∷ y ∷ []) e f
-
--- the bytes begin with a slash that begins no comment, and the byte after it
-pub slash_spans : (l : List ℕ) (b : ℕ) → 2 ≤ length l → get_or l 0 0 ≡ slash → b ≡ get_or l 1 0 → is_significant b ≡ false → (b == star) ≡ false →
-    (white : Bool) → CodeLexeme white (take 2 l)
-slash_spans l b h e i f g white = subst (λ (x : List ℕ). CodeLexeme white x) (sym (two_are l slash b h e (sym i))) (slash_read b white f g)
-
--- the bytes begin with a backslash that belongs to no splice, and the byte after it
-pub backslash_spans : (l : List ℕ) (b : ℕ) → 2 ≤ length l → get_or l 0 0 ≡ backslash → b ≡ get_or l 1 0 → is_significant b ≡ false →
-    (b == newline) ≡ false → (b == carriage_return) ≡ false → (white : Bool) → CodeLexeme white (take 2 l)
-backslash_spans l b h k m o p q white = grind arith
-
--- one more byte of a literal
-pub literal_more : (l : List ℕ) (q at : ℕ) → at < length l → (get_or l at 0 == newline) ≡ false → (get_or l at 0 == q) ≡ false → (get_or l at 0 == backslash) ≡ false →
-    (white : Bool) → LiteralFront white q (take at l) → LiteralFront white q (take (at + 1) l)
-literal_more l q at h e f g white r =
-    subst (λ (x : List ℕ). LiteralFront white q x) (sym (take_more l at 0 h)) (literal_byte white q (take at l) (get_or l at 0) r e f g)
-
-take_more_two : (l : List ℕ) (at : ℕ) → at + 1 < length l → take (at + 2) l ≡ take at l ++ get_or l at 0 ∷ get_or l (at + 1) 0 ∷ []
-take_more_two l at h = let two : at + 2 ≡ at + 1 + 1 = omega arith in
-    ap (λ (n : ℕ). take n l) two ∙ take_more l (at + 1) 0 h ∙ ap (λ (x : List ℕ). x ++ get_or l (at + 1) 0 ∷ []) (take_more l at 0 (omega arith))
-    ∙ append_assoc (take at l) (get_or l at 0 ∷ []) (get_or l (at + 1) 0 ∷ [])
+use Rattle.std.proofs.lemmas.Grind.{common_steps}
 
 -- a backslash of a literal, and the byte that it escapes
 pub literal_two : (l : List ℕ) (q at : ℕ) → at + 1 < length l → is_quote q ≡ true → (get_or l at 0 == backslash) ≡ true → (get_or l (at + 1) 0 == newline) ≡ false →
     (white : Bool) → LiteralFront white q (take at l) → LiteralFront white q (take (at + 2) l)
-literal_two l q at h k e f white r = grind (arith, LiteralFront, take_more_two, eqb-true, literal_pair)
+literal_two l q at h k e f white r = grind (arith, common_steps, literal_pair)
 
 -- the quote that closes a literal
 pub literal_ends : (l : List ℕ) (q at : ℕ) → at < length l → is_quote q ≡ true → (get_or l at 0 == q) ≡ true → (white : Bool) → LiteralFront white q (take at l) →
     CodeLexeme white (take (at + 1) l)
-literal_ends l q at h k e white r =
-    subst (λ (x : List ℕ). CodeLexeme white x) (sym (take_more l at 0 h ∙ ap (λ (n : ℕ). take at l ++ n ∷ []) (eqb-true (get_or l at 0) q e)))
-    (literal_closed white q (take at l) r k)
+literal_ends l q at h k e white r = grind (arith, common_steps, literal_closed)
 
 -- the newline that ends a literal, after a byte that begins no splice
 pub literal_line_ends : (l : List ℕ) (q at : ℕ) → 0 < at → at < length l → (get_or l at 0 == newline) ≡ true → (get_or l (at - 1) 0 == backslash) ≡ false → (get_or l (at - 1) 0 == carriage_return) ≡ false →
@@ -92,7 +64,7 @@ module _ (l : List ℕ) (q at count : ℕ) (is : count ≡ position_or_len (ends
       let next : at + j + 1 ≡ at + suc j = omega arith in
       let none = others_fail (get_or l (at + j) 0 == q) (get_or l (at + j) 0 == backslash) (get_or l (at + j) 0 == newline) (fails j (omega arith)) in
       subst (λ (n : ℕ). LiteralFront white q (take n l)) next
-      (literal_more l q (at + j) inside none.2 none.0 none.1 white (run_more white r j (omega arith)))
+      (grind (arith, common_steps, run_more white r j (omega arith), literal_byte))
 
   -- the bytes of a literal up to the first that ends it or escapes the next byte
   pub literal_run : (white : Bool) → LiteralFront white q (take at l) → LiteralFront white q (take (at + count) l)

@@ -10,7 +10,7 @@ use Rattle.ud_model.specs.aids.LexStates.{LexState, in_text, at_slash, in_block,
 use Rattle.ud_model.specs.sections.Directives.{cut_keyword, text, content_of, skip_white_and_hash, skip_hash, has_split_keyword, content_after_hash, directive_at, may_split_keyword, kind_of, is_keyword_prefix, is_no_keyword, may_begin, keywords}
 use Rattle.ud_model.proofs.sections.Keywords.{no_keyword}
 use Rattle.ud_model.specs.declared.kind.Kind.{Kind}
-use Rattle.ud_text.specs.bulk.BulkStates.{next_bulk_state, BulkState, starts_with_no_keyword, spliced_after, is_other_word, HasNoStop}
+use Rattle.ud_text.specs.bulk.BulkStates.{BulkState, starts_with_no_keyword, is_other_word, HasNoStop}
 use Rattle.ud_model.proofs.text.ScanLaws.{masked_after}
 use Rattle.ud_text.proofs.lemmas.searching.ByteLemmas.{both}
 
@@ -238,10 +238,6 @@ pending (at_backslash q) = []
 abbrev pub white_at : LexState → Bool → BulkState
 white_at w c = record { state = w; white = true; spliced = c }
 
-step_white : (b : ℕ) (c : Bool) → is_white b ≡ true → (b == slash) ≡ false → is_quote b ≡ false → (b == newline) ≡ false →
-    next_bulk_state (white_at in_text c) b ≡ white_at in_text (spliced_after in_text c b)
-step_white b c w e f i = rw (e, f, i, w) refl
-
 next_quote : (b : ℕ) → (b == slash) ≡ false → is_quote b ≡ true → next_state in_text b ≡ in_literal b
 next_quote b e q = rw (e, q) refl
 
@@ -255,7 +251,7 @@ module _ (bytes tail : List ℕ) (later : (w : LexState) (c : Bool) → NotLiter
     where
       is_other : not (is_other_word (bytes ++ tail)) ≡ false → is_other_word (bytes ++ tail) ≡ true
       is_other h = grind arith
-  from_text _ c (a_white b w e q s i m) _ h = grind (arith, masked_after, next_plain, white_first, step_white)
+  from_text _ c (a_white b w e q s i m) _ h = grind (arith, white_first)
   from_text _ c (a_quote b q w e s i m) _ h = grind (arith, masked_after, next_quote, black_first)
   from_text _ c (another b w e q s) _ h = grind (arith, masked_after, next_plain, black_first)
 

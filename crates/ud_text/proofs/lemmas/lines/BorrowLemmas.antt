@@ -1,9 +1,7 @@
 -- Borrowing: a line at the beginning of a chunk, split into its body and its ending, is the next
 -- line of the text.
-use Rattle.std.proofs.Common.{◌≡◌, ◌==◌, ℕ, suc, ◌+◌, ◌<◌, Bool, true, false, not, None, List, [], ◌∷◌, ◌++◌, length, take, refl, sym, ◌∙◌, ap, subst, min, inl, inr, arith}
-use Rattle.std.proofs.lemmas.Bool.{eqb-true, cases_lt}
-use Rattle.std.proofs.lemmas.List.{take-take, length-append}
-use Rattle.std.proofs.Math.ListN.{length-take}
+use Rattle.std.proofs.Common.{◌≡◌, ◌==◌, ℕ, suc, ◌+◌, ◌<◌, Bool, true, false, not, None, List, [], ◌∷◌, ◌++◌, length, take, refl, sym, ◌∙◌, ap, subst, min, arith}
+use Rattle.std.proofs.lemmas.Bool.{eqb-true}
 use Rattle.ud_model.specs.declared.limits.TheConstants.{LINE_BYTES}
 use Rattle.ud_model.specs.text.Lines.{NoNewline, Line, text_of, line_at}
 use Rattle.ud_model.proofs.text.LinesLemmas.{text_of-line_at}
@@ -11,7 +9,7 @@ use Rattle.ud_text.specs.lines.LinesState.{LinesState, LinesRepresent, UpToNewli
 use Rattle.ud_text.specs.lines.Borrowing.{CanBorrow, IsFirstLine}
 use Rattle.ud_text.proofs.lemmas.lines.NewlineLemmas.{up_to_newline-once, whole_newlineless}
 use Rattle.ud_text.proofs.lemmas.scan.MaskLemmas.{no_newline-take}
-use Rattle.ud_text.proofs.lemmas.lines.LinesLemmas.{represent_take, represent_whole}
+use Rattle.ud_text.proofs.lemmas.lines.LinesLemmas.{represent_take}
 use Rattle.ud_model.proofs.output.Formed.{feed_inside}
 use Rattle.std.proofs.lemmas.Grind.{common_steps}
 
@@ -26,25 +24,17 @@ none_held (b ∷ bytes) false e h = cc
 pub none_fits : (chunk : List ℕ) (used other : ℕ) (whole : Bool) → UpToNewline chunk used whole → (whole ≡ true → LINE_BYTES < used) →
     UpToNewline chunk other true → LINE_BYTES < other
 none_fits chunk used other whole a long b =
-    let once : (whole ≡ true) × (used ≡ other) = up_to_newline-once chunk used other whole true a b in
-    subst (λ (n : ℕ). LINE_BYTES < n) once.1 (long once.0)
+    grind (arith, up_to_newline-once chunk used other whole true a b)
 
 -- each whole line at the beginning is too long, if there is no newline in as many bytes as a line
 -- may have
 pub none_here : (rest : List ℕ) (size : ℕ) → size ≡ min (length rest) LINE_BYTES → NoNewline (take size rest) → (used : ℕ) → UpToNewline rest used true → LINE_BYTES < used
 none_here rest size e none used to =
-    elim (cases_lt LINE_BYTES used) [
-      | inl long ↦ long
-      | inr short ↦
-          let line : (prefix : List ℕ) × NoNewline prefix × (take used rest ≡ prefix ++ 10 ∷ []) = to.line refl in
-          absurd (feed_inside line.0 (subst NoNewline (take-take used size rest (omega (arith, e, to.within)) ∙ line.2) (no_newline-take used (take size rest) none)))
-    ]
+    grind (arith, common_steps, feed_inside, no_newline-take used (take size rest) none)
 
 -- no line comes at the beginning of nothing
 pub none_after : (rest : List ℕ) → length rest ≡ 0 → (used : ℕ) → UpToNewline rest used true → LINE_BYTES < used
-none_after rest e used to =
-    let line : (prefix : List ℕ) × NoNewline prefix × (take used rest ≡ prefix ++ 10 ∷ []) = to.line refl in
-    absurd (omega (arith, e, ap length line.2, length-append line.0 (10 ∷ []), length-take used rest))
+none_after rest e used to = grind (arith, common_steps)
 
 -- a body and an ending are the bytes of their line
 joined_is : (body ending line : List ℕ) (n : ℕ) → IsLineOf body ending n (line_at n line) → body ++ ending ≡ line
@@ -53,15 +43,12 @@ joined_is body ending line n e = ap text_of e ∙ text_of-line_at n line
 -- the line is that of the chunk's prefix
 pub borrowed_value : (chunk body ending line : List ℕ) (n : ℕ) → IsFirstLine chunk line → IsLineOf body ending n (line_at n line) →
     IsLineOf body ending n (line_at n (take (length (body ++ ending)) chunk))
-borrowed_value chunk body ending line n f e =
-    e ∙ ap (line_at n) (f.bytes ∙ ap (λ (l : List ℕ). take (length l) chunk) (sym (joined_is body ending line n e)))
+borrowed_value chunk body ending line n f e = grind (arith, common_steps, joined_is)
 
 -- the line's bytes are the chunk's prefix
 pub borrowed_bytes : (chunk body ending line : List ℕ) (n : ℕ) → IsFirstLine chunk line → IsLineOf body ending n (line_at n line) →
     body ++ ending ≡ take (length (body ++ ending)) chunk
-borrowed_bytes chunk body ending line n f e =
-    let same : body ++ ending ≡ line = joined_is body ending line n e in
-    same ∙ (f.bytes ∙ ap (λ (l : List ℕ). take (length l) chunk) (sym same))
+borrowed_bytes chunk body ending line n f e = grind (arith, common_steps, joined_is)
 
 -- no newline is in the line's body
 pub borrowed_no_newline : (chunk body ending line : List ℕ) (n : ℕ) → IsFirstLine chunk line → IsLineOf body ending n (line_at n line) → NoNewline body
@@ -77,13 +64,10 @@ can_borrow lines chunk body ending line n unheld no_fault numbered f e = grind (
 consumed_line : (lines : LinesState) (text chunk : List ℕ) (used : ℕ) → lines.held ≡ [] → lines.whole ≡ false → UpToNewline chunk used true → LinesRepresent lines text →
     LinesRepresent (record lines { before = lines.before + 1 }) (text ++ take used chunk)
 consumed_line lines text chunk used unheld part to h =
-    subst (λ (held : List ℕ). LinesRepresent (record lines { held = held; before = lines.before + 1 }) (text ++ take used chunk)) (sym unheld)
-    (subst (λ (whole : Bool). LinesRepresent (record lines { held = []; whole = whole; before = lines.before + 1 }) (text ++ take used chunk)) (sym part)
-    (grind (arith, represent_whole, length-append, represent_take lines text chunk used true part to h)))
+    grind (arith, common_steps, represent_take lines text chunk used true part to h)
 
 -- one more line is taken and consumed with the borrowed one
 pub represent_borrowed : (lines : LinesState) (text chunk body ending line : List ℕ) (n : ℕ) → lines.held ≡ [] → lines.whole ≡ false →
     IsFirstLine chunk line → IsLineOf body ending n (line_at n line) → LinesRepresent lines text → LinesRepresent (record lines { before = lines.before + 1 }) (text ++ (body ++ ending))
 represent_borrowed lines text chunk body ending line n unheld part f e h =
-    subst (λ (l : List ℕ). LinesRepresent (record lines { before = lines.before + 1 }) (text ++ l)) (sym (f.bytes) ∙ sym (joined_is body ending line n e))
-    (consumed_line lines text chunk (length line) unheld part f.prefix h)
+    grind (arith, common_steps, consumed_line)

@@ -1,19 +1,18 @@
 -- Consuming: whole lines are taken and consumed at once.
-use Rattle.std.proofs.Common.{◌≡◌, ℕ, ◌+◌, ◌-◌, ◌≤◌, Bool, cond, if◌then◌else◌, List, [], ◌∷◌, ◌++◌, length, take, drop, refl, sym, ◌∙◌, ap, subst, take_all, arith}
+use Rattle.std.proofs.Common.{◌≡◌, ℕ, ◌+◌, ◌-◌, ◌≤◌, Bool, cond, if◌then◌else◌, List, [], ◌∷◌, ◌++◌, length, take, drop, refl, sym, ◌∙◌, ap, take_all, arith}
 use Rattle.std.specs.List.{count_by, concat}
 use Rattle.std.proofs.lemmas.List.{length-append, take-take}
 use Rattle.std.proofs.Math.Seq.{take-add}
 use Rattle.std.proofs.lemmas.List.Recursion.{is_count_by}
-use Rattle.std.proofs.lemmas.List.Sums.{count_by-le-length, sum_by-append}
+use Rattle.std.proofs.lemmas.List.Sums.{sum_by-append}
 use Rattle.std.proofs.Math.ListN.{length-take}
 use Rattle.ud_model.specs.declared.limits.TheConstants.{LINE_BYTES}
 use Rattle.ud_model.specs.text.Lines.{SplitLines, split_lines, prepend_to_first, whole_lines, partial_line}
-use Rattle.ud_model.proofs.text.LinesLemmas.{split_lines-append, parts_joined, going_on}
+use Rattle.ud_model.proofs.text.LinesLemmas.{split_lines-append, parts_joined}
 use Rattle.ud_text.specs.lines.LinesState.{LinesState, LinesRepresent}
 use Rattle.ud_text.specs.bulk.BulkScanning.{AreWholeLines}
 use Rattle.ud_text.specs.lines.Consuming.{is_newline, EachFits, CanConsume}
 use Rattle.ud_text.specs.bulk.BulkLexemes.{LastLineStarts}
-use Rattle.ud_text.proofs.lemmas.lines.LinesLemmas.{represent_part}
 use Rattle.ud_text.proofs.lemmas.bulk.BulkPlainLemmas.{begins_ends}
 
 -- there are as many whole lines as newlines
@@ -34,10 +33,6 @@ counted_more bytes at n count more h k = grind (arith, sum_by-append, cond, take
 pub counted_all : (bytes : List ℕ) (at count more : ℕ) → count ≡ count_by is_newline (take at bytes) →
     more ≡ count_by is_newline (take (length bytes - at) (drop at bytes)) → count + more ≡ length (whole_lines bytes)
 counted_all bytes at count more e f = grind (arith, counted_more, take_all, lines_counted)
-
--- there are no more lines than bytes
-pub lines_few : (bytes : List ℕ) → length (whole_lines bytes) ≤ length bytes
-lines_few bytes = omega (arith, lines_counted bytes, count_by-le-length is_newline bytes)
 
 -- the lines of bytes that follow whole lines
 pub lines_joined : (prefix rest : List ℕ) → AreWholeLines prefix → whole_lines (prefix ++ rest) ≡ whole_lines prefix ++ whole_lines rest
@@ -88,11 +83,7 @@ pub represent_consumed : (lines : LinesState) (text bytes : List ℕ) → CanCon
     LinesRepresent (record lines { before = lines.before + length (whole_lines bytes) }) (text ++ bytes)
 represent_consumed lines text bytes can h = record {
   consumed = h.consumed ++ whole_lines bytes;
-  cut =
-      subst (λ (w : Bool). split_lines (text ++ bytes) ≡ (if w then record { whole = (h.consumed ++ whole_lines bytes) ++ lines.held ∷ []; rest = [] } else record { whole = h.consumed ++ whole_lines bytes; rest = lines.held })) (sym can.part)
-      (split_lines-append text bytes ∙ ap (λ (q : SplitLines). going_on q bytes) (represent_part lines text can.part h)
-      ∙ ap (λ (r : List ℕ). record { whole = h.consumed ++ whole_lines (r ++ bytes); rest = partial_line (r ++ bytes) }) can.unheld
-      ∙ ap (λ (r : List ℕ). record { whole = h.consumed ++ whole_lines bytes; rest = r }) (can.ends ∙ sym can.unheld));
+  cut = grind (arith, split_lines-append);
   count = ap (λ (n : ℕ). n + length (whole_lines bytes)) h.count ∙ sym (length-append h.consumed (whole_lines bytes));
 }
 

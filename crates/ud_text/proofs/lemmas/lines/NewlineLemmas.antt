@@ -1,10 +1,9 @@
 -- Newlines: the prefix of a chunk up to its first newline, which a search finds, is unique.
-use Rattle.std.proofs.Common.{◌≡◌, ℕ, zero, suc, ◌+◌, ◌<◌, ◌≤◌, Bool, true, false, List, [], ◌∷◌, ◌++◌, length, take, get_or, refl, sym, ◌∙◌, ap, subst, arith}
-use Rattle.std.proofs.lemmas.Bool.{eq-eqb, eqb-true}
+use Rattle.std.proofs.Common.{◌≡◌, ℕ, zero, suc, ◌+◌, ◌<◌, ◌≤◌, Bool, true, false, List, [], ◌∷◌, ◌++◌, length, take, refl, sym, ◌∙◌, ap, arith}
+use Rattle.std.proofs.lemmas.Bool.{eq-eqb}
 use Rattle.std.proofs.lemmas.Bool.Decides.{Decides-eqb}
-use Rattle.std.proofs.lemmas.List.{take_more, take_all, take-append-le, length-append}
+use Rattle.std.proofs.lemmas.List.{take-append-le, length-append}
 use Rattle.std.proofs.lemmas.Slice.Eq.{ends_is}
-use Rattle.std.proofs.Math.ListN.{length-take}
 use Rattle.memchr.specs.Find.{Nowhere, NoneBefore, Passes, is_byte}
 use Rattle.ud_model.specs.text.Lines.{NoNewline, IsWhole, line_at}
 use Rattle.ud_text.specs.lines.LinesState.{UpToNewline}
@@ -23,23 +22,11 @@ no_newline_front (b ∷ bs) (suc n) none = (
 
 -- the first newline that a search finds ends the bytes up to it
 pub up_to_newline-found : (s : List ℕ) (k : ℕ) → NoneBefore (Passes (is_byte 10) s) 0 (length s) k → Passes (is_byte 10) s k → UpToNewline s (k + 1) true
-up_to_newline-found s k first is = record {
-  within = (let h : k < length s = first.high in omega arith);
-  all = λ e. cc;
-  line = λ e. (
-    take k s,
-    no_newline_front s k first.before,
-    take_more s k 0 first.high ∙ ap (λ (b : ℕ). take k s ++ b ∷ []) (eqb-true (get_or s k 0) 10 is),
-  );
-}
+up_to_newline-found s k first is = grind (arith, common_steps, no_newline_front s k first.before)
 
 -- the prefix is the whole chunk, if a search finds no newline
 pub up_to_newline-none : (s : List ℕ) → Nowhere (Passes (is_byte 10) s) 0 (length s) → UpToNewline s (length s) false
-up_to_newline-none s none = record {
-  within = omega arith;
-  all = λ e. (refl, subst NoNewline (take_all (length s) s (omega arith)) (no_newline_front s (length s) none));
-  line = λ e. cc;
-}
+up_to_newline-none s none = grind (arith, common_steps, no_newline_front s (length s) none)
 
 -- two prefixes of a text that end with their only newline are one
 same_front : (s f g : List ℕ) (m n : ℕ) → NoNewline f → NoNewline g → take m s ≡ f ++ 10 ∷ [] → take n s ≡ g ++ 10 ∷ [] → f ≡ g
@@ -57,25 +44,19 @@ same_front (b ∷ bs) (x ∷ xs) (y ∷ ys) (suc m) (suc n) nf ng d e = let p : 
 
 -- the length of a prefix with its newline
 front_len : (s f : List ℕ) (n : ℕ) → n ≤ length s → take n s ≡ f ++ 10 ∷ [] → n ≡ length f + 1
-front_len s f n h e =
-    let k : length (take n s) ≡ length f + 1 = ap length e ∙ length-append f (10 ∷ []) in
-    omega (arith, k, length-take n s)
+front_len s f n h e = grind (arith, common_steps)
 
 -- a chunk has one prefix up to its first newline
 pub up_to_newline-once : (chunk : List ℕ) (used other : ℕ) (whole ended : Bool) → UpToNewline chunk used whole → UpToNewline chunk other ended → (whole ≡ ended) × (used ≡ other)
 up_to_newline-once chunk used other false false a b = (refl, (a.all refl).0 ∙ sym (b.all refl).0)
 up_to_newline-once chunk used other true false a b = grind (arith, feed_inside, no_newline-take)
 up_to_newline-once chunk used other false true a b = grind (arith, feed_inside, no_newline-take)
-up_to_newline-once chunk used other true true a b =
-    let same : (a.line refl).0 ≡ (b.line refl).0 = same_front chunk (a.line refl).0 (b.line refl).0 used other (a.line refl).1 (b.line refl).1 (a.line refl).2 (b.line refl).2 in
-    (refl, front_len chunk (a.line refl).0 used a.within (a.line refl).2 ∙ ap (λ (f : List ℕ). length f + 1) same ∙ sym (front_len chunk (b.line refl).0 other b.within (b.line refl).2))
+up_to_newline-once chunk used other true true a b = grind (arith, common_steps, same_front)
 
 -- a chunk that isn't empty has a prefix with bytes
 pub up_to_newline-some : (chunk : List ℕ) (used : ℕ) (whole : Bool) → UpToNewline chunk used whole → 0 < length chunk → 0 < used
 up_to_newline-some chunk used false a some = let k : used ≡ length chunk = (a.all refl).0 in omega arith
-up_to_newline-some chunk used true a some =
-    let k : used ≡ length (a.line refl).0 + 1 = front_len chunk (a.line refl).0 used a.within (a.line refl).2 in
-    omega arith
+up_to_newline-some chunk used true a some = grind (arith, common_steps)
 
 -- a line that ends in its newline has none in its body
 pub whole_newlineless : (n : ℕ) (l : List ℕ) → IsWhole l → NoNewline (line_at n l).body

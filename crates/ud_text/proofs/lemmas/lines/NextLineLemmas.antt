@@ -1,7 +1,7 @@
 -- Next lines: the first of some whole lines.
-use Rattle.std.proofs.Common.{◌≡◌, ◌∙◌, ◌<◌, ◌∷◌, sym, ap, refl, List, ℕ, true, take, drop, take-append-drop, arith}
+use Rattle.std.proofs.Common.{◌≡◌, ◌<◌, ◌∷◌, refl, List, ℕ, true, take, drop, take-append-drop, arith, ap, sym, ◌∙◌}
 use Rattle.std.proofs.lemmas.List.{length-take-le}
-use Rattle.ud_model.specs.text.Lines.{SplitLines, whole_lines}
+use Rattle.ud_model.specs.text.Lines.{whole_lines, SplitLines}
 use Rattle.ud_model.proofs.text.LinesLemmas.{split_lines-line-prefix}
 use Rattle.ud_text.specs.lines.LinesState.{LinesState, UpToNewline}
 use Rattle.ud_text.specs.lines.Borrowing.{IsFirstLine}

@@ -1,13 +1,13 @@
 -- Texts: one line more, and many text lines more, read in one mode.
-use Rattle.std.proofs.Common.{◌≡◌, ◌≢◌, ℕ, ◌+◌, ◌<◌, ◌==◌, List, [], ◌∷◌, ◌++◌, length, map, take, Bool, true, false, refl, sym, ◌∙◌, ap, subst, append_assoc, append-nil, length-append, arith}
+use Rattle.std.proofs.Common.{◌≡◌, ℕ, ◌+◌, ◌<◌, ◌==◌, List, [], ◌∷◌, ◌++◌, length, map, take, Bool, true, false, refl, sym, ◌∙◌, ap, subst, append-nil, length-append, arith}
 use Rattle.std.specs.List.{count_by}
-use Rattle.std.proofs.lemmas.List.{map-append, take_all, length-take-le}
+use Rattle.std.proofs.lemmas.List.{map-append, take_all}
 use Rattle.ud_model.specs.text.Lines.{Line, line_at, numbered_from, lines_of, texts_of, whole_lines, partial_line, last_line, split_lines}
 use Rattle.ud_model.specs.text.Scans.{Reading}
 use Rattle.ud_model.specs.text.Scanning.{scan_after, next_reading, readings_after}
 use Rattle.ud_model.specs.aids.ReadAs.{read_as, in_mode}
 use Rattle.ud_model.specs.declared.kind.Mode.{Mode}
-use Rattle.ud_model.proofs.text.LinesLemmas.{split_lines-append, split_lines-open, split_lines-line-prefix, last_line-some, numbered_from-append}
+use Rattle.ud_model.proofs.text.LinesLemmas.{split_lines-append, split_lines-open, split_lines-line-prefix, numbered_from-append}
 use Rattle.ud_model.proofs.text.ScanBytes.{scan_after-same}
 use Rattle.ud_model.proofs.text.ScanLaws.{readings_after-append}
 use Rattle.ud_model.proofs.text.ScanLemmas.{LexesTo-same, joined_run_last, run_of_last, joins_last}
@@ -15,7 +15,6 @@ use Rattle.ud_text.specs.scan.ScannerState.{ScannerState, ScannerRepresents}
 use Rattle.ud_text.specs.bulk.BulkScanning.{AreWholeLines, lines_in_mode, SkipsText}
 use Rattle.ud_text.specs.lines.LinesState.{UpToNewline}
 use Rattle.ud_text.proofs.lemmas.scan.ScannerLemmas.{ends_in_block_last}
-use Rattle.ud_text.proofs.lemmas.lines.NewlineLemmas.{up_to_newline-some}
 use Rattle.ud_text.proofs.lemmas.lines.ConsumeLemmas.{lines_counted}
 use Rattle.std.proofs.lemmas.Grind.{common_steps}
 
@@ -28,11 +27,8 @@ module _ (mode : Mode) (done p : List ℕ) (ends : AreWholeLines done) where
   parts : split_lines (done ++ p) ≡ record { whole = whole_lines done ++ whole_lines p; rest = partial_line p }
   parts = grind (arith, split_lines-append)
 
-  done_texts : texts_of done ≡ whole_lines done
-  done_texts = ap (λ (x : List ℕ). whole_lines done ++ last_line x) ends ∙ append-nil (whole_lines done)
-
   pub all_texts : texts_of (done ++ p) ≡ texts_of done ++ texts_of p
-  all_texts = grind (arith, parts, append_assoc, done_texts)
+  all_texts = grind (arith, common_steps, parts)
 
   pub all_lines : lines_of (done ++ p) ≡ lines_of done ++ numbered_from after (texts_of p)
   all_lines = ap (λ (ts : List (List ℕ)). numbered_from 1 ts) all_texts ∙ numbered_from-append 1 (texts_of done) (texts_of p)
@@ -91,11 +87,8 @@ module _ (rest : List ℕ) (used : ℕ) (w : Bool) (to : UpToNewline rest used w
   open_by : w ≡ false → split_lines (take used rest) ≡ record { whole = []; rest = take used rest }
   open_by h = grind (arith, take_all, split_lines-open)
 
-  not_none : take used rest ≢ []
-  not_none e = grind (arith, common_steps, up_to_newline-some, length-take-le)
-
   pub one_text : texts_of (take used rest) ≡ take used rest ∷ []
-  one_text = grind (arith, whole_by, open_by, last_line-some, not_none)
+  one_text = grind (arith, whole_by, open_by)
 
   pub whole_if_more : used < length rest → partial_line (take used rest) ≡ []
   whole_if_more h = grind (arith, whole_by)

@@ -4,11 +4,12 @@ use Rattle.std.specs.List.{position_or_len}
 use Rattle.std.proofs.lemmas.List.{take_all, take_rest, length-take-le, drop-take, take-take, take-append-drop}
 use Rattle.std.specs.Option.{option_to_list}
 use Rattle.memchr.specs.Find.{IsFirstByte, is_byte}
-use Rattle.ud_model.specs.text.Bytes.{are_white, star, space, is_mark, is_white}
+use Rattle.ud_model.specs.text.Bytes.{are_white, star, space, is_mark}
 use Rattle.ud_model.specs.text.Lines.{NoNewline}
 use Rattle.ud_model.specs.aids.LexStates.{LexState, in_text, in_block, at_star, in_line, next_state, opens_comment, masked_byte, stays_white, blank_last, LexesTo, Masks}
 use Rattle.ud_model.proofs.text.LexStateLemmas.{Masks-step, blank_last-last}
 use Rattle.ud_model.proofs.text.ScanLemmas.{Masks-start}
+use Rattle.std.proofs.lemmas.Grind.{common_steps}
 
 -- how a text is shown, under other names of the same values
 pub Masks-same : {n : ℕ} {t u : List ℕ} {w x : LexState} {b c : Bool} {m k : List ℕ} → t ≡ u → w ≡ x → b ≡ c → m ≡ k → Masks n t w b m → Masks n u x c k
@@ -36,18 +37,16 @@ abbrev pub NoStar : List ℕ → Type 0
 NoStar [] = Unit {0}
 NoStar (b ∷ bytes) = ((b == star) ≡ false) × NoStar bytes
 
-and_assoc : (a b c : Bool) → ((a && b) && c) ≡ (a && (b && c))
-and_assoc a b c = grind arith
-
 -- a run of bytes outside comments and literals is shown unchanged
 pub Masks-text : {n : ℕ} (bytes text : List ℕ) (white : Bool) (masked : List ℕ) → NoMark bytes → NoNewline bytes →
     Masks n text in_text white masked → Masks n (text ++ bytes) in_text (white && are_white bytes) (masked ++ bytes)
 Masks-text [] text white masked p q m = Masks-same (sym (append-nil text)) refl (grind arith) (sym (append-nil masked)) m
-Masks-text (b ∷ bytes) text white masked p q m = Masks-same (append_assoc text (b ∷ []) bytes) refl
-    (ap (λ (v : Bool). v && are_white bytes) (grind (arith, p.0, q.0)) ∙ and_assoc white (is_white b) (are_white bytes))
-    (append_assoc masked (b ∷ []) bytes)
-    (Masks-text bytes (text ++ b ∷ []) (stays_white in_text white b) (masked ++ b ∷ []) p.1 q.1
-    (Masks-same refl (sym (grind (arith, p.0))) refl refl (Masks-step b m)))
+Masks-text (b ∷ bytes) text white masked p q m = grind (
+  arith,
+  common_steps,
+  Masks-text bytes (text ++ b ∷ []) (stays_white in_text white b) (masked ++ b ∷ []) p.1 q.1
+      (Masks-same refl (sym (grind (arith, p.0))) refl refl (Masks-step b m)),
+)
 
 in_block_with : (t : Bool) → t ≡ false → (if t then at_star else in_block) ≡ in_block
 in_block_with t h = grind arith
@@ -136,8 +135,7 @@ block_run text rest old new {w} r count m e f h p =
 pub line_run : {n : ℕ} (text rest old new : List ℕ) {w : LexState} {white : Bool} → Masks n text w white old → w ≡ in_line → NoNewline rest →
     new ≡ old ++ replicate (length rest) 32 → Masks n (text ++ take (length rest) rest) w white new
 line_run text rest old new {w} m e h p =
-    Masks-same (ap (λ (l : List ℕ). text ++ l) (sym (take_all (length rest) rest (omega arith)))) (sym e) refl (sym p)
-    (Masks-line rest text old h (Masks-same refl e refl refl m))
+    grind (arith, take_all, Masks-line rest text old h (Masks-same refl e refl refl m))
 
 -- after white bytes a line is white if it is white before them
 pub and_at_true : (a b : Bool) → b ≡ true → a ≡ (a && b)

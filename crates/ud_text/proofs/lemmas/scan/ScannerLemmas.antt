@@ -1,9 +1,8 @@
 -- Scanner states: what is carried over a line, and the line's scan by it.
-use Rattle.std.proofs.Common.{arith, ◌≡◌, ℕ, List, [], ◌∷◌, ◌++◌, length, map, Bool, false, ◌||◌, refl, sym, ◌∙◌, ap, true}
+use Rattle.std.proofs.Common.{arith, ◌≡◌, ℕ, List, [], ◌∷◌, ◌++◌, length, map, Bool, false, ◌||◌, refl, sym, ◌∙◌, ap, true, rules}
 use Rattle.ud_model.specs.text.Lines.{Line, NoNewline}
 use Rattle.ud_model.specs.text.Scans.{Scan, Reading}
 use Rattle.ud_model.specs.text.Splicing.{is_spliced, content, stays_open, spliced_part, spliced_text, c_run_of}
-use Rattle.ud_model.specs.text.Lexemes.{LexemeKind}
 use Rattle.ud_model.specs.text.Scanning.{is_block, joins, comment_at, scan_after_run, scan_after, next_reading}
 use Rattle.ud_model.specs.aids.LexStates.{LexState, LexesTo, kind_in_state, fresh_at, state_after_line, white_after_line, Masks}
 use Rattle.ud_model.specs.sections.Faults.{is_in_block, ends_in_comment}
@@ -17,6 +16,7 @@ use Rattle.ud_model.proofs.text.ScanLaws.{scan_after_run-from}
 use Rattle.ud_model.proofs.text.ScanLemmas.{LexesTo-same, LexesTo-close, kind_at_place, joined_run_last, run_of_last, joins_last, scan_behind_is}
 use Rattle.ud_text.specs.scan.ScannerState.{ScannerState, ScannerRepresents, initial_scanner_state, ends_in_block}
 use Rattle.ud_text.proofs.lemmas.scan.MaskLemmas.{no_newline-take}
+use Rattle.ud_model.specs.text.Lexemes.{LexemeKind}
 
 -- A disjunction whose first part is false.
 pub or_false : (a b : Bool) → a ≡ false → b ≡ (a || b)
@@ -40,9 +40,7 @@ represents_none before e f = record {
 
 -- the initial state is carried over a line in plain mode
 pub represents_plain : (before : List Reading) (line : Line) → ScannerRepresents initial_scanner_state (before ++ next_reading before Plain line ∷ [])
-represents_plain before line =
-    represents_none (before ++ next_reading before Plain line ∷ []) (run_of_last before (next_reading before Plain line))
-    (ends_in_block_last before (next_reading before Plain line))
+represents_plain before line = search (rules, represents_none, run_of_last, ends_in_block_last)
 
 module _ (carry : ScannerState) (before : List Reading) (line : Line) (masked : List ℕ) (v : LexState) (white : Bool) where
   -- the scan of a line in C mode, by the carried state and by the lexer's state after the line's

@@ -8,13 +8,13 @@ use Rattle.ud_model.specs.text.Bytes.{backslash, is_mark, are_white}
 use Rattle.ud_model.specs.text.Lines.{Line, NoNewline}
 use Rattle.ud_model.specs.text.Scans.{Reading}
 use Rattle.ud_model.specs.text.Splicing.{is_spliced, is_empty, content, stays_open, spliced_text, c_run_of}
-use Rattle.ud_model.specs.text.Scanning.{is_block, comment_at, scan_after, next_reading}
-use Rattle.ud_model.specs.aids.LexStates.{LexState, in_text, kind_in_state, fresh_at, state_after_line, white_after_line, Masks}
+use Rattle.ud_model.specs.text.Scanning.{is_block, scan_after, next_reading}
+use Rattle.ud_model.specs.aids.LexStates.{in_text, kind_in_state, state_after_line, white_after_line, Masks}
 use Rattle.ud_model.specs.declared.kind.Mode.TheVariants.{C, Plain}
 use Rattle.ud_model.specs.declared.kind.CommentAt.TheVariants.{Outside}
 use Rattle.ud_text.specs.scan.ScannerState.{ScannerState, ScannerRepresents, initial_scanner_state, StaysAfter, IsScanOf}
 use Rattle.ud_text.proofs.lemmas.scan.MaskLemmas.{NoMark, no_mark_before, plain_run}
-use Rattle.ud_text.proofs.lemmas.scan.ScannerLemmas.{scan_carried, represents_code, represents_plain, same_parts}
+use Rattle.ud_text.proofs.lemmas.scan.ScannerLemmas.{scan_carried, represents_code, represents_plain}
 
 -- bytes that end in a backslash have a mark
 ends_marked : (prefix : List ℕ) → NoMark (prefix ++ backslash ∷ []) → ⊥
@@ -34,9 +34,7 @@ module _ (scan_state : ScannerState) (before : List Reading) (line : Line) (h : 
     (count : ℕ) (first : count ≡ position_or_len is_mark line.body) (whole : count ≡ length line.body) (one_line : NoNewline line.body)
     (some : is_empty line.ending ≡ false) where
   no_mark : NoMark line.body
-  no_mark =
-      subst NoMark (take_all (position_or_len is_mark line.body) line.body (let e = first in let f = whole in omega (arith, e, f)))
-      (no_mark_before line.body)
+  no_mark = grind (arith, take_all, no_mark_before line.body)
 
   spliced_is : is_spliced line ≡ false
   spliced_is = unspliced line no_mark
@@ -67,21 +65,14 @@ module _ (scan_state : ScannerState) (before : List Reading) (line : Line) (h : 
   pub unmarked_scan : (fresh joins : Bool) → fresh ≡ scan_state.white → joins ≡ scan_state.joins →
       record { masked = line.body; fresh = fresh; joins_before = joins; joins_after = false; spliced = false; comment = Outside } ≡ scan_after before C line
   unmarked_scan fresh joins f j =
-      same_parts refl (f ∙ sym (ap (λ (p : LexState). fresh_at p scan_state.white (content line)) state)) j
-      (sym (ap (λ (s : Bool). s || is_block (kind_in_state (state_after_line (stays_open line) in_text))) spliced_is
-      ∙ ap (λ (s : Bool). is_block (kind_in_state (state_after_line s in_text))) stays_is))
-      (sym spliced_is)
-      (sym (ap (λ (s : Bool). comment_at s (kind_in_state (state_after_line (stays_open line) in_text))) spliced_is
-      ∙ ap (λ (s : Bool). comment_at false (kind_in_state (state_after_line s in_text))) stays_is))
-      ∙ sym (scan_carried scan_state before line line.body in_text white h shown)
+      grind (arith, spliced_is, scan_carried scan_state before line line.body in_text white h shown)
 
 module _ (scan_state : ScannerState) (initial : scan_state ≡ initial_scanner_state) (line : Line) (count : ℕ) (first : count ≡ position_or_len is_mark line.body)
     (whole : count ≡ length line.body) (one_line : NoNewline line.body) (some : is_empty line.ending ≡ false) where
   -- the initial state is carried over the line in each mode
   pub unmarked_stays : StaysAfter scan_state line
   unmarked_stays C before h = unmarked_carries scan_state before line h (ap (λ s. s.state) initial) count first whole one_line some scan_state initial
-  unmarked_stays Plain before h =
-      subst (λ (k : ScannerState). ScannerRepresents k (before ++ next_reading before Plain line ∷ [])) (sym initial) (represents_plain before line)
+  unmarked_stays Plain before h = grind (arith, represents_plain before line)
 
   -- the line is masked unchanged in each mode
   pub unmarked_scan_of : IsScanOf scan_state line

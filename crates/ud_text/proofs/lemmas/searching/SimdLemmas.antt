@@ -28,9 +28,8 @@ lanes_or v p q e f = zip2_of_maps bit_or (λ (x : ℕ). lane (p x)) (λ (x : ℕ
 -- the lanes as bits
 pub lane_bits : {X : Type 0} (p : X → Bool) (v : List X) (n : ℕ) (z : List ℕ) → length v ≡ n → n ≤ 64 → z ≡ map (λ x. lane (p x)) v →
     mask_l (map (top 7) z) % 2 ^ 64 ≡ mask_l (map p v)
-lane_bits {X} p v n z long few lanes = let tops : map (top 7) z ≡ map p v =
-    ap (map (top 7)) lanes ∙ map-map (top 7) (λ (x : X). lane (p x)) v
-    ∙ map_same (λ (x : X). top 7 (lane (p x))) p (λ x. (grind arith)) v in
+lane_bits {X} p v n z long few lanes =
+    let tops : map (top 7) z ≡ map p v = grind (arith, map-map) in
     ap (λ (l : List Bool). mask_l l % 2 ^ 64) tops ∙ mask_l-mod (map p v) 64 (omega (arith, length-map v p, long))
 
 -- the lowest bit is that of the first lane that passes

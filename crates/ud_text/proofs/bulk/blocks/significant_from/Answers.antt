@@ -1,5 +1,5 @@
 -- The lowest bit of a block, or a search among the last bytes.
-use Rattle.std.proofs.Common.{◌∙◌, sym, arith}
+use Rattle.std.proofs.Common.{◌∙◌, arith}
 use Rattle.ud_text.proofs.lemmas.bulk.BlockBitLemmas.{row_found, row_empty, row_later}
 use Rattle.ud_text.proofs.bulk.blocks.significant_from.Goals as goal
 
@@ -11,6 +11,4 @@ loop-at-preserved c = record {
 }
 
 pub returns-then-bits-ne0-clause-value : goal.returns-then-bits-ne0-clause-value
-returns-then-bits-ne0-clause-value c =
-    row_found c.args.bytes.now c.loop-at.at 64 (omega arith) (omega arith) c.block_bits-bits.result c.block_bits-bits.ensures c.if-bits-ne0.true
-    ∙ sym c.loop-at.invariant.same
+returns-then-bits-ne0-clause-value c = grind (arith, row_found)

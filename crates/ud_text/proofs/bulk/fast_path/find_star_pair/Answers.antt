@@ -1,6 +1,6 @@
 -- By the pairs.
-use Rattle.std.proofs.Common.{arith, sym, ◌∙◌, ◌+◌, ◌-◌}
-use Rattle.ud_text.proofs.lemmas.bulk.ReachLemmas.{none_on, none_past, none_between, closes_there}
+use Rattle.std.proofs.Common.{arith, ◌+◌, ◌-◌}
+use Rattle.ud_text.proofs.lemmas.bulk.ReachLemmas.{none_on, none_between}
 use Rattle.ud_text.proofs.bulk.fast_path.find_star_pair.Goals as goal
 use Rattle.ud_text.proofs.bulk.fast_path.find_star_pair.Goals.{else-at-end-via-then-at-end+else-is_star_pair, else-at-end-via-else-at-end}
 
@@ -18,11 +18,7 @@ loop-end-preserved c = record {
   later = omega (arith, c.next_significant-further.ensures.value, c.loop-end.invariant.later);
   within = c.next_significant-further.ensures.bound;
   none = none_on c.args.lines.now c.args.at (c.loop-end.end + 1) c.next_significant-further.result.0 c.next_significant-further.ensures.value
-      (none_past c.args.lines.now c.args.at c.loop-end.end c.loop-end.invariant.none
-      (λ later. elim c.else-at-end.branch [
-        | else-at-end-via-then-at-end+else-is_star_pair w ↦ sym w.is_star_pair.ensures ∙ w.if-is_star_pair.false
-        | else-at-end-via-else-at-end w ↦ absurd (omega arith)
-      ]));
+      (grind arith);
 }
 
 pub returns-then-is_star_pair-clause-none : goal.returns-then-is_star_pair-clause-none
@@ -31,7 +27,3 @@ returns-then-is_star_pair-clause-none c =
 
 pub returns-clause-none : goal.returns-clause-none
 returns-clause-none c = none_between c.args.lines.now c.args.at c.loop-end.end c.loop-end.invariant.none
-
-pub returns-then-is_star_pair-clause-closes : goal.returns-then-is_star_pair-clause-closes
-returns-then-is_star_pair-clause-closes c = λ slash.
-    closes_there c.args.lines.now c.loop-end.end (omega arith) (omega arith) (sym c.is_star_pair.ensures ∙ c.if-is_star_pair.true) slash

@@ -1,7 +1,7 @@
 -- Bytes up to a newline or a slash, and then that one.
 use Rattle.std.proofs.Common.{◌≡◌, ◌≤◌, ℕ, Bool, ◌+◌, take, false, arith, ne_eqb, sym, ◌∙◌, subst}
 use Rattle.ud_text.proofs.lemmas.bulk.LexemeLemmas.{spliced_by}
-use Rattle.ud_text.proofs.lemmas.bulk.QuotedLemmas.{QuotedTo, quoted_start, star_opens, none_with, quoted_star, quoted_shut, quoted_more, quoted_line, unspliced_last, unspliced_return}
+use Rattle.ud_text.proofs.lemmas.bulk.QuotedLemmas.{QuotedTo, quoted_star, quoted_shut, quoted_more, quoted_line, unspliced_last, unspliced_return}
 use Rattle.ud_text.proofs.bulk.lexeme_lengths.quoted_line_len.Goals.{
   else-rest-stop-eq13-via-then-rest-stop-eq13+else-may_splice,
 }
@@ -13,16 +13,6 @@ use Rattle.ud_text.proofs.bulk.lexeme_lengths.quoted_line_len.Goals.{
 }
 use Rattle.ud_text.proofs.bulk.lexeme_lengths.quoted_line_len.Goals.{else-begun-stop}
 use Rattle.ud_text.proofs.bulk.lexeme_lengths.quoted_line_len.Goals as goal
-
-pub loop-at-init : goal.loop-at-init
-loop-at-init c = record {
-  low = omega arith;
-  within = omega (arith, c.requires.some);
-  begun = omega arith;
-  few = omega arith;
-  opens = grind (arith, c.requires.first);
-  read = quoted_start c.args.rest.now c.requires.some c.requires.first;
-}
 
 pub returns-then-rest-stop-eq10-clause-read : goal.returns-then-rest-stop-eq10-clause-read
 returns-then-rest-stop-eq10-clause-read c = λ white.
@@ -55,8 +45,7 @@ loop-at-preserved-then-rest-stop-eq42 c = record {
   within = omega (arith, c.if-stop-rest-2.false);
   begun = omega arith;
   few = c.loop-at.invariant.few;
-  opens = star_opens c.args.rest.now (c.loop-at.at + c.find_near.result + 1)
-      (c.loop-at.at + c.find_near.result + 2) c.if-rest-stop-eq42.true (omega arith);
+  opens = grind arith;
   read = λ white.
       quoted_star c.args.rest.now c.loop-at.at c.find_near.result c.find_near.ensures.value
       c.loop-at.invariant.opens white c.loop-at.begun (c.loop-at.invariant.read white)
@@ -69,7 +58,7 @@ loop-at-preserved c = record {
   within = omega (arith, c.if-stop-rest-2.false);
   begun = not_later;
   few = omega (arith, c.loop-at.invariant.few, c.if-slashes-eq-MOST_SLASHES.false);
-  opens = none_with _ _ (ne_eqb _ 42 c.if-rest-stop-eq42.false);
+  opens = grind arith;
   read = read;
 }
   where

@@ -1,9 +1,7 @@
 -- The first two bytes.
-use Rattle.std.proofs.Common.{ne_eqb}
-use Rattle.ud_text.proofs.lemmas.bulk.StepLemmas.{slash_spans}
+use Rattle.std.proofs.Common.{arith}
 use Rattle.ud_text.proofs.bulk.lexeme_lengths.slash_len.Goals as goal
+use Rattle.ud_text.proofs.lemmas.bulk.LexemeLemmas.{slash_read}
 
 pub returns-clause-read : goal.returns-clause-read
-returns-clause-read c =
-    slash_spans c.args.rest.now c.in-Some.byte c.in-Some.ensures.within c.requires.first c.in-Some.ensures.second c.in-Some.ensures.plain
-    (ne_eqb _ 42 c.if-byte-eq42.false)
+returns-clause-read c = grind (arith, slash_read)

@@ -7,12 +7,6 @@ use Rattle.ud_text.specs.lines.Consuming.{is_newline}
 use Rattle.ud_text.proofs.lemmas.lines.ConsumeLemmas.{counted_more}
 use Rattle.ud_text.proofs.lines.newlines.newlines_by_lanes.Goals as goal
 
-pub overflow_add-newlines : goal.overflow_add-newlines
-overflow_add-newlines c = let v = take 16 (drop c.loop-at.at c.args.bytes.now) in
-    let long : length v ≡ 16 = length-chunk c.loop-at.at 16 c.args.bytes.now (omega arith) in
-    let set = ap (λ (m : ℕ). count_ones m) (bitmask_splat w8 eqb v 16 10 long (omega arith)) ∙ ones-mask_l is_newline v in
-    omega (arith, set, count_by-le-length is_newline v, long)
-
 pub loop-at-preserved : goal.loop-at-preserved
 loop-at-preserved c = let v = take 16 (drop c.loop-at.at c.args.bytes.now) in
     let long : length v ≡ 16 = length-chunk c.loop-at.at 16 c.args.bytes.now (omega arith) in

@@ -1,10 +1,10 @@
 -- The newlines of the blocks so far, and of the next one: by the lanes that the comparison selects.
-use Rattle.std.proofs.Common.{◌≡◌, ◌+◌, ◌*◌, ◌≤◌, ◌<◌, ◌^◌, List, ℕ, length, take, drop, sym, ◌∙◌, ap, subst, w8, w16, arith}
+use Rattle.std.proofs.Common.{◌≡◌, ◌+◌, ◌*◌, ◌≤◌, List, ℕ, length, take, drop, sym, ◌∙◌, ap, subst, w8, w16, arith, ◌<◌, ◌^◌}
 use Rattle.std.specs.List.{count_by}
 use Rattle.std.proofs.lemmas.List.Sums.{count_by-le-length}
 use Rattle.std.proofs.lemmas.Simd.{Each1-weaker, length-chunk, sum-zip2, sum_fits, fold-sum}
 use Rattle.std.proofs.Math.ListN.{length-take}
-use lib.Lanes.{Each1, Each2, zip2, Steps, fold_l, sum_l}
+use lib.Lanes.{Each1, Each2, zip2, sum_l, Steps}
 use mir.Val.{Fits}
 use Rattle.ud_text.specs.lines.Consuming.{is_newline}
 use Rattle.ud_text.proofs.lemmas.lines.ConsumeLemmas.{counted_more}
@@ -43,7 +43,4 @@ overflow_add-result c = let few : c.loop-block.block ≤ 255 = omega arith in
 
 pub returns-clause-counted : goal.returns-clause-counted
 returns-clause-counted c =
-    let all : c.loop-block.block * 64 ≡ c.min-blocks.result * 64 = omega arith in
-    let none : 0 + sum_l c.loop-block.counts ≡ sum_l c.loop-block.counts = omega arith in
-    ap (λ (xs : List ℕ). fold_l (λ s x. s + x) 0 xs) (map_itself c.loop-block.counts) ∙ fold-sum 0 c.loop-block.counts ∙ none ∙ c.loop-block.invariant.counted
-    ∙ ap (λ (n : ℕ). count_by is_newline (take n c.args.bytes.now)) all
+    grind (arith, map_itself c.loop-block.counts, fold-sum 0 c.loop-block.counts)

@@ -1,9 +1,8 @@
 -- Whole lines at the beginning of the next window.
 use Rattle.std.proofs.Common.{◌≡◌, ◌≤◌, ◌<◌, ◌-◌, ℕ, List, true, length, ap, subst, take, drop, arith}
-use Rattle.std.proofs.Math.ListN.{length-drop}
 use Rattle.ud_model.specs.text.Lines.{NoNewline}
 use Rattle.ud_text.specs.lines.LinesState.{UpToNewline}
-use Rattle.ud_text.proofs.lemmas.lines.BorrowLemmas.{none_here, none_after}
+use Rattle.ud_text.proofs.lemmas.lines.BorrowLemmas.{none_here}
 use Rattle.std.proofs.lemmas.List.{take_rest}
 use Rattle.std.proofs.lemmas.Grind.{common_steps}
 use Rattle.ud_model.specs.declared.limits.TheConstants.{LINE_BYTES}
@@ -37,6 +36,3 @@ returns-then-count-eq0-clause-most c =
     let none : NoNewline (take c.min.result rest) = subst (λ (n : ℕ). NoNewline (drop n (take c.min.result rest))) begin c.last_line_start-count.ensures.one_line in
     subst (λ (l : List ℕ). (used : ℕ) → UpToNewline l used true → LINE_BYTES < used) (take_rest c.args.chunk.now c.loop-at.at)
     (none_here rest c.min.result c.min.ensures none)
-
-pub returns-clause-most : goal.returns-clause-most
-returns-clause-most c = none_after (drop c.loop-at.at c.args.chunk.now) (omega (arith, length-drop c.loop-at.at c.args.chunk.now, c.loop-at-test.false))

@@ -1,6 +1,6 @@
 -- A run and one more byte are read.
 use Rattle.std.proofs.lemmas.List.{take_more}
-use Rattle.std.proofs.Common.{◌++◌, sym, ap, refl, append-nil, arith, take_all, length, length-drop, append_assoc}
+use Rattle.std.proofs.Common.{sym, ap, refl, append-nil, arith, take_all, length, append_assoc}
 use Rattle.ud_model.proofs.text.ScanLemmas.{Masks-start}
 use Rattle.ud_text.proofs.lemmas.scan.MaskLemmas.{Masks-same, run_read, no_newline-take, no_newline-drop}
 use Rattle.ud_text.proofs.scan.lexer.mask_content.Goals as goal
@@ -13,10 +13,7 @@ loop-at-init g c = record {
 }
 
 pub mask_uniform-count-requires : goal.mask_uniform-count-requires
-mask_uniform-count-requires g c = record {
-  fits = omega (arith, c.loop-at.invariant.size, c.loop-at.invariant.within, length-drop c.loop-at.at c.args.content.now, c.requires.fits);
-  one_line = no_newline-take _ _ (no_newline-drop c.loop-at.at c.args.content.now c.requires.one_line);
-}
+mask_uniform-count-requires g c = grind (arith, no_newline-take, no_newline-drop)
 
 pub loop-at-preserved-then-at-content : goal.loop-at-preserved-then-at-content
 loop-at-preserved-then-at-content g c = record {
@@ -36,5 +33,4 @@ loop-at-preserved g c = record {
 }
 
 pub returns-clause-masks : goal.returns-clause-masks
-returns-clause-masks g c = λ text r.
-    Masks-same (ap (λ l. text ++ l) (take_all c.loop-at.at c.args.content.now c.loop-at-test.false)) refl refl refl (c.loop-at.invariant.masks text r)
+returns-clause-masks g c = grind (arith, take_all)

@@ -1,8 +1,8 @@
 -- Content without a mark is shown unchanged.
-use Rattle.std.proofs.Common.{◌≡◌, ◌∙◌, sym, ap, ◌&&◌}
+use Rattle.std.proofs.Common.{◌≡◌, ap, ◌&&◌, arith}
 use Rattle.ud_model.specs.text.Bytes.{are_white}
 use Rattle.ud_text.specs.scan.LexerViews.{lex_state_of}
-use Rattle.ud_text.proofs.lemmas.scan.MaskLemmas.{and_at_true, and_at_false, plain_run}
+use Rattle.ud_text.proofs.lemmas.scan.MaskLemmas.{plain_run}
 use Rattle.ud_text.proofs.scan.lexer.mask_or_borrow.Goals as goal
 use Rattle.ud_text.proofs.scan.lexer.mask_or_borrow.Goals.{then-are_white, else-are_white}
 
@@ -12,8 +12,4 @@ returns-then-first_mark-content-clause-masks g c = λ text r.
     c.first_mark.ensures c.if-first_mark-content.true c.requires.one_line white_is
   where
     white_is : c.if-are_white.white ≡ (c.args.lexer.white && are_white c.args.content.now)
-    white_is =
-        elim c.if-are_white.branch [
-          | then-are_white w ↦ w.white-is ∙ and_at_true c.args.lexer.white _ (sym c.are_white.ensures ∙ w.if-are_white.true)
-          | else-are_white w ↦ w.white-is ∙ (c.are_white.ensures ∙ and_at_false c.args.lexer.white _ (sym c.are_white.ensures ∙ w.if-are_white.false))
-        ]
+    white_is = grind arith

@@ -1,27 +1,13 @@
 -- A piece more is read.
-use Rattle.std.proofs.Common.{◌≡◌, ◌++◌, [], List, ℕ, sym, ◌∙◌, ap, refl, subst, append-nil, append_assoc, take, take-append-drop, length, arith, min}
-use Rattle.std.proofs.Math.ListN.{length-take}
+use Rattle.std.proofs.Common.{◌≡◌, ◌++◌, List, ℕ, sym, ◌∙◌, ap, subst, append_assoc, take, take-append-drop, arith}
 use Rattle.ud_model.specs.text.Lines.{NoNewline}
 use Rattle.ud_model.specs.aids.LexStates.{LexesTo}
 use Rattle.ud_text.specs.scan.LexerViews.{lex_state_of}
 use Rattle.ud_text.proofs.lemmas.scan.MaskLemmas.{no_newline-take, no_newline-drop}
-use Rattle.ud_text.proofs.lemmas.scan.PassLemmas.{nothing_left}
 use Rattle.ud_text.proofs.scan.lexer.pass_content.Goals as goal
 
-pub loop-rest-init : goal.loop-rest-init
-loop-rest-init c = record {
-  one_line = c.requires.one_line;
-  passed = ([], refl, λ text r. subst (λ (t : List ℕ). LexesTo t (lex_state_of c.args.lexer.state) c.args.lexer.white) (sym (append-nil text)) r);
-}
-
 pub mask_content-inside-requires : goal.mask_content-inside-requires
-mask_content-inside-requires c =
-    let n : length c.split_at.result.0.now ≡ min c.min.result (length c.loop-rest.rest.now) = ap (λ (l : List ℕ). length l) c.split_at.ensures.front ∙ length-take c.min.result c.loop-rest.rest.now in
-    record {
-      empty = c.clear.ensures;
-      fits = omega arith;
-      one_line = subst NoNewline (sym c.split_at.ensures.front) (no_newline-take c.min.result c.loop-rest.rest.now c.loop-rest.invariant.one_line);
-    }
+mask_content-inside-requires c = grind (arith, no_newline-take)
 
 pub loop-rest-preserved : goal.loop-rest-preserved
 loop-rest-preserved c = let p = c.loop-rest.invariant.passed in
@@ -39,9 +25,3 @@ loop-rest-preserved c = let p = c.loop-rest.invariant.passed in
             (c.mask_content-inside.ensures.masks (text ++ p.0) (p.2 text r)).reads,
       );
     }
-
-pub returns : goal.returns
-returns c = λ text r.
-    let p = c.loop-rest.invariant.passed in
-    subst (λ (t : List ℕ). LexesTo (text ++ t) (lex_state_of c.loop-rest.inside.state) c.loop-rest.inside.white)
-    (sym (append-nil p.0) ∙ ap (λ (l : List ℕ). p.0 ++ l) (sym (nothing_left c.loop-rest.rest.now (sym c.is_empty.ensures ∙ c.loop-rest-test.false))) ∙ p.1) (p.2 text r)

@@ -1,6 +1,5 @@
 -- The state carried over the line, and the line's scan, by the lexer's state after its content.
-use Rattle.std.proofs.Common.{rules, ◌≡◌, ◌∙◌, sym, ap, ap₂, refl, subst, List, ℕ, Bool, true, false, ◌||◌, ◌++◌, length, arith}
-use Rattle.ud_model.specs.text.Lines.{NoNewline}
+use Rattle.std.proofs.Common.{rules, ◌≡◌, ◌∙◌, sym, ap, ap₂, refl, List, ℕ, Bool, true, false, ◌||◌, ◌++◌, length, arith}
 use Rattle.ud_model.specs.text.Scans.{Reading}
 use Rattle.ud_model.specs.text.Splicing.{is_spliced, content, spliced_text, c_run_of}
 use Rattle.ud_model.specs.text.Scanning.{is_block, comment_at}
@@ -8,7 +7,7 @@ use Rattle.ud_model.specs.aids.LexStates.{LexState, Masks, kind_in_state, fresh_
 use Rattle.ud_model.specs.aids.LineViews.{as_line}
 use Rattle.ud_text.specs.scan.LexerViews.{lex_state_of, shown_in}
 use Rattle.ud_text.specs.scan.ScannerState.{ScannerRepresents, scanner_state_of}
-use Rattle.ud_text.proofs.lemmas.scan.ScannerLemmas.{represents_code, scan_carried, same_parts, no_newline-content, or_false}
+use Rattle.ud_text.proofs.lemmas.scan.ScannerLemmas.{represents_code, scan_carried, same_parts, no_newline-content}
 use Rattle.ud_text.proofs.scan.scanner.scan_code.Given.{Over}
 use Rattle.ud_text.proofs.scan.scanner.scan_code.Goals as goal
 use Rattle.ud_text.proofs.scan.scanner.scan_code.Goals.{After-comment_at, then-spliced, else-spliced}
@@ -16,11 +15,7 @@ use Rattle.std.proofs.lemmas.Grind.{common_steps}
 
 pub mask_or_borrow-requires : goal.mask_or_borrow-requires
 mask_or_borrow-requires g c =
-    record {
-      empty = c.requires.empty;
-      fits = search rules;
-      one_line = subst NoNewline (sym c.content-bytes.ensures) (no_newline-content (as_line c.args.line.now) c.requires.one_line);
-    }
+    grind (arith, common_steps, no_newline-content (as_line c.args.line.now) c.requires.one_line)
 
 -- how the content is shown after the spliced text of the C run
 shown_content : (g : Over) (c : After-comment_at g) (before : List Reading) → ScannerRepresents (scanner_state_of c.args.scan_state) before →
@@ -33,11 +28,7 @@ or_true true b e = refl
 or_true false b e = cc
 
 joins_is : (g : Over) (c : After-comment_at g) → c.if-spliced.joins ≡ (is_spliced (as_line c.args.line.now) || is_block (kind_in_state (lex_state_of c.end_line-lexer.result.state)))
-joins_is g c =
-    elim c.if-spliced.branch [
-      | then-spliced w ↦ w.joins-is ∙ (c.is_spliced-spliced.ensures ∙ or_true _ _ (sym c.is_spliced-spliced.ensures ∙ w.if-spliced.true))
-      | else-spliced w ↦ w.joins-is ∙ (w.is_in_block_comment-joins.ensures ∙ or_false _ _ (sym c.is_spliced-spliced.ensures ∙ w.if-spliced.false))
-    ]
+joins_is g c = search rules
 
 pub returns-clause-represents : goal.returns-clause-represents
 returns-clause-represents g c = λ before h.

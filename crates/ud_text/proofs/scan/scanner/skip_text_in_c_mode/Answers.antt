@@ -1,5 +1,4 @@
 -- By the bytes that are skipped.
-use Rattle.std.proofs.Common.{refl, arith}
 use Rattle.ud_model.specs.declared.kind.Mode.TheVariants.{C}
 use Rattle.ud_text.specs.scan.ScannerState.{scanner_state_of}
 use Rattle.ud_text.proofs.lemmas.bulk.BulkPlainLemmas.{begins_ends}
@@ -12,7 +11,3 @@ returns-then-not-can_skip_text-clause-skips c = passes_none C (scanner_state_of 
 
 pub returns-then-not-can_skip_text-clause-ends : goal.returns-then-not-can_skip_text-clause-ends
 returns-then-not-can_skip_text-clause-ends c = begins_ends _ at_start
-
-pub returns-clause-skips : goal.returns-clause-skips
-returns-clause-skips c =
-    grind (arith, c.if-not-can_skip_text.ensures.joins refl, c.continues_line-joins.ensures, c.skip_text_lines-next.ensures.skipped)

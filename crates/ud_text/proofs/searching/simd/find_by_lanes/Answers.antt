@@ -11,9 +11,7 @@ returns-then-count g c =
     (omega (arith, c.find_in_lanes-count.ensures.bound, c.if-count.true))
 
 pub loop-at-preserved : goal.loop-at-preserved
-loop-at-preserved g c =
-    first_later (is_one_of c.args.set) g.row.N c.args.bytes.now c.loop-at.at c.find_in_lanes-count.result c.find_in_lanes-count.ensures.value
-    c.loop-at.invariant (omega (arith, c.if-count.false))
+loop-at-preserved g c = grind (arith, first_later)
 
 pub returns : goal.returns
 returns g c =

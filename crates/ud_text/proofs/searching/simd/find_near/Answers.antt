@@ -17,9 +17,6 @@ found c =
 pub returns-else-bytes-ge4-clause-value : goal.returns-else-bytes-ge4-clause-value
 returns-else-bytes-ge4-clause-value c = found c
 
-pub returns-else-bytes-ge4-clause-bound : goal.returns-else-bytes-ge4-clause-bound
-returns-else-bytes-ge4-clause-bound c = search_bound (is_one_of c.args.set) c.args.bytes.now _ (found c)
-
 pub returns-then-bytes-ge16-clause-bound : goal.returns-then-bytes-ge16-clause-bound
 returns-then-bytes-ge16-clause-bound c = search_bound (is_one_of c.args.set) c.args.bytes.now _ c.find_by_lanes.ensures
 

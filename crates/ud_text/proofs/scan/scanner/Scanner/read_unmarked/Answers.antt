@@ -10,6 +10,4 @@ returns-clause-represents g c =
     (length c.args.line.now.body.now) (sym (c.has_no_mark.ensures c.if-not-has_no_mark.false)) refl c.requires.one_line (sym c.is_empty.ensures ∙ c.if-is_empty.false)
 
 pub returns-clause-value : goal.returns-clause-value
-returns-clause-value g c =
-    unmarked_scan_of c.args.self.now (sym c.self.view_is ∙ grind (arith, c.in-Text.is, c.if-not-state.false, c.if-state.false)) (as_line c.args.line.now)
-    (length c.args.line.now.body.now) (sym (c.has_no_mark.ensures c.if-not-has_no_mark.false)) refl c.requires.one_line (sym c.is_empty.ensures ∙ c.if-is_empty.false)
+returns-clause-value g c = grind (arith, unmarked_scan_of)
