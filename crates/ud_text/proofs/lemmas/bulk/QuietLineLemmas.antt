@@ -246,12 +246,8 @@ quiet_passes w white bytes at ends quiet = let ls : List (List ℕ) = whole_line
 
 -- whole lines that are read without a stop are skipped
 pub passed_quiet : (start : BulkState) (bytes : List ℕ) → AtLine start → IsLineStart bytes → HasNoStop start bytes → Skipped start bytes (bulk_state_after start bytes)
-passed_quiet start bytes at b quiet = grind (
-  arith,
-  begins_ends,
-  quiet_passes,
-  bulk_state_after-append,
-)
+passed_quiet start bytes at b quiet =
+    grind (arith, begins_ends, quiet_passes, bulk_state_after-append)
 
 stands_append : (mode : Mode) (n : ℕ) (before : List Reading) (ls ms : List (List ℕ)) →
     readings_after before (lines_in_mode mode n (ls ++ ms)) ≡ readings_after (readings_after before (lines_in_mode mode n ls)) (lines_in_mode mode (n + length ls) ms)
