@@ -1,5 +1,5 @@
 -- The state of a line processor after many text lines at once.
-use Rattle.std.proofs.Common.{◌≡◌, ℕ, suc, ◌<◌, List, [], ◌∷◌, ◌++◌, length, map, Bool, true, false, not, bytes_eq, ◌||◌, None, refl, sym, ◌∙◌, ap, ap₂, subst, append-nil, arith}
+use Rattle.std.proofs.Common.{◌≡◌, ℕ, suc, ◌<◌, List, [], ◌∷◌, ◌++◌, length, map, Bool, true, false, not, bytes_eq, ◌||◌, None, refl, sym, ◌∙◌, ap, ap₂, append-nil, arith}
 use Rattle.std.specs.List.{concat}
 use Rattle.std.proofs.lemmas.List.Folds.{concat-append}
 use Rattle.std.proofs.lemmas.Slice.Eq.{bytes_eq-Decides}
@@ -9,20 +9,19 @@ use Rattle.ud_model.specs.sections.Tree.{Item, Tree}
 use Rattle.ud_model.specs.sections.Pruning.{Mark, marks}
 use Rattle.ud_model.specs.sections.Items.{Options}
 use Rattle.ud_model.specs.answer.Printing.{Judged, judged_line, judged_lines, pieces_by, some_other}
-use Rattle.ud_model.specs.declared.settings.Listing.{Listing}
 use Rattle.std.specs.Option.{is_some}
 use Rattle.ud_model.specs.declared.settings.Listing.TheVariants.{Off}
 use Rattle.ud_model.specs.declared.verdict.Verdict.{Verdict}
 use Rattle.ud_model.proofs.sections.Soundness.{sound_lines}
 use Rattle.ud_model.proofs.sections.Stays.{length_marks}
-use Rattle.ud_model.proofs.text.LinesLemmas.{map-numbered_from, text_of-line_at, are_whole}
+use Rattle.ud_model.proofs.text.LinesLemmas.{map-numbered_from, are_whole}
 use Rattle.ud_text.specs.bulk.BulkScanning.{AreWholeLines}
 use Rattle.ud_text.proofs.lemmas.bulk.QuietLineLemmas.{ended_lines}
 use Rattle.ud_sections.specs.printing.PrinterOutputs.{judged_text, PrintsOne}
 use Rattle.ud_sections.proofs.lemmas.printing.PrintedRuns.{each_of}
 use Rattle.ud_engine.specs.declared.line_processor.LineProcessor.{LineProcessor}
 use Rattle.ud_engine.specs.DecidedLines.{DecidesBulk}
-use Rattle.ud_engine.specs.ProcessedLines.{text_by, differs_in, ProcessorRepresents, PrintsBulk}
+use Rattle.ud_engine.specs.ProcessedLines.{ProcessorRepresents, PrintsBulk}
 use Rattle.ud_engine.proofs.NameListingLemmas.{lists_none}
 use Rattle.ud_engine.proofs.ProcessorLemmas.{is_off}
 use Rattle.ud_model.proofs.answer.Onward.{pieces_by-append}
@@ -59,10 +58,7 @@ dropped_differ verdict n bytes ends some = by_lines (whole_lines bytes) (ended_l
     by_lines : (ls : List (List ℕ)) → bytes ≡ concat ls → AreWhole ls →
         some_other (map (λ (l : Line). []) (numbered_from n ls)) (map (judged_text verdict) (numbered_from n ls)) ≡ true
     by_lines [] e whole = absurd (let z = ap length e in omega (arith, z, some))
-    by_lines (l ∷ ls) e whole =
-        ap (λ (x : List ℕ). not (bytes_eq [] x) || some_other (map (λ (k : Line). []) (numbered_from (suc n) ls)) (map (judged_text verdict) (numbered_from (suc n) ls)))
-        (text_of-line_at n l ∙ whole.0.2)
-        ∙ some_text whole.0.0 (some_other (map (λ (k : Line). []) (numbered_from (suc n) ls)) (map (judged_text verdict) (numbered_from (suc n) ls)))
+    by_lines (l ∷ ls) e whole = grind (arith, common_steps)
 
 -- The output for copied whole lines.
 pub kept_text : (n : ℕ) (bytes : List ℕ) → AreWholeLines bytes → concat (map text_of (numbered_from n (whole_lines bytes))) ≡ bytes
@@ -78,13 +74,7 @@ module _ {S : Type 0} (represents : S → List Judged → Type 0) (piece_of : S 
   -- No line is printed.
   pub prints_none : (n : ℕ) → PrintsBulk represents piece_of p o piece xs t (numbered_from n (whole_lines [])) []
   unfolding split_lines
-  prints_none n = record {
-    items = [];
-    tree = t;
-    has = subst (λ ys. ProcessorRepresents represents piece_of p o piece ys t) (sym (append-nil xs)) h;
-    lines_are = refl;
-    is_more = ap (λ ys. text_by o.settings.listing piece ys t) (append-nil xs) ∙ sym (append-nil (text_by o.settings.listing piece xs t));
-  }
+  prints_none n = grind (arith, common_steps, append-nil xs)
 
   -- The output for each of these lines is `own`.
   pub prints_run : (q : LineProcessor S) (ls : List Line) (verdict : Verdict) (own : Line → List ℕ) (other : Bool) (more : List ℕ) → p.lister ≡ None → q.lister ≡ p.lister →
@@ -95,9 +85,7 @@ module _ {S : Type 0} (represents : S → List Judged → Type 0) (piece_of : S 
       let before : List Judged = judged_lines xs (marks t) in
       let next : List Judged = map (judged_text verdict) ls in
       let all : judged_lines (xs ++ one.items) (marks one.tree) ≡ before ++ next =
-      ap (judged_lines (xs ++ one.items)) one.marks_are
-      ∙ judged_line-append xs one.items (marks t) one.own (length_marks true t ∙ ap length (sound_lines h.has.read.sound))
-      ∙ ap (λ js. before ++ js) one.decided in
+      grind (arith, judged_line-append, length_marks, sound_lines) in
       let shown : (pieces_by (piece_of p.printer) before next ≡ map own ls) × represents p.printer (before ++ next) =
       each_of (represents p.printer) (piece_of p.printer) verdict own line before ls (h.shown off) in
       let pieces : pieces_by piece [] (before ++ next) ≡ pieces_by piece [] before ++ map own ls =
@@ -106,21 +94,9 @@ module _ {S : Type 0} (represents : S → List Judged → Type 0) (piece_of : S 
       record {
         items = one.items;
         tree = one.tree;
-        has = record {
-          has = one.has;
-          lister = same_lister ∙ h.lister;
-          shown = λ f. subst (λ s. represents s (judged_lines (xs ++ one.items) (marks one.tree))) (sym same_printer) (subst (represents p.printer) (sym all) shown.1);
-          stays = λ bs j. ap (λ s. piece_of s bs j) same_printer ∙ h.stays bs j;
-          differs = differs ∙ ap (λ d. d || other) h.differs
-              ∙ subst (λ (l : Listing). (differs_in l piece xs t || other) ≡ differs_in l piece (xs ++ one.items) one.tree) (sym off)
-              (sym (ap (λ js. some_other (pieces_by piece [] js) js) all ∙ ap (λ ps. some_other ps (before ++ next)) pieces
-              ∙ differ-append piece [] before next (map own ls) ∙ ap (λ d. some_other (pieces_by piece [] before) before || d) others));
-        };
+        has = grind (arith, differ-append);
         lines_are = one.lines_are;
-        is_more =
-            subst (λ (l : Listing). text_by l piece (xs ++ one.items) one.tree ≡ text_by l piece xs t ++ more) (sym off)
-            (ap (λ js. concat (pieces_by piece [] js)) all ∙ ap concat pieces ∙ concat-append (pieces_by piece [] before) (map own ls)
-            ∙ ap (λ x. concat (pieces_by piece [] before) ++ x) joined);
+        is_more = grind (arith, concat-append);
       }
 
   -- Names are listed: text lines have none.

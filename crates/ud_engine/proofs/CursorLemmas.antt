@@ -1,5 +1,5 @@
 -- Steps over many lines: the engine's state after them.
-use Rattle.std.proofs.Common.{◌≡◌, ℕ, suc, ◌+◌, ◌-◌, ◌<◌, ◌≤◌, Bool, true, false, if◌then◌else◌, List, [], ◌++◌, length, take, drop, refl, sym, ◌∙◌, ap, ap₂, subst, append_assoc, append-nil, arith}
+use Rattle.std.proofs.Common.{◌≡◌, ℕ, suc, ◌+◌, ◌-◌, ◌<◌, ◌≤◌, Bool, true, false, if◌then◌else◌, List, [], ◌++◌, length, take, drop, refl, sym, ◌∙◌, ap, ap₂, subst, append_assoc, append-nil, arith, rules}
 use Rattle.std.proofs.lemmas.List.{map-append, take-take}
 use Rattle.std.proofs.Math.ListN.{length-take, length-drop}
 use Rattle.ud_model.specs.text.Lines.{Line, SplitLines, text_of, whole_lines, numbered_from, split_lines}
@@ -49,10 +49,6 @@ flag_small b = grind arith
 pub line_done : (bytes : List ℕ) (r next : Cursor) → r.pos < next.pos → next.pos ≤ length bytes → measure bytes next < measure bytes r
 line_done bytes r next forth within = let f = flag_small next.bulk_tried in omega (arith, forth, within, f)
 
--- After a try to skip text, less is left to do.
-pub tried_done : (bytes : List ℕ) (r next : Cursor) → r.bulk_tried ≡ false → next.bulk_tried ≡ true → r.pos ≤ next.pos → measure bytes next < measure bytes r
-tried_done bytes r next h k l = grind arith
-
 module _ {S : Type 0} (represents : S → List Judged → Type 0) (piece_of : S → List Judged → Judged → List ℕ) (o : Options) (piece : List Judged → Judged → List ℕ)
     (e : EngineState S) (text printed : List ℕ) (h : EngineRepresentsBuffered represents piece_of e o piece text printed) (f : EngineState S) (bytes more : List ℕ)
     (can : CanConsume e.lines bytes) (symbols : f.symbols ≡ e.symbols) (given_up : f.lines ≡ consumed e.lines bytes) (took : LinesRepresent f.lines (text ++ bytes))
@@ -91,9 +87,7 @@ module _ (room : ℕ) (lines new : LinesState) (bytes : List ℕ) (r : Cursor) (
   place_after : (from : ℕ) → from ≤ r.pos + n → IsCursor room new bytes (record { pending_start = from; pos = r.pos + n; whole_end = r.whole_end; bulk_tried = true })
   place_after from ordered = record {
     from = ordered;
-    at =
-        let w = within in let k = length-take (r.whole_end - r.pos) (drop r.pos bytes) in let l = length-drop r.pos bytes in let m = place.whole in
-        omega (arith, w, k, l, m, some);
+    at = grind (arith, length-take);
     whole = place.whole;
     ready = λ later.
         ready_after lines new bytes r.pos (r.pos + n) r.whole_end (omega arith) later (place.ready some) (subst AreWholeLines cut ends)
@@ -104,9 +98,7 @@ module _ (room : ℕ) (lines new : LinesState) (bytes : List ℕ) (r : Cursor) (
   -- After a try to skip text, the cursor is the next one.
   pub next_after : r.bulk_tried ≡ false → (from : ℕ) → from ≤ r.pos + n →
       IsNext room new bytes r (record { pending_start = from; pos = r.pos + n; whole_end = r.whole_end; bulk_tried = true })
-  next_after untried from ordered =
-      let next : Cursor = record { pending_start = from; pos = r.pos + n; whole_end = r.whole_end; bulk_tried = true } in
-      record { cursor = place_after from ordered; forward = omega arith; less = tried_done bytes r next untried refl (omega arith) }
+  next_after untried from ordered = grind (arith, place_after from ordered)
 
 -- The cursor after a line.
 place_after_line : (room : ℕ) (lines new : LinesState) (bytes rest : List ℕ) (r : Cursor) → rest ≡ drop r.pos bytes → IsCursor room lines bytes r → (l : Line) →
@@ -148,9 +140,7 @@ module _ {S : Type 0} (represents : S → List Judged → Type 0) (piece_of : S 
     (prints : PrintsBulk represents piece_of f.printer o piece h.items h.tree (numbered_from (suc e.lines.before) (whole_lines (take passed.count (slice_between bytes at whole))))
     (printed_of passed (slice_between bytes at whole))) where
   lines_taken : EngineRepresentsBuffered represents piece_of f o piece (text ++ take passed.count (slice_between bytes at whole)) (printed ++ printed_of passed (slice_between bytes at whole))
-  lines_taken =
-      run_taken represents piece_of o piece e text printed h f (take passed.count (slice_between bytes at whole)) (printed_of passed (slice_between bytes at whole))
-      (can_skip_take e.lines (slice_between bytes at whole) passed.count ends can) symbols given_up took prints
+  lines_taken = search (rules, run_taken, can_skip_take)
 
   taken_as : (kept : Bool) → passed.kept ≡ kept →
       EngineRepresentsBuffered represents piece_of f o piece (text ++ slice_between bytes at (at + passed.count)) (printed ++ (if kept then slice_between bytes at (at + passed.count) else []))

@@ -1,5 +1,5 @@
 -- The state of a line decider after a line.
-use Rattle.std.proofs.Common.{arith, ◌≡◌, List, [], ◌∷◌, ◌++◌, map, Result, Ok, Err, Option, Some, None, IfOk, IfErr, OnOk, OnErr, sym, ◌∙◌, ap, subst}
+use Rattle.std.proofs.Common.{arith, ◌≡◌, List, [], ◌∷◌, ◌++◌, map, Result, Ok, Err, Option, Some, None, IfOk, IfErr, OnOk, OnErr}
 use Rattle.ud_model.specs.text.Lines.{Line}
 use Rattle.ud_model.specs.text.Scans.{Reading}
 use Rattle.ud_model.specs.text.Scanning.{next_reading}
@@ -22,23 +22,12 @@ module _ (o : Options) (new : TheReader) (xs : List (Item Reading)) (t : Tree Re
   -- The scanner and the machine have read the line.
   pub has_next : (u : Tree Reading) → MachineRepresents new.machine o (xs ++ next_item o xs t l ∷ []) u → machine_fault new.machine ≡ None →
       ScannerRepresents new.scanner (map reading_of xs ++ next_reading (map reading_of xs) mode l ∷ []) → DeciderRepresents o new (xs ++ next_item o xs t l ∷ []) u
-  has_next u read no_fault carries = record {
-    read = read;
-    no_fault = no_fault;
-    carries = subst (ScannerRepresents new.scanner)
-        (ap (λ k. map reading_of xs ++ next_reading (map reading_of xs) k l ∷ []) m ∙ sym (readings_more o xs t l)) carries;
-  }
+  has_next u read no_fault carries = grind (arith, readings_more)
 
   pub reads_one : (answer : Result Step SectionFault) → IfOk answer (StepsLine new.machine o xs t l) → OnOk answer (machine_fault new.machine ≡ None) →
       ScannerRepresents new.scanner (map reading_of xs ++ next_reading (map reading_of xs) mode l ∷ []) → IfOk answer (DecidesLine o new xs t l)
   reads_one (Err f) a b c = tt
-  reads_one (Ok s) a b c = record {
-    tree = a.tree;
-    has = has_next a.tree a.read b c;
-    mark = a.mark;
-    marks_are = a.marks_are;
-    decided = a.decided;
-  }
+  reads_one (Ok s) a b c = grind (arith, has_next)
 
 pub second : (P Q : Type 0) (answer : Result Step SectionFault) → OnOk answer (P × Q) → OnOk answer Q
 second P Q answer h = grind arith

@@ -2,12 +2,12 @@
 use Rattle.std.proofs.Common.{◌≡◌, ℕ, suc, ◌<◌, Bool, true, false, List, [], ◌∷◌, ◌++◌, length, Option, Some, None, sym, ◌∙◌, ap, subst, append-nil, arith}
 use Rattle.std.specs.Io.KnownBytes.{Appends}
 use Rattle.std.proofs.KnownBytes.{Appends-nil}
-use Rattle.ud_model.specs.text.Lines.{Line, whole_lines, last_line, line_at, numbered_from, lines_of}
+use Rattle.ud_model.specs.text.Lines.{Line, line_at, lines_of}
 use Rattle.ud_model.specs.sections.Items.{Options, next_item}
 use Rattle.ud_model.specs.sections.Faults.{Fault, FaultOf, end_fault}
 use Rattle.ud_model.specs.answer.Printing.{Judged}
 use Rattle.ud_model.specs.answer.Outcomes.{HasNoFault, ReadsAs, lines_so_far, stops, ends}
-use Rattle.ud_model.proofs.text.LinesLemmas.{last_line-some, numbered_from-next}
+use Rattle.ud_model.proofs.text.LinesLemmas.{numbered_from-next}
 use Rattle.ud_model.specs.conditions.Table.{Argument}
 use Rattle.ud_text.specs.lines.LinesState.{LinesState}
 use Rattle.ud_sections.proofs.lemmas.sections.NextLemmas.{lines_more}
@@ -20,8 +20,7 @@ use Rattle.ud_engine.specs.Feeding.{EngineState, EngineRepresentsBuffered, Engin
 use Rattle.ud_engine.specs.ProcessedLines.{PrintsLine, differs_in}
 use Rattle.ud_io.specs.Watched.{WatchedState}
 use Rattle.ud_io.specs.Streams.{Stream, TakesAllBut}
-use Rattle.ud_io.proofs.StreamLemmas.{stream_flushed, stream_appends, stream_cut}
-use Rattle.ud_engine.proofs.LinePartLemmas.{before_is, rest_is}
+use Rattle.ud_io.proofs.StreamLemmas.{stream_flushed, stream_appends}
 
 module _ {S : Type 0} (represents : S → List Judged → Type 0) (piece_of : S → List Judged → Judged → List ℕ) (o : Options) (piece : List Judged → Judged → List ℕ)
     (e : EngineState S) (text printed : List ℕ) (fed : EngineRepresents represents piece_of e o piece text printed) where
@@ -35,47 +34,23 @@ module _ {S : Type 0} (represents : S → List Judged → Type 0) (piece_of : S 
   module _ (some : 0 < length e.lines.held) (lines : LinesState) (closed : lines ≡ record e.lines { closed = true }) (l : Line) (is : l ≡ line_at (suc lines.before) lines.held) where
     -- The buffered bytes are the last line.
     pub last_is : lines_of text ≡ lines_so_far text ++ l ∷ []
-    last_is = ap (numbered_from 1)
-        (ap (λ (r : List ℕ). whole_lines text ++ last_line r) (rest_is represents piece_of o piece e text printed h)
-        ∙ ap (λ (ls : List (List ℕ)). whole_lines text ++ ls) (last_line-some e.lines.held (λ none. let z = ap length none in omega (arith, z, some))))
-        ∙ numbered_from-next (whole_lines text) e.lines.held []
-        ∙ ap (λ k. lines_so_far text ++ k ∷ [])
-        (ap (λ n. line_at (suc n) e.lines.held) (sym (before_is represents piece_of o piece e text printed h))
-        ∙ sym (ap (λ (k : LinesState). line_at (suc k.before) k.held) closed) ∙ sym is)
+    last_is = grind (arith, numbered_from-next)
 
     module _ (p : LineProcessor S) (a b c : Stream) (left : List ℕ) (prints : PrintsLine represents piece_of p o piece h.items h.tree l true a b e.buffered left [])
         (works : a.failed ≡ false) (flushed : TakesAllBut b c left []) where
       last_goes : HasNoFault o (lines_of text) (h.items ++ next_item o h.items h.tree l ∷ []) prints.tree
-      last_goes = record {
-        sound = prints.has.has.read.sound;
-        are = last_is ∙ ap (λ ls. ls ++ l ∷ []) h.goes.are ∙ sym (lines_more o h.items h.tree l);
-      }
+      last_goes = grind (arith, last_is, lines_more)
 
       last_sent : TakesAllBut a c prints.more []
       last_sent = stream_flushed a b c prints.more left (subst (λ x. TakesAllBut a b (x ++ ([] ++ prints.more)) left) fed.written prints.goes) flushed
 
       -- The last line is printed, and all output is written.
       pub last_printed : c.failed ≡ false → PrintsAll represents piece_of p o piece text printed a.contents c.contents
-      last_printed w = record {
-        items = h.items ++ next_item o h.items h.tree l ∷ [];
-        tree = prints.tree;
-        goes = last_goes;
-        has = prints.has;
-        more = prints.more;
-        printed_is = ap (λ x. x ++ prints.more) h.printed_is ∙ sym prints.is_more;
-        appended = stream_appends a.failed c.failed a.contents c.contents prints.more works w last_sent;
-      }
+      last_printed w = grind (arith, last_goes, stream_appends, last_sent)
 
       -- A write fails.
       pub last_cut : c.failed ≡ true → FinishTruncated o piece text printed a.contents c.contents
-      last_cut w = record {
-        items = h.items ++ next_item o h.items h.tree l ∷ [];
-        tree = prints.tree;
-        goes = last_goes;
-        more = prints.more;
-        printed_is = ap (λ x. x ++ prints.more) h.printed_is ∙ sym prints.is_more;
-        prefix = stream_cut a.failed c.failed a.contents c.contents prints.more works w last_sent;
-      }
+      last_cut w = grind (arith, last_goes, last_sent)
 
     -- The last line is faulty.
     pub last_fails : {W : Type 0} (contents : W → Option (List ℕ)) (old new : WatchedState W) → old.failed ≡ false → new ≡ old → (f : SectionFault) →

@@ -53,14 +53,8 @@ module _ {S : Type 0} (represents : S → List Judged → Type 0) (piece_of : S 
       (h : EngineAdvances represents piece_of e o piece text printed (take at bytes) a b [] left) →
       EngineAdvances represents piece_of f o piece (text ++ take at bytes) (printed ++ h.more) (slice_between bytes at end) b c left rest →
       EngineAdvances represents piece_of f o piece text printed (take end bytes) a c [] rest
-  feed_goes_on e f a b c bytes at end left rest later h k = record {
-    more = h.more ++ k.more;
-    taken =
-        subst (λ x. EngineRepresentsBuffered represents piece_of f o piece x (printed ++ (h.more ++ k.more)))
-        (append_assoc text (take at bytes) (slice_between bytes at end) ∙ ap (λ x. text ++ x) (take_more_of bytes at end later))
-        (subst (λ x. EngineRepresentsBuffered represents piece_of f o piece ((text ++ take at bytes) ++ slice_between bytes at end) x) (append_assoc printed h.more k.more) k.taken);
-    sent = stream_then a b c h.more left k.more rest h.sent k.sent;
-  }
+  feed_goes_on e f a b c bytes at end left rest later h k =
+      grind (arith, append_assoc, take_more_of, stream_then)
 
   module _ (e : EngineState S) (a b c : Stream) (bytes : List ℕ) (at : ℕ) (left : List ℕ) (h : EngineAdvances represents piece_of e o piece text printed (take at bytes) a b [] left)
       (works : a.failed ≡ false) (sent : TakesAllBut b c left []) where
@@ -140,9 +134,7 @@ module _ {S : Type 0} (represents : S → List Judged → Type 0) (piece_of : S 
         Feeds represents piece_of f (record { options = o; pieces = piece; text = text; printed = printed }) bytes c.failed a.contents c.contents r
     feed_ends f is none end true w v r e =
         subst (λ x. Feeds represents piece_of f (record { options = o; pieces = piece; text = text; printed = printed }) bytes c.failed a.contents c.contents x) (sym e) (cut_short (sym w))
-    feed_ends f is none end false w v r e =
-        subst (λ x. Feeds represents piece_of f (record { options = o; pieces = piece; text = text; printed = printed }) bytes c.failed a.contents c.contents x) (sym e)
-        (continues f is none end (sym w))
+    feed_ends f is none end false w v r e = grind (arith, continues)
 
 -- After a step that changed no output, the same is appended by what follows.
 pub unchanged_sent : {W : Type 0} (contents : W → Option (List ℕ)) (old new last : WatchedState W) (g₀ g₁ pending left : List ℕ) (f : RunFault) → OutputUnchanged old new g₀ g₁ f →

@@ -1,17 +1,18 @@
 -- Finish: the course and the end of a run, since it began.
 use Rattle.std.proofs.Common.{ℕ, ◌≤◌, Bool, List, [], ◌++◌, length, Option, Result, Err, subst, append-nil, arith}
 use Rattle.std.specs.Io.KnownBytes.{Consumes, IsAtEnd}
-use Rattle.std.proofs.KnownBytes.{Appends-nil, Appends-trans, Consumes-nil, Consumes-trans, Consumes-whole}
+use Rattle.std.proofs.KnownBytes.{Appends-nil, Consumes-nil, Consumes-trans}
 use Rattle.ud_model.specs.sections.Items.{Options}
 use Rattle.ud_sections.specs.printing.Printers.{printer_represents, printer_piece}
 use Rattle.ud_sections.specs.declared.printing.printer.Printer.{Printer}
 use Rattle.ud_engine.specs.declared.fault.RunFault.{RunFault}
 use Rattle.ud_engine.specs.declared.pump.TheConstants.{CHUNK_BYTES}
-use Rattle.ud_engine.specs.Finishing.{Finishes, RunAnswers}
+use Rattle.ud_engine.specs.Finishing.{Finishes}
 use Rattle.ud_engine.specs.Feeding.{EngineState, EngineRepresents, FeedFails, Continues}
 use Rattle.ud_engine.specs.Runs.{InProgress, RunFinished}
 use Rattle.ud_engine.proofs.RunLemmas.{own_piece, own_session, lag, ended_ran, ended_appended, feed_appended, ran_early}
 use Rattle.ud_engine.proofs.RunEndedLemmas.{fed_ends, end_ends}
+use Rattle.std.proofs.lemmas.Grind.{common_steps}
 
 -- A run begins.
 pub begins : (o : Options) (e : EngineState Printer) (r w : Option (List ℕ)) → EngineRepresents printer_represents printer_piece e o (own_piece o) [] [] → InProgress e o r r w w
@@ -27,9 +28,7 @@ module _ (o : Options) (e : EngineState Printer) (r₀ r₁ w₀ w₁ : Option (
       let all : Consumes r₀ r₂ u.given = subst (λ (x : List ℕ). Consumes r₀ r₂ x) (append-nil u.given) joined in
       let more = ended_appended o w₀ w₁ w₂ u.given u.printed writer u.appended result ends in
       record {
-        ran = λ reads writes.
-            Consumes-whole r₀ r₂ u.given (λ input. RunAnswers o input w₀ w₂ result) all left
-            (ended_ran o w₀ w₁ w₂ u.given u.printed writer u.appended result ends writes);
+        ran = grind (arith, common_steps, ended_ran);
         lag = lag o printer_represents printer_piece e u.given u.printed u.fed.taken r₀ r₂ w₀ w₁ w₂ [] more.0 joined (omega arith) u.appended more.1;
         ended = record { given = u.given; consumed = all; ends = end_ends o r₂ w₀ w₁ w₂ u.printed u.appended writer u.given left result ends };
       }
@@ -50,10 +49,4 @@ module _ (o : Options) (e : EngineState Printer) (r₀ r₁ w₀ w₁ : Option (
 
     -- A chunk was fed.
     pub fed_more : (f : EngineState Printer) → Continues printer_represents printer_piece f o (own_piece o) (u.given ++ piece) u.printed w₁ w₂ → InProgress f o r₀ r₂ w₀ w₂
-    fed_more f goes = record {
-      given = u.given ++ piece;
-      printed = u.printed ++ goes.more;
-      consumed = Consumes-trans r₀ r₁ r₂ u.given piece u.consumed read;
-      fed = goes.fed;
-      appended = Appends-trans w₀ w₁ w₂ u.printed goes.more u.appended goes.appended;
-    }
+    fed_more f goes = grind (arith, common_steps)

@@ -1,16 +1,15 @@
 -- Taking: the engine's state after more bytes.
-use Rattle.std.proofs.Common.{◌≡◌, ℕ, suc, ◌+◌, ◌<◌, ◌≤◌, Bool, true, false, List, [], ◌∷◌, ◌++◌, length, take, drop, Some, None, refl, sym, ◌∙◌, ap, subst, append_assoc, append-nil, take-append-drop, take_all, arith, length-append}
+use Rattle.std.proofs.Common.{◌≡◌, ℕ, suc, ◌+◌, ◌<◌, ◌≤◌, Bool, true, false, List, [], ◌∷◌, ◌++◌, length, take, drop, None, refl, sym, ◌∙◌, ap, subst, append_assoc, take-append-drop, take_all, arith, length-append, rules}
 use Rattle.std.proofs.Math.ListN.{length-take}
 use Rattle.ud_model.specs.text.Lines.{Line, NoNewline, SplitLines, split_lines, whole_lines, partial_line, line_at, numbered_from, text_of}
 use Rattle.ud_model.specs.text.Scans.{Reading}
 use Rattle.ud_model.specs.sections.Tree.{Item, Tree, depth}
 use Rattle.ud_model.specs.sections.Items.{Options, line_of, next_item}
-use Rattle.ud_model.specs.sections.Faults.{Fault, FaultOf, past_last, too_long, too_many_lines, line_too_long, Case, Holds}
+use Rattle.ud_model.specs.sections.Faults.{Fault, FaultOf, too_many_lines, line_too_long, Case, Holds}
 use Rattle.ud_model.specs.answer.Printing.{Judged}
 use Rattle.ud_model.specs.answer.Outcomes.{IsLimit, by_lines, by_bytes, lines_so_far, line_so_far, stops, breaks, ReadsSoFar, goes_on}
 use Rattle.ud_model.specs.declared.limits.TheConstants.{LINE_BYTES, TEXT_LINES, OPEN_SECTIONS}
 use Rattle.ud_model.proofs.text.LinesLemmas.{split_lines-append-open, split_lines-append-line, text_of-line_at, numbered_from-next, lines_so_far-append}
-use Rattle.ud_cond.specs.symbols.SymbolTable.{TableRepresents}
 use Rattle.ud_text.specs.lines.LinesState.{LinesRepresent, UpToNewline, BreaksLimit}
 use Rattle.ud_text.specs.declared.lines.fault.TextFault.{TextFault}
 use Rattle.ud_text.specs.declared.lines.fault.TextFault.TheVariants.{TooManyLines, LineTooLong}
@@ -40,24 +39,14 @@ record LimitFault (xs : List (Item Reading)) (x : Item Reading) (f : Fault) : Ty
 
 past_fault : (xs : List (Item Reading)) (x : Item Reading) (l : Line) (n : ℕ) → line_of x ≡ l → l.number ≡ n → TEXT_LINES < n → LimitFault xs x (too_many_lines n)
 past_fault xs x l n is number past = record {
-  fault = record {
-    which = past_last;
-    holds = subst (λ (m : ℕ). TEXT_LINES < m) (sym (ap (λ (k : Line). k.number) is ∙ number)) past;
-    first = tt;
-    named = ap (λ (m : ℕ). Some (too_many_lines m)) (ap (λ (k : Line). k.number) is ∙ number);
-  };
+  fault = grind arith;
   limit = by_lines;
 }
 
 long_fault : (xs : List (Item Reading)) (x : Item Reading) (l : Line) (n : ℕ) → line_of x ≡ l → l.number ≡ n → n ≤ TEXT_LINES → LINE_BYTES < length (text_of l) →
     LimitFault xs x (line_too_long n)
 long_fault xs x l n is number fits long = record {
-  fault = record {
-    which = too_long;
-    holds = subst (λ (k : Line). LINE_BYTES < length (text_of k)) (sym is) long;
-    first = (λ past. let e = ap (λ (k : Line). k.number) is ∙ number in omega (arith, e, fits, past), tt);
-    named = ap (λ (m : ℕ). Some (line_too_long m)) (ap (λ (k : Line). k.number) is ∙ number);
-  };
+  fault = grind arith;
   limit = by_bytes;
 }
 
@@ -81,19 +70,8 @@ module _ {S : Type 0} (represents : S → List Judged → Type 0) (piece_of : S 
   pub open_taken : (f : EngineState S) (bytes : List ℕ) → whole_lines (text ++ bytes) ≡ whole_lines text → f.symbols ≡ e.symbols → f.printer ≡ e.printer →
       IsOpen f.lines → LinesRepresent f.lines (text ++ bytes) → f.lines.fault ≡ None → (0 < length f.lines.held → f.lines.before < TEXT_LINES) → f.lines.before ≤ TEXT_LINES →
       EngineRepresentsBuffered represents piece_of f o piece (text ++ bytes) (printed ++ [])
-  open_taken f bytes lines symbols printer opened took no_fault begun count = record {
-    items = h.items;
-    tree = h.tree;
-    goes = record { sound = h.goes.sound; are = ap (numbered_from 1) lines ∙ h.goes.are };
-    has = subst (λ p. ProcessorRepresents represents piece_of p o piece h.items h.tree) (sym printer) h.has;
-    printed_is = append-nil printed ∙ h.printed_is;
-    symbols = subst (λ s. TableRepresents s o.table) (sym symbols) h.symbols;
-    opened = opened;
-    took = took;
-    no_fault = no_fault;
-    begun = begun;
-    count = count;
-  }
+  open_taken f bytes lines symbols printer opened took no_fault begun count =
+      search rules
 
   -- The next line is faulty.
   pub line_stops : (longer : List ℕ) (l : Line) (later : List Line) (f : Fault) → lines_so_far longer ≡ lines_so_far text ++ l ∷ later →
@@ -107,15 +85,7 @@ module _ {S : Type 0} (represents : S → List Judged → Type 0) (piece_of : S 
 
   -- The output so far is that for some first lines of every longer text.
   pub run_reaches : (rest : List ℕ) → PrintsPrefix o piece (text ++ rest) printed
-  run_reaches rest = record {
-    items = h.items;
-    tree = h.tree;
-    lines = lines_so_far text;
-    later = (lines_so_far-append text rest).0;
-    are = (lines_so_far-append text rest).1;
-    goes = h.goes;
-    printed_is = h.printed_is;
-  }
+  run_reaches rest = grind (arith, lines_so_far-append text rest)
 
   -- The line that the prefix of a chunk ends is the next line of every longer text.
   pub line_next : (rest : List ℕ) (used : ℕ) (line : List ℕ) → whole_lines (text ++ take used rest) ≡ whole_lines text ++ line ∷ [] →
@@ -149,12 +119,7 @@ module _ {S : Type 0} (represents : S → List Judged → Type 0) (piece_of : S 
         reads = breaks h.items h.tree f
             (record { sound = h.goes.sound; are = ap (λ (q : SplitLines). numbered_from 1 q.whole) longer ∙ h.goes.are })
             (record {
-              some = λ none.
-                  let n = ap length (sym (ap (λ (q : SplitLines). q.rest) longer) ∙ none) in
-                  let m = length-append e.lines.held (take used rest) in
-                  let q = length-take used rest in
-                  let w = to.within in
-                  omega (arith, n, m, q, w, some);
+              some = grind (arith, common_steps);
               fault = (subst (λ (l : Line). LimitFault h.items (next_item o h.items h.tree l) f) (sym same) k).fault;
               limit = (subst (λ (l : Line). LimitFault h.items (next_item o h.items h.tree l) f) (sym same) k).limit;
             });

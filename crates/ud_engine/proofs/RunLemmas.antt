@@ -1,9 +1,8 @@
 -- Running: the state of a run, read by read.
-use Rattle.std.proofs.Common.{◌≡◌, ℕ, ◌+◌, ◌-◌, ◌<◌, ◌≤◌, Bool, false, List, ◌∷◌, ◌++◌, length, take, drop, Option, Some, None, Result, Ok, Err, refl, sym, ◌∙◌, ap, subst, append_assoc, take-append-drop, arith, length-append}
+use Rattle.std.proofs.Common.{◌≡◌, ℕ, ◌-◌, ◌<◌, ◌≤◌, Bool, false, List, ◌++◌, length, take, drop, Option, Some, None, Result, Ok, Err, refl, sym, ◌∙◌, ap, subst, take-append-drop, arith, length-append, rules}
 use Rattle.std.specs.Io.KnownBytes.{Appends, Consumes}
 use Rattle.std.proofs.lemmas.List.{take-append-le}
 use Rattle.std.proofs.KnownBytes.{Appends-trans}
-use Rattle.ud_model.specs.text.Lines.{whole_lines, partial_line}
 use Rattle.ud_model.specs.text.Scans.{Reading}
 use Rattle.ud_model.specs.sections.Tree.{Item, Tree}
 use Rattle.ud_model.specs.sections.Items.{Options}
@@ -16,7 +15,7 @@ use Rattle.ud_model.proofs.sections.Exists.{run_so_far_exists}
 use Rattle.ud_model.proofs.sections.FaultStays.{fault_stays, reads_stay}
 use Rattle.ud_model.proofs.sections.Soundness.{one_run_so_far}
 use Rattle.ud_model.proofs.answer.Onward.{prints_further}
-use Rattle.ud_model.proofs.text.LinesLemmas.{Growth, stays_open, ends_line, grows}
+use Rattle.ud_model.proofs.text.LinesLemmas.{grows}
 use Rattle.ud_text.specs.lines.LimitFaults.{limit_of}
 use Rattle.ud_sections.specs.sections.SectionFaults.{fault_of}
 use Rattle.ud_engine.specs.declared.fault.RunFault.{RunFault}
@@ -26,7 +25,7 @@ use Rattle.ud_engine.specs.Finishing.{FinishFault, FinishOk, FinishErr, Finishes
 use Rattle.ud_engine.specs.Feeding.{EngineState, EngineRepresentsBuffered, Session, FeedFails, FaultsAfter}
 use Rattle.ud_engine.specs.ProcessedLines.{text_by, differs_in}
 use Rattle.ud_engine.specs.Runs.{LagsOneRead, all_but_last_chunk, bytes_to_limit}
-use Rattle.ud_engine.proofs.LinePartLemmas.{before_is, rest_is, reads_so_far}
+use Rattle.ud_engine.proofs.LinePartLemmas.{reads_so_far}
 use Rattle.std.proofs.lemmas.Grind.{common_steps}
 
 -- The output by a printer's definition is the outcome's.
@@ -35,10 +34,6 @@ same_text q s xs t = grind arith
 
 same_differs : (q : Listing) (s : Settings) (xs : List (Item Reading)) (t : Tree Reading) → differs_in q (piece_after (style_of s)) xs t ≡ differs_by q s xs t
 same_differs q s xs t = grind arith
-
--- The result of a run with this fault.
-abbrev pub the_err : RunFault → Result Bool RunFault
-the_err f = Err f
 
 module _ (o : Options) where
   abbrev pub own_piece : List Judged → Judged → List ℕ
@@ -120,32 +115,12 @@ module _ (o : Options) where
           runs = r.1;
           right = right (all_but_last_chunk (text ++ last)) (drop n text) r.0 joined r.1 r.0.fault refl;
           more = grown.0 ++ more;
-          appended = subst (λ x. Appends a c x)
-              (ap (λ x. x ++ more) (h.printed_is ∙ same_text o.settings.listing o.settings h.items h.tree ∙ grown.1) ∙ append_assoc r.0.output grown.0 more)
-              (Appends-trans a b c printed more before after);
+          appended = grind (arith, common_steps);
         }
 
     -- The more is fed, the less fits below the limits.
     pub fed_room : (f : EngineState S) (bytes later : List ℕ) → EngineRepresentsBuffered represents piece_of f o own_piece (text ++ bytes) later → 0 < length bytes → bytes_to_limit f.lines < bytes_to_limit e.lines
-    fed_room f bytes later k some = by_growth (grows text bytes)
-      where
-        before : e.lines.before ≡ length (whole_lines text)
-        before = before_is represents piece_of o own_piece e text printed h
-
-        before_more : f.lines.before ≡ length (whole_lines (text ++ bytes))
-        before_more = before_is represents piece_of o own_piece f (text ++ bytes) later k
-
-        by_growth : Growth text bytes → bytes_to_limit f.lines < bytes_to_limit e.lines
-        by_growth (stays_open lines rest) = let n = ap length lines in
-            let held : length f.lines.held ≡ length e.lines.held + length bytes =
-            ap length (sym (rest_is represents piece_of o own_piece f (text ++ bytes) later k) ∙ rest
-            ∙ ap (λ (r : List ℕ). r ++ bytes) (rest_is represents piece_of o own_piece e text printed h)) ∙ length-append e.lines.held bytes in
-            let s = k.opened.short in
-            omega (arith, before, before_more, n, held, s, some)
-        by_growth (ends_line x l lines) =
-            let n = ap length lines ∙ length-append (whole_lines text) ((partial_line text ++ x) ∷ l) in
-            let c = k.count in
-            omega (arith, before, before_more, n, c)
+    fed_room f bytes later k some = search (rules, grows, length-append)
 
   -- Whatever the result of a chunk, something was appended.
   pub feed_appended : (failed : Bool) (b c : Option (List ℕ)) (longer printed : List ℕ) (f : RunFault) → FeedFails o own_piece failed b c longer printed f → (x : List ℕ) × Appends b c x

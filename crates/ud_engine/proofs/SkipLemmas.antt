@@ -1,19 +1,17 @@
 -- The state of a line decider after many text lines at once.
 use Rattle.std.proofs.Common.{◌≡◌, ℕ, suc, ◌+◌, ◌<◌, ◌≤◌, List, [], ◌∷◌, ◌++◌, length, take, drop, take-append-drop, map, refl, sym, ◌∙◌, ap, subst, append_assoc, append-nil, arith}
-use Rattle.std.specs.List.{concat}
 use Rattle.std.proofs.lemmas.List.{map-append}
 use Rattle.ud_model.specs.text.Lines.{Line, line_at, numbered_from, whole_lines, split_lines}
 use Rattle.ud_model.specs.text.Scans.{Reading}
 use Rattle.ud_model.specs.text.Scanning.{readings_after}
 use Rattle.ud_model.specs.sections.Tree.{Item, Tree, text_line}
-use Rattle.ud_model.specs.sections.Pruning.{Mark, marks}
+use Rattle.ud_model.specs.sections.Pruning.{Mark}
 use Rattle.ud_model.specs.sections.Items.{Options, reading_of, line_of, mode_after, read_after}
 use Rattle.ud_model.specs.sections.Faults.{last_number}
 use Rattle.ud_model.specs.answer.Printing.{judged_lines}
 use Rattle.ud_model.specs.declared.kind.Mode.{Mode}
-use Rattle.ud_model.specs.declared.limits.TheConstants.{LINE_BYTES, TEXT_LINES}
+use Rattle.ud_model.specs.declared.limits.TheConstants.{TEXT_LINES}
 use Rattle.ud_model.specs.declared.verdict.Verdict.{Verdict}
-use Rattle.ud_model.proofs.text.LinesLemmas.{text_of-line_at}
 use Rattle.ud_text.specs.scan.ScannerState.{ScannerRepresents}
 use Rattle.ud_text.specs.bulk.BulkScanning as passing
 use Rattle.ud_text.specs.bulk.BulkScanning.{SkipsText, line_in_mode, lines_in_mode}
@@ -23,7 +21,7 @@ use Rattle.ud_text.proofs.lemmas.bulk.QuietLineLemmas.{ended_lines}
 use Rattle.ud_text.proofs.lemmas.lines.ConsumeLemmas.{can_consume_front}
 use Rattle.ud_sections.specs.sections.Limits.{IsWithinLimits}
 use Rattle.ud_sections.specs.printing.PrinterOutputs.{judged_text}
-use Rattle.ud_sections.specs.sections.MachineState.{AreTextLines, StepsText, MachineRepresents, machine_fault}
+use Rattle.ud_sections.specs.sections.MachineState.{AreTextLines, StepsText, machine_fault}
 use Rattle.ud_sections.proofs.lemmas.sections.TransitionLemmas.{last_number_last}
 use Rattle.ud_engine.specs.declared.line_decider.LineDecider.{LineDecider}
 use Rattle.ud_engine.specs.DecidedLines.{DeciderRepresents, AreText, DecidesBulk, consumed}
@@ -42,13 +40,8 @@ AreWithin (l ∷ ls) = IsWithinLimits l × AreWithin ls
 -- Lines that fit, with numbers that fit.
 are_within : (n : ℕ) (ls : List (List ℕ)) → EachFits ls → n + length ls ≤ TEXT_LINES → AreWithin (numbered_from (suc n) ls)
 are_within n [] fits few = tt
-are_within n (l ∷ ls) fits few = (
-  record {
-    number_fits = omega (arith, few);
-    bytes_fit = subst (λ (x : List ℕ). length x ≤ LINE_BYTES) (sym (text_of-line_at (suc n) l)) fits.0;
-  },
-  are_within (suc n) ls fits.1 (omega (arith, few)),
-)
+are_within n (l ∷ ls) fits few =
+    grind (arith, common_steps, are_within (suc n) ls fits.1 (omega (arith, few)))
 
 module _ (mode : Mode) where
   -- The readings of these lines in this mode, each after those before it.
@@ -104,20 +97,8 @@ module _ (o : Options) (old new : LineDecider) (xs : List (Item Reading)) (t : T
   -- No line was read.
   pub reads_none : (mode : Mode) → new.machine ≡ old.machine → SkipsText mode old.scanner new.scanner [] → DecidesBulk o new xs t (numbered_from (suc n) (whole_lines [])) verdict
   unfolding split_lines
-  reads_none mode same skips = record {
-    items = [];
-    tree = t;
-    has = record {
-      read = subst (λ ys. MachineRepresents new.machine o ys t) (sym (append-nil xs)) (subst (λ m. MachineRepresents m o xs t) (sym same) h.read);
-      no_fault = ap machine_fault same ∙ h.no_fault;
-      carries = subst (λ ys. ScannerRepresents new.scanner (map reading_of ys)) (sym (append-nil xs)) (skips.represents 0 (map reading_of xs) h.carries);
-    };
-    lines_are = refl;
-    texts = tt;
-    own = [];
-    marks_are = sym (append-nil (marks t));
-    decided = refl;
-  }
+  reads_none mode same skips =
+      grind (arith, common_steps, append-nil xs, skips.represents 0 (map reading_of xs) h.carries)
 
   module _ (mode : Mode) (m : mode ≡ mode_after o t) (bytes : List ℕ) (fits : EachFits (whole_lines bytes)) (few : n + length (whole_lines bytes) ≤ TEXT_LINES)
       (skips : SkipsText mode old.scanner new.scanner bytes) (last : ℕ) (counted : last ≡ n + length (whole_lines bytes)) (no_fault : machine_fault new.machine ≡ machine_fault old.machine)
@@ -136,11 +117,7 @@ module _ (o : Options) (old new : LineDecider) (xs : List (Item Reading)) (t : T
         record {
           items = map text_line (first ∷ rest);
           tree = done.tree;
-          has = record {
-            read = done.read;
-            no_fault = no_fault ∙ h.no_fault;
-            carries = subst (ScannerRepresents new.scanner) (sym (readings_are mode xs all)) carries;
-          };
+          has = grind (arith, readings_are mode xs all);
           lines_are = lines_are mode xs all;
           texts = texts_are mode xs all texts;
           own = map (λ r. done.mark) (first ∷ rest);
@@ -161,11 +138,7 @@ module _ (o : Options) (old new : LineDecider) (xs : List (Item Reading)) (t : T
 
 -- Nonempty bytes that end with a line have a line.
 pub some_line : (bytes : List ℕ) → passing.AreWholeLines bytes → 0 < length bytes → 0 < length (whole_lines bytes)
-some_line bytes ends some = by_lines (whole_lines bytes) (ended_lines bytes ends)
-  where
-    by_lines : (ls : List (List ℕ)) → bytes ≡ concat ls → 0 < length ls
-    by_lines [] e = absurd (let z = ap length e in omega (arith, z, some))
-    by_lines (l ∷ ls) e = omega arith
+some_line bytes ends some = grind (arith, common_steps, ended_lines bytes ends)
 
 -- No lines are consumed.
 pub skips_none : (lines : LinesState) → lines ≡ consumed lines []

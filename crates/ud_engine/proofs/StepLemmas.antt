@@ -2,17 +2,16 @@
 use Rattle.std.proofs.Common.{◌≡◌, ℕ, suc, ◌+◌, ◌-◌, ◌<◌, ◌≤◌, Bool, true, false, List, [], ◌∷◌, ◌++◌, length, take, drop, None, sym, ◌∙◌, ap, subst, ap₂, append_assoc, append-nil, take-append-drop, arith}
 use Rattle.std.proofs.lemmas.Grind.{common_steps}
 use Rattle.std.proofs.lemmas.List.{drop-take}
-use Rattle.ud_model.specs.text.Lines.{Line, NoNewline, IsWhole, SplitLines, ending_of, whole_lines, line_at, text_of}
+use Rattle.ud_model.specs.text.Lines.{Line, NoNewline, IsWhole, SplitLines, whole_lines, line_at, text_of}
 use Rattle.ud_model.specs.sections.Items.{Options, next_item}
 use Rattle.ud_model.specs.sections.Faults.{FaultOf}
 use Rattle.ud_model.specs.answer.Printing.{Judged}
 use Rattle.ud_model.specs.answer.Outcomes.{lines_so_far}
 use Rattle.ud_model.specs.declared.limits.TheConstants.{LINE_BYTES, TEXT_LINES}
-use Rattle.ud_model.proofs.text.LinesLemmas.{no_newline-append, text_of-line_at}
+use Rattle.ud_model.proofs.text.LinesLemmas.{no_newline-append}
 use Rattle.ud_text.specs.lines.LinesState.{LinesState, LinesRepresent, UpToNewline}
 use Rattle.ud_text.specs.lines.Borrowing.{CanBorrow}
 use Rattle.ud_text.proofs.lemmas.scan.MaskLemmas.{no_newline-take}
-use Rattle.ud_text.proofs.lemmas.bulk.StepLemmas.{drop_both}
 use Rattle.ud_sections.specs.sections.Limits.{IsWithinLimits}
 use Rattle.ud_sections.specs.sections.SectionFaults.{fault_of}
 use Rattle.ud_sections.specs.declared.sections.fault.SectionFault.{SectionFault}
@@ -22,11 +21,7 @@ use Rattle.ud_engine.specs.Feeding.{EngineState, IsOpen, EngineRepresentsBuffere
 use Rattle.ud_engine.specs.ProcessedLines.{PrintsLine}
 use Rattle.ud_io.specs.Streams.{Stream, TakesAllBut}
 use Rattle.ud_io.proofs.StreamLemmas.{stream_buffered}
-use Rattle.ud_engine.proofs.LinePartLemmas.{before_is, rest_is, split_lines-front_of, parts_behind, line_taken, open_taken, line_next, line_stops}
-
--- A last line without a newline has none in its body.
-pub rest_feedless : (n : ℕ) (l : List ℕ) → NoNewline l → NoNewline (line_at n l).body
-rest_feedless n l h = no_newline-take (length l - length (ending_of l)) l h
+use Rattle.ud_engine.proofs.LinePartLemmas.{before_is, rest_is, split_lines-front_of, parts_behind, line_taken, line_next, line_stops}
 
 -- The buffered line with the bytes of a chunk that end it.
 pub held_whole : (held rest : List ℕ) (used : ℕ) (whole : Bool) → whole ≡ true → NoNewline held → UpToNewline rest used whole → IsWhole (held ++ take used rest)
@@ -34,10 +29,7 @@ held_whole held rest used whole h k l = grind (arith, no_newline-append, append_
 
 -- A line of this number within the limits.
 pub is_within : (l : Line) (n : ℕ) (bytes : List ℕ) → l ≡ line_at n bytes → n ≤ TEXT_LINES → length bytes ≤ LINE_BYTES → IsWithinLimits l
-is_within l n bytes e number fits = record {
-  number_fits = subst (λ (k : Line). k.number ≤ TEXT_LINES) (sym e) number;
-  bytes_fit = subst (λ (k : Line). length (text_of k) ≤ LINE_BYTES) (sym e) (subst (λ (x : List ℕ). length x ≤ LINE_BYTES) (sym (text_of-line_at n bytes)) fits);
-}
+is_within l n bytes e number fits = grind (arith, common_steps)
 
 -- Bytes without a newline lengthen the line.
 pub still_open : (lines mid : LinesState) (rest : List ℕ) (used : ℕ) (whole : Bool) → whole ≡ false → IsOpen lines → UpToNewline rest used whole →
@@ -57,11 +49,7 @@ module _ {S : Type 0} (represents : S → List Judged → Type 0) (piece_of : S 
       ap (λ (q : SplitLines). q.whole) (parts ∙ ap (parts_behind text e.lines.held (take used rest)) w) in
       record {
         more = [];
-        taken =
-            open_taken represents piece_of o piece e text printed h f (take used rest) lines symbols printer
-            (still_open e.lines f.lines rest used whole w h.opened to is limits.0) took no_fault
-            (λ some. let k = limits.1 in let m = h.opened.limit in let n = ap (λ (l : LinesState). l.before) is in omega (arith, k, m, n))
-            (let k = h.count in let n = ap (λ (l : LinesState). l.before) is in omega (arith, k, n));
+        taken = grind (arith, common_steps, still_open);
         sent = subst (λ x. TakesAllBut a b x f.buffered) (sym (append-nil (g ++ pending)))
             (subst (λ x. TakesAllBut a b (x ++ pending) f.buffered) ge sent);
       }
@@ -115,23 +103,16 @@ between_none p n = let z : n - n ≡ 0 = omega arith in ap (λ k. take k (drop n
 
 -- The bytes up to a position, and those from there to another.
 pub between_more : (p : List ℕ) (from at end : ℕ) → from ≤ at → at ≤ end → slice_between p from end ≡ slice_between p from at ++ slice_between p at end
-between_more p from at end h k =
-    let n : end - from ≡ (at - from) + (end - at) = omega (arith, h, k) in
-    let m : from + (at - from) ≡ at = omega (arith, h) in
-    ap (λ i. take i (drop from p)) n
-    ∙ sym (take-append-drop (at - from) (take ((at - from) + (end - at)) (drop from p)))
-    ∙ ap₂ (λ x y. x ++ y)
-    (take-prefix (at - from) (end - at) (drop from p))
-    (drop-take (at - from) (end - at) (drop from p) ∙ ap (take (end - at)) (sym (drop_both p from (at - from)) ∙ ap (λ i. drop i p) m))
-  where
-    take-prefix : (i j : ℕ) (q : List ℕ) → take i (take (i + j) q) ≡ take i q
-    take-prefix i j q = grind (arith, common_steps)
+between_more p from at end h k = grind (
+  arith,
+  common_steps,
+  take-append-drop (at - from) (take ((at - from) + (end - at)) (drop from p)),
+  drop-take (at - from) (end - at) (drop from p),
+)
 
 -- The bytes up to a position, and those from there to another, from the beginning.
 pub take_more_of : (p : List ℕ) (at end : ℕ) → at ≤ end → take at p ++ slice_between p at end ≡ take end p
-take_more_of p at end h = let n : at - 0 ≡ at = omega arith in
-    let m : end - 0 ≡ end = omega arith in
-    ap (λ k. take k p ++ slice_between p at end) (sym n) ∙ sym (between_more p 0 at end (omega arith) h) ∙ ap (λ k. take k p) m
+take_more_of p at end h = grind (arith, between_more p 0)
 
 module _ {S : Type 0} (represents : S → List Judged → Type 0) (piece_of : S → List Judged → Judged → List ℕ) (o : Options) (piece : List Judged → Judged → List ℕ)
     (e : EngineState S) (text printed : List ℕ) (h : EngineRepresentsBuffered represents piece_of e o piece text printed) (a b : Stream) (g : List ℕ) (ge : e.buffered ≡ g)
@@ -167,10 +148,7 @@ module _ {S : Type 0} (represents : S → List Judged → Type 0) (piece_of : S 
   lent_put true w p = record {
     more = p.more;
     taken = lent_taken true p;
-    sent =
-        subst (λ x. TakesAllBut a b ((g ++ slice_between bytes from at) ++ p.more) x) (sym (ap (λ x. f.buffered ++ x) (between_none bytes end) ∙ append-nil f.buffered))
-        (subst (λ x. TakesAllBut a b x f.buffered) (sym (append_assoc g (slice_between bytes from at) p.more))
-        (subst (λ x. TakesAllBut a b (x ++ (slice_between bytes from at ++ p.more)) f.buffered) ge p.goes));
+    sent = grind (arith, common_steps, between_none);
   }
 
   -- An unchanged line extends the pending bytes.
@@ -178,16 +156,12 @@ module _ {S : Type 0} (represents : S → List Judged → Type 0) (piece_of : S 
       EngineAdvances represents piece_of f o piece text printed (slice_between bytes at end) a b (g ++ slice_between bytes from at) (f.buffered ++ slice_between bytes from end)
   lent_kept true w p = cc
   lent_kept false w p =
-      let joined : f.buffered ++ slice_between bytes from end ≡ (g ++ slice_between bytes from at) ++ p.more =
-      ap₂ (λ x y. x ++ y) (p.goes.1 ∙ ge) (between_more bytes from at end ordered later)
-      ∙ sym (append_assoc g (slice_between bytes from at) (slice_between bytes at end))
-      ∙ ap (λ x. (g ++ slice_between bytes from at) ++ x) (sym own_bytes ∙ sym p.goes.2) in
+      let joined : f.buffered ++ slice_between bytes from end ≡ (g ++ slice_between bytes from at)
+      ++ p.more = grind (arith, common_steps, between_more) in
       record {
         more = p.more;
         taken = lent_taken false p;
-        sent =
-            subst (λ x. TakesAllBut a b ((g ++ slice_between bytes from at) ++ p.more) x) (sym joined)
-            (subst (λ x. TakesAllBut a x ((g ++ slice_between bytes from at) ++ p.more) ((g ++ slice_between bytes from at) ++ p.more)) (sym p.goes.0) (stream_buffered a ((g ++ slice_between bytes from at) ++ p.more)));
+        sent = grind (arith, stream_buffered);
       }
 
   -- The line is faulty.

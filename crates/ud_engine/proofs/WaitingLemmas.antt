@@ -1,13 +1,12 @@
 -- Waiting: bytes that were read, and wait to be fed with the rest of their line.
-use Rattle.std.proofs.Common.{◌≡◌, inl, inr, ◌⊎◌, ℕ, ◌+◌, ◌-◌, ◌<◌, ◌≤◌, Bool, true, List, [], ◌∷◌, ◌++◌, length, take, drop, Option, Err, refl, sym, ◌∙◌, ap, subst, append_assoc, arith, length-append}
+use Rattle.std.proofs.Common.{◌≡◌, inl, inr, ◌⊎◌, ℕ, ◌+◌, ◌-◌, ◌<◌, ◌≤◌, Bool, true, List, [], ◌∷◌, ◌++◌, length, take, drop, Option, Err, refl, sym, ◌∙◌, ap, subst, append_assoc, arith, length-append, rules}
 use Rattle.std.specs.List.{copy_within}
 use Rattle.std.proofs.lemmas.List.{take-take, drop-take, take-append-le}
-use Rattle.std.proofs.lemmas.List.Edits.{take-paste}
 use Rattle.std.proofs.lemmas.Bool.{cases_lt}
-use Rattle.std.proofs.Math.ListN.{length-take, length-drop}
+use Rattle.std.proofs.Math.ListN.{length-take}
 use Rattle.std.proofs.Math.Seq.{take-add, take-append-add}
 use Rattle.std.specs.Io.KnownBytes.{Consumes, Keeps, prepend_known}
-use Rattle.std.proofs.KnownBytes.{Appends-nil, Appends-trans, Consumes-trans, Consumes-kept}
+use Rattle.std.proofs.KnownBytes.{Appends-nil, Appends-trans}
 use Rattle.ud_model.specs.text.Lines.{partial_line}
 use Rattle.ud_model.specs.sections.Items.{Options}
 use Rattle.ud_model.specs.answer.Printing.{Judged}
@@ -23,7 +22,7 @@ use Rattle.ud_sections.specs.declared.printing.printer.Printer.{Printer}
 use Rattle.ud_engine.specs.declared.fault.RunFault.{RunFault}
 use Rattle.ud_engine.specs.declared.fault.RunFault.TheVariants.{Text, Section, Read, Write}
 use Rattle.ud_engine.specs.declared.pump.TheConstants.{CHUNK_BYTES}
-use Rattle.ud_engine.specs.Feeding.{EngineState, EngineRepresentsBuffered, FeedFails, PrintsPrefix, Continues}
+use Rattle.ud_engine.specs.Feeding.{EngineState, EngineRepresentsBuffered, FeedFails, Continues}
 use Rattle.ud_engine.specs.Runs.{InProgress, RunFinished, bytes_to_limit}
 use Rattle.ud_engine.specs.Waiting.{IsWaiting, IsFurther}
 use Rattle.ud_engine.proofs.LinePartLemmas.{before_is, rest_is, open_taken}
@@ -63,18 +62,8 @@ fault_longer : (o : Options) (piece : List Judged → Judged → List ℕ) (fail
 fault_longer o piece failed a b longer printed later (Text f) w = grind (arith, common_steps, reads_stay)
 fault_longer o piece failed a b longer printed later (Section f) w = grind (arith, common_steps, reads_stay)
 fault_longer o piece failed a b longer printed later Read w = absurd w
-fault_longer o piece failed a b longer printed later Write w = let s = w.1.1 in
-    let more = lines_so_far-append longer later in
-    let longer_prefix : PrintsPrefix o piece (longer ++ later) (printed ++ w.1.0) = record {
-      items = s.items;
-      tree = s.tree;
-      lines = s.lines;
-      later = s.later ++ more.0;
-      are = more.1 ∙ ap (λ ls. ls ++ more.0) s.are ∙ append_assoc s.lines s.later more.0;
-      goes = s.goes;
-      printed_is = s.printed_is;
-    } in
-    (w.0, (w.1.0, longer_prefix, w.1.2))
+fault_longer o piece failed a b longer printed later Write w =
+    grind (arith, common_steps, lines_so_far-append longer later)
 
 -- A buffer is cut at the beginning of its last line.
 module _ (buffer : List ℕ) (end at : ℕ) (last : LastLineStarts (take end buffer) at) where
@@ -101,9 +90,7 @@ module _ (buffer : List ℕ) (end at : ℕ) (last : LastLineStarts (take end buf
 
   -- The rest is moved to the beginning of the buffer.
   pub cut_moved : end ≤ length buffer → take (end - at) (copy_within buffer at end 0) ≡ rest
-  cut_moved fits = ap (λ n. take n (copy_within buffer at end 0)) (omega arith)
-      ∙ take-paste buffer 0 (drop at buffer) (end - at) (omega arith)
-      (let n = length-drop at buffer in omega (arith, n, fits))
+  cut_moved fits = grind (arith, common_steps)
 
   -- The rest waits.
   pub cut_waits : (lines : LinesState) → end ≤ length buffer → end ≤ CHUNK_BYTES → (lines.held ≡ [])
@@ -127,9 +114,7 @@ module _ (o : Options) (e : EngineState Printer) (r₀ r w₀ w₁ : Option (Lis
   pub fed_front : (f : EngineState Printer) (w₂ : Option (List ℕ)) → Continues printer_represents
       printer_piece f o (own_piece o) (u.given ++ first) u.printed w₁ w₂ →
       InProgress f o r₀ (prepend_known left r) w₀ w₂
-  fed_front f w₂ goes =
-      fed_more o e r₀ (prepend_known (first ++ left) r) w₀ w₁ own (prepend_known left r) w₂ first
-      (grind (arith, append_assoc)) f goes
+  fed_front f w₂ goes = search (rules, append_assoc)
 
   pub front_stops : (w₂ : Option (List ℕ)) → length all ≤ CHUNK_BYTES → (reader writer : Bool)
       (f : RunFault) →
@@ -179,10 +164,7 @@ pub unread_waiting : (o : Options) (e : EngineState Printer) (r₀ r₁ r₂ w�
     (reader writer : Bool) → reader ≡ true →
     RunFinished o r₀ r₂ w₀ w₁ reader writer (Err Read)
 unread_waiting o e r₀ r₁ r₂ w₀ w₁ bytes u w kept reader writer failed =
-    let all : Consumes r₀ r₂ (u.given ++ bytes) =
-    Consumes-kept r₀ r₁ r₂ (u.given ++ bytes)
-    (Consumes-trans r₀ (prepend_known bytes r₁) r₁ u.given bytes u.consumed (read_all bytes r₁))
-    kept in
+    let all : Consumes r₀ r₂ (u.given ++ bytes) = grind (arith, common_steps) in
     record {
       ran = λ reads writes. cc;
       lag = lag o printer_represents printer_piece e u.given u.printed u.fed.taken r₀ r₂ w₀ w₁ w₁

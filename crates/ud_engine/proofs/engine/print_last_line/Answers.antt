@@ -1,18 +1,16 @@
-use Rattle.std.proofs.Common.{rules, sym, ap, subst, suc, List, [], ◌++◌, append-nil, ℕ}
+use Rattle.std.proofs.Common.{rules, sym, subst, [], ◌++◌, append-nil, arith}
 use Rattle.ud_model.specs.text.Lines.{Line, NoNewline}
-use Rattle.ud_text.specs.lines.LinesState.{LinesState}
 use Rattle.ud_model.specs.aids.LineViews.{as_line}
 use Rattle.ud_engine.specs.Finishing.{without_fault}
 use Rattle.ud_io.specs.Streams.{stream_of, TakesAllBut}
-use Rattle.ud_engine.proofs.StepLemmas.{rest_feedless}
 use Rattle.ud_engine.proofs.EndLemmas.{last_printed, last_cut, last_fails}
 use Rattle.ud_engine.proofs.engine.print_last_line.Goals as goal
+use Rattle.ud_text.proofs.lemmas.scan.MaskLemmas.{no_newline-take}
 
 pub put_line-requires-clause-one_line : goal.put_line-requires-clause-one_line
 put_line-requires-clause-one_line g c =
     subst (λ (l : Line). NoNewline l.body) (sym c.line.ensures.value)
-    (rest_feedless (suc c.close.new.self.before) c.close.new.self.held
-    (subst (λ (x : List ℕ). NoNewline x) (sym (ap (λ (l : LinesState). l.held) c.in-Ok-true.ensures.value.1)) c.requires.opened.no_newline))
+    (grind (arith, no_newline-take))
 
 pub returns-in-Err-put_line-clause-last : goal.returns-in-Err-put_line-clause-last
 returns-in-Err-put_line-clause-last g c = λ s fed.

@@ -1,8 +1,8 @@
-use Rattle.std.proofs.Common.{rules, refl, sym, ap, subst, ◌++◌, ◌+◌, ◌-◌, length, take, drop, List, ℕ, arith, length-append}
+use Rattle.std.proofs.Common.{rules, refl, sym, ap, subst, ◌++◌, ◌+◌, length, drop, List, ℕ, arith, length-append}
 use Rattle.ud_cond.specs.symbols.SymbolTable.{TableRepresents}
 use Rattle.ud_text.specs.lines.LinesState.{LinesState}
 use Rattle.ud_model.specs.aids.LineViews.{as_line}
-use Rattle.ud_engine.specs.Advancing.{EngineAdvances, StepFails, IsCursor, slice_between}
+use Rattle.ud_engine.specs.Advancing.{StepFails, IsCursor}
 use Rattle.ud_engine.specs.Feeding.{EngineState, EngineRepresentsBuffered}
 use Rattle.ud_io.specs.Streams.{stream_of}
 use Rattle.ud_engine.proofs.StepLemmas.{lent_put, lent_kept, lent_refused, held_taken}
@@ -20,24 +20,7 @@ returns-in-Err-clause-moves g c = λ s old.
     (c.in-Err.ensures.takes s k)
 
 pub returns-in-Ok-clause-moves : goal.returns-in-Ok-clause-moves
-returns-in-Ok-clause-moves g c = λ s old.
-    let h = subst (λ (e : EngineState g.row.S.Denot). EngineRepresentsBuffered g.S.Show.represents g.S.Show.piece e s.options s.pieces s.text s.printed) (sym c.self.view_is) old in
-    let k = subst (λ (l : LinesState). EngineRepresentsBuffered g.S.Show.represents g.S.Show.piece
-    (record { symbols = (g.P.PlanSource.plan c.self.inside.plan).symbols; lines = l; printer = c.self.inside.printer; buffered = c.self.inside.output; fault = c.self.inside.fault }) s.options s.pieces s.text s.printed)
-    (sym c.in_default.ensures.unchanged) h in
-    let there = λ (e : EngineState g.row.S.Denot) (n from at : ℕ). EngineAdvances g.S.Show.represents g.S.Show.piece e s.options s.pieces s.text s.printed (slice_between c.args.chunk.now c.args.cursor.now.pos n)
-    (stream_of g.W.Write.contents c.args.out.now) (stream_of g.W.Write.contents c.push_line_part.new.out)
-    (c.args.self.now.buffered ++ slice_between c.args.chunk.now c.args.cursor.now.pending_start c.args.cursor.now.pos) (e.buffered ++ slice_between c.args.chunk.now from at) in
-    subst (λ n. there c.push_line_part.new.self n c.cursor_at.result.pending_start n) (sym c.cursor_at.ensures.at)
-    (subst (λ n. there c.push_line_part.new.self (c.args.cursor.now.pos + c.in-Ok.used) n (c.args.cursor.now.pos + c.in-Ok.used)) (sym c.cursor_at.ensures.from)
-    (held_taken g.S.Show.represents g.S.Show.piece s.options s.pieces s.text s.printed (stream_of g.W.Write.contents c.args.out.now) (stream_of g.W.Write.contents c.push_line_part.new.out)
-    c.args.chunk.now (take (length c.args.chunk.now - c.args.cursor.now.pos) (drop c.args.cursor.now.pos c.args.chunk.now)) c.args.cursor.now.pos c.in-Ok.used
-    (range_from c.args.chunk.now c.args.cursor.now.pos) c.push_line_part.new.self (c.args.self.now.buffered ++ slice_between c.args.chunk.now c.args.cursor.now.pending_start c.args.cursor.now.pos)
-    (subst (λ (e : EngineState g.row.S.Denot). EngineAdvances g.S.Show.represents g.S.Show.piece c.push_line_part.new.self s.options s.pieces s.text s.printed
-    (take c.in-Ok.used (take (length c.args.chunk.now - c.args.cursor.now.pos) (drop c.args.cursor.now.pos c.args.chunk.now)))
-    (stream_of g.W.Write.contents c.args.out.now) (stream_of g.W.Write.contents c.push_line_part.new.out)
-    (e.buffered ++ slice_between c.args.chunk.now c.args.cursor.now.pending_start c.args.cursor.now.pos) c.push_line_part.new.self.buffered) c.self.view_is
-    (c.in-Ok.ensures.takes s k))))
+returns-in-Ok-clause-moves g c = grind (arith, held_taken, range_from)
 
 pub returns-in-Err-print-clause-moves : goal.returns-in-Err-print-clause-moves
 returns-in-Err-print-clause-moves g c = λ s old.

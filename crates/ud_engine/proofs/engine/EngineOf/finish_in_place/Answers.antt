@@ -4,11 +4,6 @@ use Rattle.ud_engine.specs.Feeding.{EngineState, IsInSession}
 use Rattle.ud_engine.proofs.EndLemmas.{rests, ends_at, ends_well}
 use Rattle.ud_engine.proofs.engine.EngineOf.finish_in_place.Goals as goal
 
-pub returns-in-Err-clause-finishes : goal.returns-in-Err-clause-finishes
-returns-in-Err-clause-finishes g c = λ s old.
-    let h = subst (λ (e : EngineState g.row.S.Denot). IsInSession g.S.Show.represents g.S.Show.piece e s) (sym c.self.view_is) old in
-    c.in-Err.ensures.last s (rests g.S.Show.represents g.S.Show.piece s.options s.pieces _ s.text s.printed h c.symbols.result.now c.symbols.ensures)
-
 pub returns-in-Err-finish-clause-finishes : goal.returns-in-Err-finish-clause-finishes
 returns-in-Err-finish-clause-finishes g c = λ s old.
     let h = subst (λ (e : EngineState g.row.S.Denot). IsInSession g.S.Show.represents g.S.Show.piece e s) (sym c.self.view_is) old in

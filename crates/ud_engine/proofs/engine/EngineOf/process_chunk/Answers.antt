@@ -56,9 +56,5 @@ returns-clause-feeds g c = λ s h.
     c.requires.not_failed c.end_chunk-2.ensures.written
     c.end_chunk-2.new.self c.end_chunk-2.ensures.flushed (c.loop-cursor.invariant.fault ∙ h.works) (search rules) c.end_chunk-2.new.out.failed refl _ c.end_chunk-2.result c.end_chunk-2.ensures.ended
 
-pub returns-in-Err-clause-writer : goal.returns-in-Err-clause-writer
-returns-in-Err-clause-writer g c =
-    grind (arith, c.in-Err.ensures.step.output_unchanged, c.end_chunk.ensures.ended)
-
 pub returns-clause-writer : goal.returns-clause-writer
 returns-clause-writer g c = grind (arith, c.end_chunk-2.ensures.ended)

@@ -19,9 +19,7 @@ returns-in-Err-clause-takes g c = λ s old.
     (subst (λ (r : Option TextFault). IfNone r (BreaksLimit c.self.inside.lines c.args.rest.now c.in-Err.fault)) h.no_fault c.in-Err.ensures.breaks_limit)
 
 pub invariant_of-self-then-not-taken : goal.invariant_of-self-then-not-taken
-invariant_of-self-then-not-taken g c =
-    still_open c.self.inside.lines c.take.new.self c.args.rest.now c.in-Ok.taken.used c.in-Ok.taken.whole (search rules) c.self.invariant c.in-Ok.ensures.used c.in-Ok.ensures.value
-    (c.in-Ok.ensures.limits (up_to_newline-some c.args.rest.now c.in-Ok.taken.used c.in-Ok.taken.whole c.in-Ok.ensures.used c.requires.some)).0
+invariant_of-self-then-not-taken g c = search (rules, still_open)
 
 pub returns-then-not-taken-clause-takes : goal.returns-then-not-taken-clause-takes
 returns-then-not-taken-clause-takes g c = λ s old.

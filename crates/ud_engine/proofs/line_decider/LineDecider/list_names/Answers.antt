@@ -8,15 +8,6 @@ use Rattle.ud_engine.proofs.DeciderLemmas.{has_next}
 use Rattle.ud_engine.proofs.NameListingLemmas.{lists_one}
 use Rattle.ud_engine.proofs.line_decider.LineDecider.list_names.Goals as goal
 
-pub returns-in-Err : goal.returns-in-Err
-returns-in-Err g c = record {
-  lists = λ o xs t represents h.
-      let scanned = c.in-Some.ensures.value (mode_after o t) (map reading_of xs) h.carries in
-      c.in-Err.ensures.finds_fault o xs t h.read (record { scanned = scanned; represents = represents }) h.no_fault;
-  unchanged = search rules;
-  stays = search rules;
-}
-
 pub returns : goal.returns
 returns g c = record {
   lists = λ o xs t represents h.

@@ -9,17 +9,6 @@ use Rattle.ud_engine.proofs.DeciderLemmas.{has_next}
 use Rattle.ud_engine.proofs.NameListingLemmas.{lists_one}
 use Rattle.ud_engine.proofs.line_decider.LineDecider.list_names_marked.Goals as goal
 
-pub returns-in-Err : goal.returns-in-Err
-returns-in-Err g c = record {
-  lists = λ o xs t represents h.
-      let mode = c.mode-mode.ensures o xs t h.read in
-      let before = map reading_of xs in
-      let scanned = c.read_into-scan.ensures.value before h.carries ∙ ap (λ m. scan_after before m (as_line c.args.line.now)) mode in
-      c.in-Err.ensures.finds_fault o xs t h.read (record { scanned = scanned; represents = represents }) h.no_fault;
-  unchanged = search rules;
-  stays = search rules;
-}
-
 pub returns : goal.returns
 returns g c = record {
   lists = λ o xs t represents h.
