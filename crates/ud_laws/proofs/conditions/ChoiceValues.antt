@@ -8,10 +8,7 @@ use Rattle.ud_model.specs.conditions.Values.{truth, name_value_by, name_value, n
 use Rattle.ud_model.specs.laws.CValues.{Number, signed, IsInRange, typed, CValue, IsCValue}
 use Rattle.ud_model.specs.laws.CValues as may
 use Rattle.ud_laws.specs.conditions.Choices.{Choice, IsAllowed, HasValue, of_constant, of_name, of_defined, of_unary, of_binary, of_and_left, of_and_both, of_or_left, of_or_both, of_parens}
-
--- A known number stays known.
-abbrev Keeps : Option ℤ → Option ℤ → Type 0
-Keeps a b = (z : ℤ) → a ≡ Some z → b ≡ Some z
+use Rattle.ud_laws.proofs.conditions.StrictLess.{Keeps}
 
 entry_less : (u v : Bool) (end : Option (List ℕ)) (o : Option Entry) → (v ≡ true → u ≡ true) → Keeps (name_value_by u end o) (name_value_by v end o)
 entry_less u v end o h z e = grind arith

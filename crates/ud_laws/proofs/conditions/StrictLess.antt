@@ -8,7 +8,7 @@ use Rattle.ud_model.specs.declared.cond.Cond.TheVariants.{Unknown}
 use Rattle.ud_model.specs.declared.operator.Operator.{Operator}
 
 -- A known number stays known.
-abbrev Keeps : Option ℤ → Option ℤ → Type 0
+abbrev pub Keeps : Option ℤ → Option ℤ → Type 0
 Keeps a b = (z : ℤ) → a ≡ Some z → b ≡ Some z
 
 alter_keeps : (u : Bool) (o : Operator) (a b : Option ℤ) → Keeps a b → Keeps (apply_unary u o a) (apply_unary u o b)

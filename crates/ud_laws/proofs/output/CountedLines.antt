@@ -14,7 +14,7 @@ use Rattle.ud_model.specs.sections.Items.{Options, reading_of, line_of, item_of,
 use Rattle.ud_model.specs.sections.Faults.{NoneHolds, cases, ends_removed}
 use Rattle.ud_model.specs.answer.Printing.{Judged, piece_by, pieces_by, last_removed, judged_line, judged_lines, keyword_in, number_line, ending_or_newline}
 use Rattle.ud_model.specs.laws.Pruned.{Edited, kept_line, printed}
-use Rattle.ud_model.specs.laws.Rereading.{line_bytes, edited_bytes}
+use Rattle.ud_model.specs.laws.Rereading.{line_bytes}
 use Rattle.ud_laws.specs.output.InsertedLines.{IsPrinted, Counted, no_line, goes, blanked, counts_on, starts_anew}
 use Rattle.ud_model.specs.declared.kind.Mode.{Mode}
 use Rattle.ud_model.specs.declared.kind.Mode.TheVariants.{C, Plain}
@@ -28,9 +28,9 @@ use Rattle.ud_model.proofs.output.Formed.{IsLeft, IsEnd, ending_none, whole_endi
 use Rattle.ud_model.proofs.output.Heeding.{ReadIn, none_read, one_read}
 use Rattle.ud_model.proofs.output.LeavesOff.{LeavesOff, HasEnd, nowhere, readings_last}
 use Rattle.ud_laws.proofs.output.LoneLines.{IsQuiet, number_quiet, quiet_whole, says_number, says_quiet, quiet_line}
-use Rattle.ud_model.proofs.output.OutputPieces.{line_in, LeftOne, left_one}
+use Rattle.ud_model.proofs.output.OutputPieces.{LeftOne, left_one}
 use Rattle.ud_model.proofs.output.PrintedPruned.{printed-append}
-use Rattle.ud_model.proofs.output.RereadLaws.{item_bytes}
+use Rattle.ud_model.proofs.output.RereadLaws.{left_piece, item_bytes}
 use Rattle.ud_model.proofs.output.RereadMore.{last_removed as last_removed_mark, Again, Between, Carry, alike, gone, IsLine, start}
 use Rattle.ud_model.proofs.output.RereadStep.{More, the_more, step, plain_run, stayed_alone, goes_or_left, left_stays}
 use Rattle.ud_laws.proofs.output.Inserting.{Weave, line_behind, with_line, are_more, put, put_lone, left, left_seen, lines_last, read_once, piece_of, gone_blank, left_blank, removed_last}
@@ -56,21 +56,18 @@ module _ (o : Options) (xs : List (Item Reading)) (t : Tree Reading) (ys : List 
 bytes_of : List (Item Reading) → List (List ℕ)
 bytes_of ys = map (λ y. line_bytes (reading_of y)) ys
 
-abbrev edited_piece : Item (Edited Reading) → List ℕ
-edited_piece y = edited_bytes (line_in y)
-
 module _ (o : Options) (m : Mode) (xs : List (Item Reading)) (x : Item Reading) (t u : Tree Reading) (ys zs : List (Item Reading)) (mark : Mark)
     (more : marks u ≡ marks t ++ mark ∷ []) (long : length xs ≡ length (marks t)) (a : Again o m xs t ys) (b : Again o m (xs ++ x ∷ []) u zs) where
-  bytes_next : bytes_of zs ≡ bytes_of ys ++ map edited_piece (kept_line mark.verdict x)
+  bytes_next : bytes_of zs ≡ bytes_of ys ++ map left_piece (kept_line mark.verdict x)
   unfolding bytes_of
   bytes_next = item_bytes zs (printed (xs ++ x ∷ []) (marks u)) b.same
-      ∙ ap (λ (ms : List Mark). map edited_piece (printed (xs ++ x ∷ []) ms)) more
-      ∙ ap (λ (ws : List (Item (Edited Reading))). map edited_piece ws) (printed-append xs (x ∷ []) (marks t) (mark ∷ []) long)
-      ∙ ap (λ (ws : List (Item (Edited Reading))). map edited_piece (printed xs (marks t) ++ ws)) (append-nil (kept_line mark.verdict x))
-      ∙ map-append edited_piece (printed xs (marks t)) (kept_line mark.verdict x)
-      ∙ ap (λ (bs : List (List ℕ)). bs ++ map edited_piece (kept_line mark.verdict x)) (sym (item_bytes ys (printed xs (marks t)) a.same))
+      ∙ ap (λ (ms : List Mark). map left_piece (printed (xs ++ x ∷ []) ms)) more
+      ∙ ap (λ (ws : List (Item (Edited Reading))). map left_piece ws) (printed-append xs (x ∷ []) (marks t) (mark ∷ []) long)
+      ∙ ap (λ (ws : List (Item (Edited Reading))). map left_piece (printed xs (marks t) ++ ws)) (append-nil (kept_line mark.verdict x))
+      ∙ map-append left_piece (printed xs (marks t)) (kept_line mark.verdict x)
+      ∙ ap (λ (bs : List (List ℕ)). bs ++ map left_piece (kept_line mark.verdict x)) (sym (item_bytes ys (printed xs (marks t)) a.same))
 
-  lines_next : map line_of zs ≡ numbered_from 1 (bytes_of ys ++ map edited_piece (kept_line mark.verdict x))
+  lines_next : map line_of zs ≡ numbered_from 1 (bytes_of ys ++ map left_piece (kept_line mark.verdict x))
   unfolding bytes_of
   lines_next = b.numbered ∙ ap (λ (bs : List (List ℕ)). numbered_from 1 bs) bytes_next
 
@@ -94,7 +91,7 @@ module _ (o : Options) (m : Mode) (xs : List (Item Reading)) (x : Item Reading) 
       by_one (inl e) = absurd (no_left mark.verdict e h)
       by_one (inr (y, is, bytes, left)) =
           read_once o m zs (with_line o m ys (line_behind (bytes_of ys) p)) b.read (one_read ys a.read (line_behind (bytes_of ys) p))
-          (lines_next ∙ ap (λ (ws : List (Item (Edited Reading))). numbered_from 1 (bytes_of ys ++ map edited_piece ws)) is
+          (lines_next ∙ ap (λ (ws : List (Item (Edited Reading))). numbered_from 1 (bytes_of ys ++ map left_piece ws)) is
           ∙ ap (λ (q : List ℕ). numbered_from 1 (bytes_of ys ++ q ∷ [])) bytes
           ∙ numbered_from-next (bytes_of ys) p [] ∙ ap (λ (ls : List Line). ls ++ line_behind (bytes_of ys) p ∷ []) (sym a.numbered)
           ∙ sym (lines_last o ys m (line_behind (bytes_of ys) p)))
