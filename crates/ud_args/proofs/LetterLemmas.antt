@@ -1,5 +1,5 @@
 -- Letters of a text in UTF-8, and the options that they give.
-use Rattle.std.proofs.Common.{◌≡◌, ◌∙◌, ℕ, ◌<◌, List, [], ◌∷◌, ◌++◌, ◌+◌, false, length, refl, chars, arith, ◌≢◌, suc, add-one, ap, sym, map, drop, get_or, string_bytes, String, Global}
+use Rattle.std.proofs.Common.{◌≡◌, ◌∙◌, ℕ, ◌<◌, List, [], ◌∷◌, ◌++◌, ◌+◌, length, refl, chars, arith, ◌≢◌, suc, add-one, ap, sym, map, drop, get_or, string_bytes, String, Global}
 use Rattle.std.proofs.Math.Seq.{drop-cons}
 use Rattle.std.specs.Str.{IsUtf8, encode_utf8_all}
 use Rattle.std.specs.Char.{encode_utf8}
@@ -7,8 +7,6 @@ use Rattle.std.proofs.lemmas.Grind.{common_steps}
 use Rattle.std.proofs.lemmas.Str.{encodes-chars, char_from_byte}
 use Rattle.ud_model.specs.answer.CommandLine.{option_letters}
 use Rattle.ud_args.specs.CommandLines.{Parsed, option, option_then}
-use Rattle.ud_args.specs.ParsedArgs.{ordinary_word, after_letters}
-use Rattle.ud_args.specs.declared.command_line.CommandLine.{CommandLine}
 
 option_then-cons : (c n : ℕ) (cs : List ℕ) (next rest : List Parsed) → 0 < length (encode_utf8_all cs)
     → option_then c n cs next rest ≡ option c n (encode_utf8_all cs) ∷ rest
@@ -24,11 +22,6 @@ pub option_letters-other : (bytes rest : List ℕ) (c : ℕ) → bytes ≡ encod
 option_letters-other [] rest c e h = refl
 option_letters-other (b ∷ bs) rest c e h =
     grind (arith, common_steps, (λ (k : b ≡ 45). h (char_from_byte (b ∷ bs) rest c e (omega (arith, k)) (omega arith) ∙ k)))
-
--- a word of option letters gives what its letters give, if no operand came before
-pub ordinary_word-letters : (line : CommandLine) (n c : ℕ) (w cs : List ℕ) → line.after_operand ≡ false → line.read ≡ n + 1 → option_letters w ≡ c ∷ cs
-    → ordinary_word line n w ≡ after_letters line (c ∷ cs)
-ordinary_word-letters line n c w cs h k e = rw (h, ← k, e) refl
 
 -- the words from an index on are the one there and those after it
 pub texts-next : (words : List (String Global)) (n : ℕ) (w : String Global) → n < length words → w ≡ get_or words n w

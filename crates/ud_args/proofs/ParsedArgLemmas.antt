@@ -1,5 +1,5 @@
 -- Options and operands with more after them: faults, settings, symbols and the operand.
-use Rattle.std.proofs.Common.{◌≡◌, ◌∙◌, ap, refl, ℕ, List, [], ◌∷◌, ◌++◌, Bool, true, false, ◌||◌, Option, Some, None, is_some, codes, if◌then◌else◌, arith}
+use Rattle.std.proofs.Common.{◌≡◌, ap, refl, ℕ, List, [], ◌∷◌, ◌++◌, Bool, true, false, ◌||◌, Option, Some, None, is_some, codes, if◌then◌else◌, arith}
 use Rattle.ud_model.specs.declared.settings.Listing.TheVariants.{Depths}
 use Rattle.ud_model.specs.declared.settings.ExitMode.{ExitMode}
 use Rattle.ud_model.specs.declared.settings.ExitMode.TheVariants.{Zero}
@@ -94,16 +94,7 @@ settings_in-flag_last gs c = grind (arith, has_flag-flag_last, listing_last, mod
 -- at the end, an option or operand that is no flag changes the exit mode alone
 pub settings_in-last : (gs : List ParsedArg) (g : ParsedArg) (m : ExitMode) → IsNoFlag g → mode_from (mode_from Zero gs) (g ∷ []) ≡ m
     → settings_in (gs ++ g ∷ []) ≡ record (settings_in gs) { exit_mode = m }
-settings_in-last gs g m h e = λ i. record {
-  plain = has_flag-last (codes "t") gs g h i;
-  constants = has_flag-last (codes "k") gs g h i;
-  strict = has_flag-last (codes "K") gs g h i;
-  blank = has_flag-last (codes "bl") gs g h i;
-  complement = has_flag-last (codes "c") gs g h i;
-  renumber = has_flag-last (codes "n") gs g h i;
-  listing = listing_by (has_flag-last (codes "S") gs g h i) (has_flag-last (codes "s") gs g h i);
-  exit_mode = (mode_from-append Zero gs (g ∷ []) ∙ e) i;
-}
+settings_in-last gs g m h e = grind (arith, has_flag-last, mode_from-append)
 
 -- options and operands without a fault have none among the first of them
 pub first_fault-prefix : (gs more : List ParsedArg) → first_fault (gs ++ more) ≡ None → first_fault gs ≡ None

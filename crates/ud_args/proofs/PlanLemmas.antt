@@ -17,14 +17,6 @@ use Rattle.ud_args.specs.declared.usage.Usage.TheVariants.{OutOfMemory}
 use Rattle.ud_args.specs.Plans.{PlanState, PlanRepresents}
 use Rattle.ud_args.proofs.ParsedArgLemmas.{first_fault-append, first_fault-prefix, operand_in-append, settings_in-flag_last, settings_in-last}
 
--- a plan has an operand if one was given
-pub is_some-operand_in : (plan : PlanState) (gs : List ParsedArg) (o : Option ℕ) (found : Bool) → PlanRepresents plan gs → o ≡ plan.operand → found ≡ is_some o
-    → is_some (operand_in gs) ≡ found
-is_some-operand_in plan gs o found p e f = sym (grind arith) ∙ ap is_some (sym p.index) ∙ ap is_some (sym e) ∙ sym f
-
-exit_mode_of : (s t : Settings) (mode : ExitMode) → s ≡ t → record s { exit_mode = mode } ≡ record t { exit_mode = mode }
-exit_mode_of s t mode e = rw e refl
-
 -- a plan with one more option or operand, if no operand came before
 represents_last : (old new : PlanState) (gs : List ParsedArg) (g : ParsedArg) → PlanRepresents old gs → old.operand ≡ None → first_fault (g ∷ []) ≡ None
     → new.settings ≡ settings_in (gs ++ g ∷ []) → TableRepresents new.symbols (filter_map argument_in gs ++ filter_map argument_in (g ∷ []))
@@ -55,7 +47,8 @@ represents_mode old new gs word argument mode p free e said same index =
     let right : first_fault (option 120 word argument ∷ []) ≡ None = rw e refl in
     let last : mode_from (mode_from Zero gs) (option 120 word argument ∷ []) ≡ mode = rw e refl in
     let settings : new.settings ≡ settings_in (gs ++ option 120 word argument ∷ []) =
-    said ∙ exit_mode_of old.settings (settings_in gs) mode p.said ∙ sym (settings_in-last gs (option 120 word argument) mode (λ ls. refl) last) in
+    said ∙ (grind arith)
+    ∙ sym (settings_in-last gs (option 120 word argument) mode (λ ls. refl) last) in
     represents_same old new gs (option 120 word argument) p free right refl settings same (index ∙ free)
 
 -- a symbol is added as the last one of the table
@@ -125,12 +118,5 @@ pub IsUsageOf-table : (plan : PlanState) (gs : List ParsedArg) (u : Usage) → P
 IsUsageOf-table plan gs u p out some =
     let one = symbol_in gs (λ none. represents_none plan.symbols (subst (TableRepresents plan.symbols) none p.represents) some) in
     let whole = one.is ∙ sym (append_assoc one.before (one.symbol ∷ []) one.more) in
-    let puts : StoresSymbol gs = record {
-      before = one.before;
-      symbol = one.symbol;
-      more = one.more;
-      is = one.is;
-      right = first_fault-prefix (one.before ++ one.symbol ∷ []) one.more (ap first_fault (sym whole) ∙ p.right);
-      sets = one.sets;
-    } in
+    let puts : StoresSymbol gs = grind (arith, first_fault-prefix) in
     rw out puts

@@ -1,18 +1,11 @@
 -- Programs: their tables of letters, and the words of unifdef(1).
-use Rattle.std.proofs.Common.{◌≡◌, ◌∙◌, ℕ, suc, List, [], ◌∷◌, ◌++◌, ◌==◌, map, Bool, true, false, Option, Some, None, if◌then◌else◌, bytes_eq, codes, refl, ap, arith, add-one}
-use Rattle.std.specs.List.{list_any}
-use Rattle.std.proofs.lemmas.Grind.{common_steps}
+use Rattle.std.proofs.Common.{◌≡◌, ◌∙◌, ℕ, suc, List, [], ◌∷◌, ◌++◌, map, Bool, true, false, Option, Some, None, if◌then◌else◌, bytes_eq, codes, refl, ap, arith, add-one}
 use Rattle.ud_model.specs.answer.CommandLine.{ParsedArg, has_letter, option_letters, is_operand, letters_give, given_next, parsed_args, parsed_from, parsed_after_option}
 use Rattle.ud_model.specs.answer.CommandLine as args
 use Rattle.ud_model.specs.aids.LettersThen.{parsed_letters}
 use Rattle.ud_model.proofs.answer.WordLemmas as words
 use Rattle.ud_args.specs.CommandLines.{Parsed, operand, letters_then, operands_from, parsed_next, parsed_words, as_arg}
 use Rattle.ud_args.specs.declared.programs.Program.TheVariants.{Unifdef}
-
--- a table has a letter
-pub any-has_letter : (ls : List ℕ) (c : ℕ) → list_any (λ l. l == c) ls ≡ has_letter ls c
-any-has_letter [] c = refl
-any-has_letter (l ∷ ls) c = grind (arith, common_steps, any-has_letter ls c)
 
 operands_as : (n : ℕ) (ws : List (List ℕ)) → map as_arg (operands_from n ws) ≡ args.operands_from n ws
 operands_as n [] = refl

@@ -1,4 +1,4 @@
-use Rattle.std.proofs.Common.{◌≡◌, ◌∙◌, ◌++◌, ◌∷◌, ◌+◌, [], List, ap, sym, append_assoc, drop, get_or}
+use Rattle.std.proofs.Common.{◌≡◌, ◌∙◌, ◌++◌, ◌∷◌, ◌+◌, List, ap, sym, append_assoc, drop, get_or, rules}
 use Rattle.std.proofs.lemmas.Result.{err_from_is_err_and}
 use Rattle.ud_model.specs.answer.CommandLine.{ParsedArg}
 use Rattle.ud_args.specs.declared.command_line.ParsedArg.TheVariants.{Flag}
@@ -19,21 +19,4 @@ returns-in_err-apply-clause-err c =
     rw (p.1, p.2, all) (c.in_err-apply.ensures.err before.0 before.2 rest)
 
 pub loop-item-preserved : goal.loop-item-preserved
-loop-item-preserved c = let before = c.loop-item.invariant in
-    let g : ParsedArg = parsed_arg (get_or c.args.given.now c.loop-item.item-index (Flag 0)) in
-    let rest : List ParsedArg = unifdef_args (parsed (drop (c.loop-item.item-index + 1) c.args.given.now)) in
-    elim c.if-is_unifdef_option.branch [
-      | then-is_unifdef_option+in_ok-apply w ↦ (
-        before.0 ++ g ∷ [],
-        before.1 ∙ ap (λ (gs : List ParsedArg). before.0 ++ gs)
-            (unifdef_args-here c.args.given.now c.loop-item.item-index (Flag 0) c.loop-item-test.true (sym c.is_unifdef_option.ensures ∙ w.if-is_unifdef_option.true))
-            ∙ sym (append_assoc before.0 (g ∷ []) rest),
-        rw (w.draft-is) (w.in_ok-apply.ensures.ok before.0 before.2),
-      )
-      | else-is_unifdef_option w ↦ (
-        before.0,
-        before.1 ∙ ap (λ (gs : List ParsedArg). before.0 ++ gs)
-            (unifdef_args-past c.args.given.now c.loop-item.item-index (Flag 0) c.loop-item-test.true (sym c.is_unifdef_option.ensures ∙ w.if-is_unifdef_option.false)),
-        rw (w.draft-is) before.2,
-      )
-    ]
+loop-item-preserved c = search (rules, unifdef_args-here, append_assoc, unifdef_args-past)

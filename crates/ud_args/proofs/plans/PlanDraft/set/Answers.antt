@@ -1,6 +1,6 @@
-use Rattle.std.proofs.Common.{◌≡◌, refl, sym, subst, ◌++◌, ◌∷◌, [], None}
+use Rattle.std.proofs.Common.{◌≡◌, refl, sym, subst, ◌++◌, ◌∷◌, [], arith}
 use Rattle.ud_cond.specs.symbols.SymbolTable.{TableRepresents}
-use Rattle.ud_cond.proofs.lemmas.symbols.TableLemmas.{entry_from-push, represents-changes}
+use Rattle.ud_cond.proofs.lemmas.symbols.TableLemmas.{entry_from-push}
 use Rattle.ud_model.specs.answer.CommandLine.{flag, operand, argument_in}
 use Rattle.std.specs.List.{filter_map}
 use Rattle.ud_args.specs.ParsedSettings.{SetsSymbol, as_argument}
@@ -25,10 +25,9 @@ returns-in-Mode-clause-ok c = λ gs g p free is.
 pub returns-in-Symbol-clause-ok : goal.returns-in-Symbol-clause-ok
 returns-in-Symbol-clause-ok c = λ gs g p free is.
     let sets : SetsSymbol g (as_argument c.in-Symbol.symbol) = rw (c.in-Symbol.is) at is in
-    let table : TableRepresents (c.args.self.now.symbols ++ as_argument c.in-Symbol.symbol ∷ []) (filter_map argument_in gs ++ as_argument c.in-Symbol.symbol ∷ []) =
-    represents-changes c.args.self.now.symbols (c.args.self.now.symbols ++ as_argument c.in-Symbol.symbol ∷ [])
-    (filter_map argument_in gs) (as_argument c.in-Symbol.symbol)
-    (λ name. entry_from-push None c.args.self.now.symbols (as_argument c.in-Symbol.symbol) name) p.represents in
+    let table : TableRepresents (c.args.self.now.symbols ++ as_argument c.in-Symbol.symbol ∷ [])
+    (filter_map argument_in gs ++ as_argument c.in-Symbol.symbol ∷ []) =
+    grind (arith, entry_from-push) in
     on_ok_weaker c.set_symbol.result
     (λ pushed. represents_symbol c.args.self.now c.set_symbol.new.self gs g (as_argument c.in-Symbol.symbol) p free sets c.set_symbol.ensures.same.0
     (subst (λ t. TableRepresents t (filter_map argument_in gs ++ as_argument c.in-Symbol.symbol ∷ [])) (sym pushed) table) c.set_symbol.ensures.same.1)
