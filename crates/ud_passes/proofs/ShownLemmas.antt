@@ -1,5 +1,6 @@
 -- Masked bytes: vertical tabs beside white space, and the line that bytes are.
 use Rattle.std.proofs.Common.{◌≡◌, ℕ, suc, ◌<◌, ◌≤◌, ◌==◌, slice_index, Option, is_some, List, [], ◌∷◌, ◌++◌, length, take, Bool, true, false, not, ◌&&◌, ◌||◌, bytes_eq, refl, sym, ◌∙◌, ap, ap₂, subst, arith}
+use Rattle.std.proofs.lemmas.Bool.{false_from_ne_true}
 use Rattle.std.proofs.lemmas.List.{take_all}
 use Rattle.std.proofs.lemmas.List.Folds.{list_any_at}
 use Rattle.memchr.specs.Find.{IsFirstByte, is_byte}
@@ -37,10 +38,7 @@ left owes blank bytes = (not owes || blank_follows bytes) && tabs_are_beside bla
 none_there : (s : List ℕ) → ((k : ℕ) → 0 ≤ k → k < length s → is_byte vertical_tab (slice_index s k) ≡ true → ⊥) → has_tab s ≡ false
 none_there [] h = refl
 none_there (x ∷ s) h =
-    ap₂ (λ (a b : Bool). a || b) (if_not (x == vertical_tab) (h 0 (omega arith) (omega arith))) (none_there s (λ k l u. h (suc k) (omega arith) (omega arith)))
-  where
-    if_not : (b : Bool) → (b ≡ true → ⊥) → b ≡ false
-    if_not b h = grind arith
+    ap₂ (λ (a b : Bool). a || b) (false_from_ne_true (x == vertical_tab) (h 0 (omega arith) (omega arith))) (none_there s (λ k l u. h (suc k) (omega arith) (omega arith)))
 
 pub found_tab : (s : List ℕ) (r : Option ℕ) → IsFirstByte (is_byte vertical_tab) s r → is_some r ≡ has_tab s
 found_tab s r h = grind (arith, none_there, list_any_at)

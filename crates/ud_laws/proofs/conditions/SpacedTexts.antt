@@ -1,6 +1,6 @@
 -- A condition means the same with one space for all white space before each byte.
 use Rattle.std.proofs.Common.{◌≡◌, ℕ, List, [], ◌∷◌, ◌++◌, Bool, true, false, ◌&&◌, if◌then◌else◌, Option, refl, sym, ◌∙◌, ap, ap₂, subst, arith}
-use Rattle.ud_model.specs.text.Bytes.{space, is_white, skip_white, leading_word, skip_word, are_white}
+use Rattle.ud_model.specs.text.Bytes.{space, is_white, leading_word, skip_word, are_white}
 use Rattle.ud_model.specs.aids.SpacedBytes.{spaced}
 use Rattle.ud_model.specs.conditions.Tokens.{Token}
 use Rattle.ud_model.specs.conditions.Conditions.{sole_name}
@@ -71,9 +71,3 @@ name_spaced t = sym (name_spread (wide true t) (spaced true t) (true, from_space
 -- A condition means the same.
 pub condition_spaced : (p : Test) (t : List ℕ) → condition_by_test p (spaced true t) ≡ condition_by_test p t
 condition_spaced p t = grind (arith, expression_spaced, name_spaced)
-
--- 3. Leading white space.
-
-pub spaced_skip : (t : List ℕ) → spaced true (skip_white t) ≡ spaced true t
-spaced_skip [] = refl
-spaced_skip (b ∷ t) = grind (arith, refl, (spaced_skip t), spaced_skip t)

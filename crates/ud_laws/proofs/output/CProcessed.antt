@@ -20,7 +20,7 @@ use Rattle.ud_laws.proofs.conditions.SpacedTexts.{condition_spaced}
 use Rattle.ud_model.proofs.output.Each.{Pairwise, pairwise_parts}
 use Rattle.ud_laws.proofs.output.CConditions.{item_fits}
 use Rattle.ud_model.proofs.output.Changed.{as_many_nodes, as_many_groups, as_many_elifs}
-use Rattle.ud_laws.proofs.output.CSelected.{Clear, elif_moves, many_both, not_any}
+use Rattle.ud_laws.proofs.output.CSelected.{Clear, at_kept, elif_moves, many_both, not_any}
 use Rattle.ud_laws.proofs.output.ProcessedPruned.{IsRight, NodesRight, GroupsRight, ElifsRight}
 
 -- Down the tree.
@@ -51,9 +51,6 @@ module _ (o : Options) {S F : Type 0} (takes : S → List ℕ → Scan → S →
   -- The case of an `#elif` that is reached.
   elif_right : (cs : List Cond) (q : Opener Reading) → Clear o (elif_line q) (marked true (verdict_so_far cs an_elif q.cond)) → IsRight p q
   elif_right cs q k s b t d = search (rules, elif_moves, item_fits, may_be, ends_with)
-
-  at_kept : (b : Bool) (ns : Nodes Reading) → b ≡ true → Pairwise (Clear o) (lines_of_nodes ns) (nodes_so_far b ns) → Pairwise (Clear o) (lines_of_nodes ns) (nodes_so_far true ns)
-  at_kept b ns e h = subst (λ (k : Bool). Pairwise (Clear o) (lines_of_nodes ns) (nodes_so_far k ns)) e h
 
   first_is_false : {q : Opener Reading} {ns : Nodes Reading} {s t : S} → NoneTrue p (first q ns) s t → decides s (condition_on q.line) false t
   first_is_false (first_false d) = d
@@ -89,14 +86,14 @@ module _ (o : Options) {S F : Type 0} (takes : S → List ℕ → Scan → S →
         let q : Pairwise (Clear o) (lines_of_elifs es) (elifs_so_far true es) × Pairwise (Clear o) (else_line l ∷ []) (marked true v ∷ []) =
         pairwise_parts (Clear o) (lines_of_elifs es) (elifs_so_far true es) (else_line l ∷ []) (marked true v ∷ []) (as_many_elifs true es) h.0 in
         let r : ElifsRight p es × ((s t : S) → NoneTrue p es s t → any_true (conds_of_elifs es) ≡ false) = elifs_right es q.0 in
-        (r.0, λ s t g. nodes_right ns (at_kept (is_kept (conds_of_elifs es) Yes) ns (ap not (r.1 s t g)) h.1))
+        (r.0, λ s t g. nodes_right ns (at_kept o (is_kept (conds_of_elifs es) Yes) ns (ap not (r.1 s t g)) h.1))
 
     -- If none of the groups is processed, none is decided to be true.
     elifs_right : (es : Elifs Reading) → Pairwise (Clear o) (lines_of_elifs es) (elifs_so_far true es) →
         ElifsRight p es × ((s t : S) → NoneTrue p es s t → any_true (conds_of_elifs es) ≡ false)
     elifs_right (first q ns) k =
         let a : IsRight p q = if_right q k.0 in (
-          (a, λ s t d. nodes_right ns (at_kept (is_kept [] q.cond) ns (kept_by [] q.cond s t refl (a s true t d)) k.1)),
+          (a, λ s t d. nodes_right ns (at_kept o (is_kept [] q.cond) ns (kept_by [] q.cond s t refl (a s true t d)) k.1)),
           λ s t h. not_any [] q.cond refl (not_yes q.cond s t (a s false t (first_is_false h))),
         )
     elifs_right (elif es q ns) k =
@@ -111,7 +108,7 @@ module _ (o : Options) {S F : Type 0} (takes : S → List ℕ → Scan → S →
         pairwise_parts (Clear o) (lines_of_elifs es) (elifs_so_far true es) (elif_line q ∷ []) (marked true v ∷ []) (as_many_elifs true es) h.0 in
         let r : ElifsRight p es × ((s t : S) → NoneTrue p es s t → any_true (conds_of_elifs es) ≡ false) = elifs_right es f.0 in
         let a : IsRight p q = elif_right (conds_of_elifs es) q f.1.0 in (
-          (r.0, λ s t g. (a, λ u v d. nodes_right ns (at_kept (is_kept (conds_of_elifs es) q.cond) ns (kept_by (conds_of_elifs es) q.cond u v (r.1 s t g) (a u true v d)) h.1))),
+          (r.0, λ s t g. (a, λ u v d. nodes_right ns (at_kept o (is_kept (conds_of_elifs es) q.cond) ns (kept_by (conds_of_elifs es) q.cond u v (r.1 s t g) (a u true v d)) h.1))),
           λ s u g. let f : (t : S) × NoneTrue p es s t × decides t (condition_on q.line) false u = elif_is_false g in
               not_any (conds_of_elifs es) q.cond (r.1 s f.0 f.1) (not_yes q.cond f.0 u (a f.0 false u f.2)),
         )

@@ -33,6 +33,10 @@ pub record Clear (o : Options) (x : Item Reading) (m : Mark) : Type 0 where
   pub own : x ≡ item_of o (reading_of x)
   pub alone : is_directive x ≡ true → m.kept ≡ true → keeps_rest m.verdict ≡ false → (reading_of x).scan.joins_after ≡ false
 
+-- The lines of nodes that are kept.
+pub at_kept : (o : Options) (b : Bool) (ns : Nodes Reading) → b ≡ true → Pairwise (Clear o) (lines_of_nodes ns) (nodes_so_far b ns) → Pairwise (Clear o) (lines_of_nodes ns) (nodes_so_far true ns)
+at_kept o b ns e h = subst (λ (k : Bool). Pairwise (Clear o) (lines_of_nodes ns) (nodes_so_far k ns)) e h
+
 -- 1. Each line of a text without a fault is clear.
 
 alone_by : (d before after k r q : Bool) → (d && (before || after) && k && (not r || q)) ≡ false → d ≡ true → k ≡ true → r ≡ false → after ≡ false
@@ -104,9 +108,6 @@ module _ (o : Options) (w : World Reading) where
   or_none : (s r : Option (List Reading)) → or_else s r ≡ None → (s ≡ None) × (r ≡ None)
   or_none s r e = grind arith
 
-  at_kept : (b : Bool) (ns : Nodes Reading) → b ≡ true → Pairwise (Clear o) (lines_of_nodes ns) (nodes_so_far b ns) → Pairwise (Clear o) (lines_of_nodes ns) (nodes_so_far true ns)
-  at_kept b ns e h = subst (λ (k : Bool). Pairwise (Clear o) (lines_of_nodes ns) (nodes_so_far k ns)) e h
-
   mutual
     pub nodes_right : (ns : Nodes Reading) → Pairwise (Clear o) (lines_of_nodes ns) (nodes_so_far true ns) → EachReached w Possible ns → EachReached w Right ns
     nodes_right nothing k h = tt
@@ -133,7 +134,7 @@ module _ (o : Options) (w : World Reading) where
         let q : Pairwise (Clear o) (lines_of_elifs es) (elifs_so_far true es) × Pairwise (Clear o) (else_line l ∷ []) (marked true v ∷ []) =
         pairwise_parts (Clear o) (lines_of_elifs es) (elifs_so_far true es) (else_line l ∷ []) (marked true v ∷ []) (as_many_elifs true es) p.0 in
         let r = elifs_right es q.0 h.0 in
-        (r.0, λ e. nodes_right ns (at_kept (is_kept (conds_of_elifs es) Yes) ns (ap not (r.1 e)) p.1) (h.1 e))
+        (r.0, λ e. nodes_right ns (at_kept o (is_kept (conds_of_elifs es) Yes) ns (ap not (r.1 e)) p.1) (h.1 e))
 
     -- If no group is processed, none is true.
     elifs_right : (es : Elifs Reading) → Pairwise (Clear o) (lines_of_elifs es) (elifs_so_far true es) → ElifsReached w Possible es →
@@ -141,7 +142,7 @@ module _ (o : Options) (w : World Reading) where
     elifs_right (first p ns) k h =
         let q : Pairwise (Clear o) (lines_of_nodes ns) (nodes_so_far (is_kept [] p.cond) ns) = k.1 in
         let a : Right p = if_right p k.0 h.0 in (
-          (a, λ t. nodes_right ns (at_kept (is_kept [] p.cond) ns (kept_by [] p.cond p.line refl a t) q) (h.1 t)),
+          (a, λ t. nodes_right ns (at_kept o (is_kept [] p.cond) ns (kept_by [] p.cond p.line refl a t) q) (h.1 t)),
           λ e. not_any [] p.cond refl (not_yes p.cond p.line a (where_none (w p.line) (selected w ns) e)),
         )
     elifs_right (elif es p ns) k h =
@@ -156,7 +157,7 @@ module _ (o : Options) (w : World Reading) where
         pairwise_parts (Clear o) (lines_of_elifs es) (elifs_so_far true es) (elif_line p ∷ []) (marked true v ∷ []) (as_many_elifs true es) q.0 in
         let r = elifs_right es f.0 h.0 in
         let a : selected_elifs w es ≡ None → Right p = λ e. elif_right (conds_of_elifs es) p f.1.0 (h.1 e).0 in (
-          (r.0, λ e. (a e, λ t. nodes_right ns (at_kept (is_kept (conds_of_elifs es) p.cond) ns (kept_by (conds_of_elifs es) p.cond p.line (r.1 e) (a e) t) q.1) ((h.1 e).1 t))),
+          (r.0, λ e. (a e, λ t. nodes_right ns (at_kept o (is_kept (conds_of_elifs es) p.cond) ns (kept_by (conds_of_elifs es) p.cond p.line (r.1 e) (a e) t) q.1) ((h.1 e).1 t))),
           λ e. let n : (selected_elifs w es ≡ None) × (where_true (w p.line) (selected w ns) ≡ None) = or_none (selected_elifs w es) (where_true (w p.line) (selected w ns)) e in
               not_any (conds_of_elifs es) p.cond (r.1 n.0) (not_yes p.cond p.line (a n.0) (where_none (w p.line) (selected w ns) n.1)),
         )

@@ -1,14 +1,11 @@
 -- A preprocessor with one choice at most ends in one state at most.
-use Rattle.std.proofs.Common.{◌≡◌, Bool, true, false, refl, sym, subst, arith}
-use Rattle.ud_model.specs.sections.Tree.{Opener, Nodes, Groups, Elifs}
+use Rattle.std.proofs.Common.{◌≡◌, true, false, refl, sym, subst, arith}
+use Rattle.ud_model.specs.sections.Tree.{Nodes, Groups, Elifs}
 use Rattle.ud_laws.specs.output.Processing.{Preprocessor, Processes, no_nodes, takes_line, includes_file, selects_group, ProcessesOne, no_group, true_group, true_before_else, else_group, ProcessesTrue, first_true, true_before, elif_true, NoneTrue, first_false, elif_false, HasOneChoice}
 
 module _ {S F L : Type 0} (p : Preprocessor S F L) (files : F → Nodes L) (one : HasOneChoice p) where
   differ : true ≡ false → ⊥
   differ e = cc
-
-  decides_at : (o : Opener L) (b : Bool) (s t u : S) → s ≡ t → p.decides t o b u → p.decides s o b u
-  decides_at o b s t u e d = subst (λ (x : S). p.decides x o b u) (sym e) d
 
   nodes_at : (ns : Nodes L) (s t u : S) → s ≡ t → Processes p files ns t u → Processes p files ns s u
   nodes_at ns s t u e g = subst (λ (x : S). Processes p files ns x u) (sym e) g
@@ -65,4 +62,4 @@ module _ {S F L : Type 0} (p : Preprocessor S F L) (files : F → Nodes L) (one 
     true_once (true_before h) (elif_true k e i) = absurd (true_or_none h k)
     true_once (elif_true h d g) (true_before k) = absurd (true_or_none k h)
     true_once (elif_true {o = o} {ns = ns} {t = t} {u = v} h d g) (elif_true {t = u} {u = w} {v = x} k e i) =
-        once g (nodes_at ns v w x (one.one_truth t o true true v w d (decides_at o true t u w (none_once h k) e)).1 i)
+        once g (nodes_at ns v w x (one.one_truth t o true true v w d (subst (λ (x : S). p.decides x o true w) (sym (none_once h k)) e)).1 i)

@@ -68,15 +68,12 @@ module _ {S F L : Type 0} (p : Preprocessor S F L) (files : F → Nodes L) (outp
   from_state : (ps : Nodes (Edited L)) (s t u : S) → s ≡ t → Processes out outputs ps t u → Processes out outputs ps s u
   from_state ps s t u e g = subst (λ (x : S). Processes out outputs ps x u) (sym e) g
 
-  decides_from : (o : Opener L) (b : Bool) (s t u : S) → s ≡ t → p.decides t o b u → p.decides s o b u
-  decides_from o b s t u e d = subst (λ (x : S). p.decides x o b u) (sym e) d
-
   -- A true group after none.
   now_true : (left : KeptGroups L) (part : Part) (o : Opener L) (c : Cond) (ps : Nodes (Edited L)) (s t u v : S) → LeftNone left s t → AgreesAs c true t u → p.decides t o true u →
       Processes out outputs ps u v → LeftTrue (with_group left part o c ps) s v
   now_true none_kept part o Yes ps s t u v h a d g = from_state ps s u v (h ∙ a.1) g
   now_true none_kept part o No ps s t u v h a d g = let e : true ≡ false = a.0 in cc
-  now_true none_kept part o Unknown ps s t u v h a d g = first_true (decides_from o true s t u h d) g
+  now_true none_kept part o Unknown ps s t u v h a d g = first_true (subst (λ (x : S). p.decides x o true u) (sym h) d) g
   now_true (replaced ms) part o c ps s t u v h a d g = absurd h
   now_true (kept_groups es) part o Yes ps s t u v h a d g = inr (t, h, from_state ps t u v a.1 g)
   now_true (kept_groups es) part o No ps s t u v h a d g = let e : true ≡ false = a.0 in cc

@@ -1,5 +1,6 @@
 -- Masking: bytes that leave the lexer's state unchanged, and how a text is shown with them.
 use Rattle.std.proofs.Common.{◌≡◌, ℕ, zero, suc, ◌+◌, ◌-◌, ◌<◌, ◌≤◌, ◌==◌, List, [], ◌∷◌, ◌++◌, length, take, drop, replicate, get_or, Bool, true, false, not, cond, ◌&&◌, if◌then◌else◌, Option, unwrap_or, is_some, refl, sym, ◌∙◌, ap, subst, append_assoc, append-nil, arith, ne_eqb}
+use Rattle.std.proofs.lemmas.Bool.{false_from_ne_true}
 use Rattle.std.specs.List.{position_or_len}
 use Rattle.std.proofs.lemmas.List.{take_all, take_rest, length-take-le, drop-take, take-take, take-append-drop}
 use Rattle.std.specs.Option.{option_to_list}
@@ -82,10 +83,7 @@ pub no_star_before : (bytes : List ℕ) (k : ℕ) → ((j : ℕ) → j < k → (
 no_star_before bytes zero none = tt
 no_star_before [] (suc k) none = tt
 no_star_before (b ∷ bytes) (suc k) none =
-    (no_star (b == star) (none 0 (omega arith)), no_star_before bytes k (λ j h. none (suc j) (omega arith)))
-  where
-    no_star : (t : Bool) → (t ≡ true → ⊥) → t ≡ false
-    no_star t h = grind arith
+    (false_from_ne_true (b == star) (none 0 (omega arith)), no_star_before bytes k (λ j h. none (suc j) (omega arith)))
 
 -- a prefix of bytes without a newline has none
 pub no_newline-take : (k : ℕ) (bytes : List ℕ) → NoNewline bytes → NoNewline (take k bytes)
