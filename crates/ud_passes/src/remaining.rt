@@ -1,9 +1,10 @@
 //! Where texts still mention a symbol of the options, listed or counted: conditions that name it,
 //! its definitions, and words after an `#else` or `#endif`.
 //!
-//! The search goes over a text line by line. Text lines are skipped many at once, up to one that
-//! may define a symbol. A conditional directive or a definition begins a mention, which goes on
-//! with the lines that its line joins. When the mention ends, its words are looked up.
+//! Most texts have no symbol's name anywhere, which a search for its bytes tells. In any other the
+//! search goes line by line. Text lines are skipped many at once, up to one that may define a
+//! symbol. A conditional directive or a definition begins a mention, which goes on with the lines
+//! that its line joins. When the mention ends, its words are looked up.
 //!
 //! `specs/remaining/Mentions.antt` defines the mentions of a text, `Definitions.antt` which lines
 //! define a symbol, and `ListedNames.antt` which mentions name one. `Reasons.antt` defines the
