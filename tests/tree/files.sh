@@ -59,8 +59,7 @@ test_refusals() {
   chmod 444 src/locked.c
   chmod 555 src/sealed
   $as any -DA src
-  says '0 changed, 0 unchanged, 4 faulty' \
-    'src/locked.c: Cannot be written: Permission denied' \
+  says '0 changed, 0 unchanged, 4 faulty' 'src/locked.c: Cannot be written: Permission denied' \
     "src/sealed/a.c: Its directory can't be written; -w writes into the file" \
     'src/closed/: Cannot be read: Permission denied' \
     'src/unreadable.c: Cannot be read: Permission denied'

@@ -99,6 +99,11 @@ src/c.c:7: #if A\'
   after '0 -r -n -x2 -DA -UB src/long.c' prints 'src/long.c:6: #if B || X' listed
   put src/open.c '#ifdef A\n#if X || A /* q\n#endif\n#endif\n'
   after 'any -r -n -x2 -iDA src/open.c' prints 'src/open.c:1: #if X || A /* q' listed
+  # A name over two lines is one, and four symbols are looked for in another way than five.
+  put src/b.c '#if V\\\nMS + 1\n#endif\n#if !VM\\\r\nS\r\n#endif\n#if V /*\n*/MS\n#endif\n'
+  for it in '' '-DB -DC -DD' '-DB -DC -DD -DE'; do
+    after "any -n -r -UVMS $it src/b.c" prints $'src/b.c:1: #if V\\\nsrc/b.c:4: #if !VM\\' listed
+  done
   tree -r -DOTHER=1 -UVMS2 src/none.c
   says_only '0 changed, 1 unchanged, 0 faulty' '0 conditions still name a symbol' \
     'no condition names OTHER' 'no condition names VMS2'
