@@ -17,7 +17,7 @@ ghost use Rattle.ud_model.specs.conditions.Symbols as ends;
 ghost use Rattle.ud_cond.specs.symbols.Keys as spec;
 ghost use Rattle.ud_cond.specs.symbols.SymbolTable.{TableRepresents, SetsEntry, name_cmp};
 ghost use Rattle.ud_cond.specs.symbols.SymbolTable.{same_key_cmp, IsRowOf, IsGapFor, name_at};
-ghost use Rattle.ud_cond.specs.symbols.SymbolTable.{AreSorted, LacksNames};
+ghost use Rattle.ud_cond.specs.symbols.SymbolTable.{AreSorted, LacksNames, MustSearch};
 ghost use Rattle.ud_cond.specs.CondViews.{as_entry, argument_for};
 
 use keys::key_of;
@@ -275,8 +275,9 @@ impl Symbols {
     ///
     /// Searches the text for each name. With more than `FEW_NAMES` names, the result is `true`.
     pub fn may_stand_in(&self, text: &[u8]) -> bool
-        ensures { (calls : List Argument) → TableRepresents self.now calls →
+        ensures lacks { (calls : List Argument) → TableRepresents self.now calls →
             result ≡ false → LacksNames calls text.now }
+        ensures must { result ≡ true → MustSearch self.now text.now }
     {
         if self.rows.len() > FEW_NAMES {
             return true;

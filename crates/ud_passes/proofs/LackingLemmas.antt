@@ -1,36 +1,52 @@
 -- Lacking texts: where no name stands and no word is split, no mention names a symbol.
-use Rattle.std.proofs.Common.{◌≡◌, ℕ, suc, ◌-◌, ◌==◌, ◌&&◌, ◌⊎◌, inl, inr, true≢false, List, [], ◌∷◌, ◌++◌, length, take, drop, take-append-drop, map, nat_eq, Bool, true, false, not, Option, Some, None, if◌then◌else◌, refl, sym, ◌∙◌, ap, subst, append_assoc, append-nil, arith}
+use Rattle.std.proofs.Common.{◌≡◌, ℕ, suc, ◌-◌, ◌==◌, ◌&&◌, ◌⊎◌, inl, inr, true≢false, List, []}
+use Rattle.std.proofs.Common.{◌∷◌, ◌++◌, length, take, drop, take-append-drop, map, nat_eq, Bool}
+use Rattle.std.proofs.Common.{true, false, not, Option, Some, None, if◌then◌else◌, refl, sym, ◌∙◌}
+use Rattle.std.proofs.Common.{ap, subst, append_assoc, append-nil, arith}
 use Rattle.std.specs.List.{concat, ends_with}
 use Rattle.std.proofs.lemmas.Bool.{and_parts, and_right, or_from, or_parts}
 use Rattle.std.proofs.lemmas.Bool.Decides.{Decides-eqb}
 use Rattle.std.proofs.lemmas.Grind.{common_steps}
 use Rattle.std.proofs.lemmas.Slice.Eq.{ends_is}
-use Rattle.ud_model.specs.text.Bytes.{space, backslash, newline, carriage_return, is_white, is_word_byte, leading_word, skip_word, skip_white}
+use Rattle.ud_model.specs.text.Bytes.{space, backslash, newline, carriage_return, is_white}
+use Rattle.ud_model.specs.text.Bytes.{is_word_byte, leading_word, skip_word, skip_white}
 use Rattle.ud_model.specs.text.Lines.{Line, line_at, ending_of, numbered_from, texts_of}
-use Rattle.ud_model.specs.text.Lexemes.{LexemeKind, block_comment, line_comment, literal, single, Cell, shown, shown_as}
-use Rattle.ud_model.specs.text.Splicing.{is_spliced, is_empty, content, stays_open, spliced_text, c_run_of}
+use Rattle.ud_model.specs.text.Lexemes.{LexemeKind, block_comment, line_comment, literal, single}
+use Rattle.ud_model.specs.text.Lexemes.{Cell, shown, shown_as}
+use Rattle.ud_model.specs.text.Splicing.{is_spliced, is_empty, content, stays_open, spliced_text}
+use Rattle.ud_model.specs.text.Splicing.{c_run_of}
 use Rattle.ud_model.specs.text.Scans.{Reading, Scan}
-use Rattle.ud_model.specs.text.Scanning.{is_block, joins, content_cells, scan_after_run, next_reading, readings_after}
+use Rattle.ud_model.specs.text.Scanning.{is_block, joins, content_cells, scan_after_run}
+use Rattle.ud_model.specs.text.Scanning.{next_reading, readings_after}
 use Rattle.ud_model.specs.aids.ReadAs.{in_mode, read_as}
-use Rattle.ud_model.specs.aids.LexStates.{LexState, in_text, kind_in_state, next_state, masked_byte, opens_comment, blank_last, state_after_line}
+use Rattle.ud_model.specs.aids.LexStates.{LexState, in_text, kind_in_state, next_state, masked_byte}
+use Rattle.ud_model.specs.aids.LexStates.{opens_comment, blank_last, state_after_line}
 use Rattle.ud_model.specs.declared.kind.Kind.{Kind}
 use Rattle.ud_model.specs.declared.kind.Kind.TheVariants.{Else, Endif}
 use Rattle.ud_model.specs.declared.kind.Mode.{Mode}
 use Rattle.ud_model.specs.declared.kind.Mode.TheVariants.{C, Plain}
-use Rattle.ud_model.specs.sections.Directives.{Directive, Content, directive, text, cut_keyword, content_of, skip_hash}
+use Rattle.ud_model.specs.sections.Directives.{Directive, Content, directive, text, cut_keyword}
+use Rattle.ud_model.specs.sections.Directives.{content_of, skip_hash}
 use Rattle.ud_model.specs.conditions.Table.{Argument, entry_in}
 use Rattle.ud_model.specs.conditions.Conditions.{is_listed}
 use Rattle.ud_model.proofs.text.LinesLemmas.{lines_exist, text_of-line_at}
-use Rattle.ud_model.proofs.text.ScanBytes.{bytes-content_cells, masked-content_cells, content-prefix}
-use Rattle.ud_model.proofs.text.ScanLaws.{place_after, white_after, masked_after, LexesTo-all, scan_from, scan_after_run-from}
+use Rattle.ud_model.proofs.text.ScanBytes.{bytes-content_cells, masked-content_cells}
+use Rattle.ud_model.proofs.text.ScanBytes.{content-prefix}
+use Rattle.ud_model.proofs.text.ScanLaws.{place_after, white_after, masked_after, LexesTo-all}
+use Rattle.ud_model.proofs.text.ScanLaws.{scan_from, scan_after_run-from}
 use Rattle.ud_model.proofs.output.DirectiveFront.{Front, directive_front}
 use Rattle.ud_cond.specs.symbols.SymbolTable.{LacksNames}
 use Rattle.ud_passes.specs.Passes.{fits}
-use Rattle.ud_passes.specs.remaining.Definitions.{defines, defines_by, defines_if, is_definer, is_definition}
-use Rattle.ud_passes.specs.remaining.Mentions.{Mention, class_of, shown_after, joins_next, joined_text, mention_at, with_text, begun, mention_by, mention_on, mentions_in, mentions_of}
-use Rattle.ud_passes.specs.remaining.ListedNames.{has_listed, names_listed, ends_in_word, begins_ending, splits_word}
+use Rattle.ud_passes.specs.remaining.Definitions.{defines, defines_by, defines_if, is_definer}
+use Rattle.ud_passes.specs.remaining.Definitions.{is_definition}
+use Rattle.ud_passes.specs.remaining.Mentions.{Mention, class_of, shown_after, joins_next}
+use Rattle.ud_passes.specs.remaining.Mentions.{joined_text, mention_at, with_text, begun}
+use Rattle.ud_passes.specs.remaining.Mentions.{mention_by, mention_on, mentions_in, mentions_of}
+use Rattle.ud_passes.specs.remaining.ListedNames.{has_listed, names_listed, ends_in_word}
+use Rattle.ud_passes.specs.remaining.ListedNames.{begins_ending, splits_word}
 use Rattle.ud_passes.specs.remaining.Searches.{Appends}
-use Rattle.ud_passes.specs.declared.remaining.mentions.Class.TheVariants.{Condition, Closing, Definition}
+use Rattle.ud_passes.specs.declared.remaining.mentions.Class.TheVariants.{Condition, Closing}
+use Rattle.ud_passes.specs.declared.remaining.mentions.Class.TheVariants.{Definition}
 use Rattle.ud_passes.specs.declared.remaining.search.Search.{Search}
 use Rattle.ud_passes.proofs.NameLemmas.{has_word-other, has_word-seam}
 use Rattle.ud_passes.proofs.SearchLemmas.{appends_more}
@@ -51,7 +67,8 @@ as_it_is literal b = inl refl
 as_it_is single b = inl refl
 
 -- The cells of bytes show them so.
-cells_fade : (cells : List Cell) (rest : List ℕ) → Fades (map (λ (c : Cell). c.byte) cells ++ rest) (map shown cells)
+cells_fade : (cells : List Cell) (rest : List ℕ) →
+    Fades (map (λ (c : Cell). c.byte) cells ++ rest) (map shown cells)
 cells_fade [] rest = tt
 cells_fade (c ∷ cells) rest = (by (as_it_is c.kind c.byte), cells_fade cells rest)
   where
@@ -69,23 +86,32 @@ word_kept bs [] f = (bs, refl)
 word_kept [] (x ∷ xs) f = absurd f
 word_kept (b ∷ bs) (x ∷ xs) f = by (is_word_byte x) f.0 (word_kept bs xs f.1)
   where
-    by : (w : Bool) → (w ≡ true → x ≡ b) → (rest : List ℕ) × (bs ≡ leading_word xs ++ rest) → (rest : List ℕ) × (b ∷ bs ≡ (if w then x ∷ leading_word xs else []) ++ rest)
-    by true e (rest, more) = (rest, ap (λ (y : ℕ). y ∷ bs) (sym (e refl)) ∙ ap (λ (l : List ℕ). x ∷ l) more)
+    by : (w : Bool) → (w ≡ true → x ≡ b) → (rest : List ℕ) × (bs ≡ leading_word xs ++ rest) →
+        (rest : List ℕ) × (b ∷ bs ≡ (if w then x ∷ leading_word xs else []) ++ rest)
+    by true e (rest, more) = (
+      rest,
+      ap (λ (y : ℕ). y ∷ bs) (sym (e refl)) ∙ ap
+          (λ (l : List ℕ). x ∷ l) more,
+    )
     by false e more = (b ∷ bs, refl)
 
 module _ (table : List Argument) where
   -- A part of bytes that lack names lacks them.
-  part_lacks : (before u after t : List ℕ) → t ≡ before ++ (u ++ after) → LacksNames table t → LacksNames table u
-  part_lacks before u after t e h p n s d = h (before ++ p) n (s ++ after) (grind (arith, append_assoc))
+  part_lacks : (before u after t : List ℕ) → t ≡ before ++ (u ++ after) → LacksNames table t →
+      LacksNames table u
+  part_lacks before u after t e h p n s d = h (before ++ p) n (s ++ after)
+      (grind (arith, append_assoc))
 
   rest_lacks : (b : ℕ) (bs : List ℕ) → LacksNames table (b ∷ bs) → LacksNames table bs
-  rest_lacks b bs h = part_lacks (b ∷ []) bs [] (b ∷ bs) (sym (ap (λ (l : List ℕ). b ∷ l) (append-nil bs))) h
+  rest_lacks b bs h = part_lacks (b ∷ []) bs [] (b ∷ bs)
+      (sym (ap (λ (l : List ℕ). b ∷ l) (append-nil bs))) h
 
   unlisted : (n : List ℕ) → entry_in table n ≡ None → is_listed table n ≡ false
   unlisted n e = grind (arith, e)
 
   -- No word of masked bytes is a name.
-  faded : (in_word : Bool) (bs xs : List ℕ) → Fades bs xs → LacksNames table bs → has_listed table in_word xs ≡ false
+  faded : (in_word : Bool) (bs xs : List ℕ) → Fades bs xs → LacksNames table bs →
+      has_listed table in_word xs ≡ false
   faded in_word bs [] f h = refl
   faded in_word [] (x ∷ xs) f h = absurd f
   faded true (b ∷ bs) (x ∷ xs) f h = faded (is_word_byte x) bs xs f.1 (rest_lacks b bs h)
@@ -93,39 +119,48 @@ module _ (table : List Argument) where
       let more = faded (is_word_byte x) bs xs f.1 (rest_lacks b bs h) in
       let kept = word_kept (b ∷ bs) (x ∷ xs) f in
       let none = unlisted (leading_word (x ∷ xs)) (h [] (leading_word (x ∷ xs)) kept.0 kept.1) in
-      or_from (is_word_byte x && is_listed table (leading_word (x ∷ xs))) (has_listed table (is_word_byte x) xs) (and_right (is_word_byte x) (is_listed table (leading_word (x ∷ xs))) none) more
+      or_from (is_word_byte x && is_listed table (leading_word (x ∷ xs)))
+      (has_listed table (is_word_byte x) xs)
+      (and_right (is_word_byte x) (is_listed table (leading_word (x ∷ xs))) none) more
 
   -- Nor one of their last bytes.
-  rest_faded : (bs p xs : List ℕ) → Fades bs (p ++ xs) → LacksNames table bs → has_listed table false xs ≡ false
+  rest_faded : (bs p xs : List ℕ) → Fades bs (p ++ xs) → LacksNames table bs →
+      has_listed table false xs ≡ false
   rest_faded bs [] xs f h = faded false bs xs f h
   rest_faded [] (c ∷ p) xs f h = absurd f
   rest_faded (b ∷ bs) (c ∷ p) xs f h = rest_faded bs p xs f.1 (rest_lacks b bs h)
 
   -- 2. Definitions.
 
-  either : (w : Bool) (t rest : List ℕ) → LacksNames table rest → LacksNames table t → LacksNames table (if w then rest else t)
+  either : (w : Bool) (t rest : List ℕ) → LacksNames table rest → LacksNames table t →
+      LacksNames table (if w then rest else t)
   either true t rest h k = h
   either false t rest h k = k
 
   white_lacks : (t : List ℕ) → LacksNames table t → LacksNames table (skip_white t)
   white_lacks [] h = h
-  white_lacks (b ∷ bs) h = either (is_white b) (b ∷ bs) (skip_white bs) (white_lacks bs (rest_lacks b bs h)) h
+  white_lacks (b ∷ bs) h = either (is_white b) (b ∷ bs) (skip_white bs)
+      (white_lacks bs (rest_lacks b bs h)) h
 
   word_lacks : (t : List ℕ) → LacksNames table t → LacksNames table (skip_word t)
   word_lacks [] h = h
-  word_lacks (b ∷ bs) h = either (is_word_byte b) (b ∷ bs) (skip_word bs) (word_lacks bs (rest_lacks b bs h)) h
+  word_lacks (b ∷ bs) h = either (is_word_byte b) (b ∷ bs) (skip_word bs)
+      (word_lacks bs (rest_lacks b bs h)) h
 
   first_unlisted : (t : List ℕ) → LacksNames table t → is_listed table (leading_word t) ≡ false
-  first_unlisted t h = let kept = word_kept t t (all_fade t) in unlisted (leading_word t) (h [] (leading_word t) kept.0 kept.1)
+  first_unlisted t h = let kept = word_kept t t (all_fade t) in unlisted (leading_word t)
+      (h [] (leading_word t) kept.0 kept.1)
 
   definer_lacks : (t : List ℕ) → LacksNames table t → defines_by table t ≡ false
   definer_lacks t h = let name = skip_white (skip_word t) in
-      and_right (is_definer (leading_word t)) (is_listed table (leading_word name)) (first_unlisted name (white_lacks (skip_word t) (word_lacks t h)))
+      and_right (is_definer (leading_word t)) (is_listed table (leading_word name))
+      (first_unlisted name (white_lacks (skip_word t) (word_lacks t h)))
 
   defines_nothing : (t : List ℕ) → LacksNames table t → defines table t ≡ false
   defines_nothing t h = by (skip_white t) (white_lacks t h)
     where
-      by_sign : (sign : Bool) (bs : List ℕ) → LacksNames table bs → defines_if table (if sign then Some bs else None) ≡ false
+      by_sign : (sign : Bool) (bs : List ℕ) → LacksNames table bs →
+          defines_if table (if sign then Some bs else None) ≡ false
       by_sign true bs k = definer_lacks (skip_white bs) (white_lacks bs k)
       by_sign false bs k = refl
 
@@ -135,17 +170,21 @@ module _ (table : List Argument) where
 
 -- 3. Where words end.
 
-ends_last : (in_word : Bool) (xs : List ℕ) (y : ℕ) → ends_in_word in_word (xs ++ y ∷ []) ≡ is_word_byte y
+ends_last : (in_word : Bool) (xs : List ℕ) (y : ℕ) →
+    ends_in_word in_word (xs ++ y ∷ []) ≡ is_word_byte y
 ends_last in_word [] y = refl
 ends_last in_word (x ∷ xs) y = ends_last (is_word_byte x) xs y
 
-ends_rest : (in_word : Bool) (p xs : List ℕ) → ends_in_word in_word (p ++ xs) ≡ false → ends_in_word false xs ≡ false
+ends_rest : (in_word : Bool) (p xs : List ℕ) → ends_in_word in_word (p ++ xs) ≡ false →
+    ends_in_word false xs ≡ false
 ends_rest in_word p [] e = refl
 ends_rest in_word [] (x ∷ xs) e = e
 ends_rest in_word (c ∷ p) (x ∷ xs) e = ends_rest (is_word_byte c) p (x ∷ xs) e
 
 -- Masked cells end in a word byte only if their bytes do.
-cells_end : (in_word : Bool) (cells : List Cell) → ends_in_word in_word (map (λ (c : Cell). c.byte) cells) ≡ false → ends_in_word in_word (map shown cells) ≡ false
+cells_end : (in_word : Bool) (cells : List Cell) →
+    ends_in_word in_word (map (λ (c : Cell). c.byte) cells) ≡ false →
+    ends_in_word in_word (map shown cells) ≡ false
 cells_end in_word [] e = e
 cells_end in_word (c ∷ []) e = by (as_it_is c.kind c.byte)
   where
@@ -155,22 +194,31 @@ cells_end in_word (c ∷ []) e = by (as_it_is c.kind c.byte)
 cells_end in_word (c ∷ d ∷ cells) e = cells_end in_word (d ∷ cells) e
 
 -- Bytes that end in a block comment end in a space.
-open_blank : (bytes : List ℕ) (w : LexState) (masked : List ℕ) → is_block (kind_in_state (place_after w bytes)) ≡ true →
-    (is_block (kind_in_state w) ≡ true → ends_in_word false masked ≡ false) → ends_in_word false (masked_after w masked bytes) ≡ false
+open_blank : (bytes : List ℕ) (w : LexState) (masked : List ℕ) →
+    is_block (kind_in_state (place_after w bytes)) ≡ true →
+    (is_block (kind_in_state w) ≡ true → ends_in_word false masked ≡ false) →
+    ends_in_word false (masked_after w masked bytes) ≡ false
 open_blank [] w masked e h = h e
 open_blank (b ∷ bytes) w masked e h =
-    open_blank bytes (next_state w b) ((if opens_comment w b then blank_last masked else masked) ++ masked_byte w b ∷ []) e
-    (λ inside. ends_last false (if opens_comment w b then blank_last masked else masked) (masked_byte w b) ∙ blank w b inside)
+    open_blank bytes (next_state w b) ((if opens_comment w b then blank_last masked else masked) ++
+    masked_byte w b ∷ []) e
+    (λ inside. ends_last false (if opens_comment w b then blank_last masked else masked)
+    (masked_byte w b) ∙ blank w b inside)
   where
-    blank : (w : LexState) (b : ℕ) → is_block (kind_in_state (next_state w b)) ≡ true → is_word_byte (masked_byte w b) ≡ false
+    blank : (w : LexState) (b : ℕ) → is_block (kind_in_state (next_state w b)) ≡ true →
+        is_word_byte (masked_byte w b) ≡ false
     blank w b inside = let none : is_word_byte space ≡ false = refl in grind (arith, inside, none)
 
 -- A backslash that splits no word follows none.
-unsplit_before : (in_word : Bool) (p s : List ℕ) → splits_word in_word (p ++ backslash ∷ s) ≡ false → begins_ending s ≡ true → ends_in_word in_word p ≡ false
+unsplit_before : (in_word : Bool) (p s : List ℕ) →
+    splits_word in_word (p ++ backslash ∷ s) ≡ false → begins_ending s ≡ true →
+    ends_in_word in_word p ≡ false
 unsplit_before true [] s e b = grind (arith, e, b)
 unsplit_before false [] s e b = refl
 unsplit_before in_word (c ∷ p) s e b =
-    unsplit_before (is_word_byte c) p s (or_parts (in_word && (c == backslash) && begins_ending (p ++ backslash ∷ s)) (splits_word (is_word_byte c) (p ++ backslash ∷ s)) e).1 b
+    unsplit_before (is_word_byte c) p s (or_parts
+    (in_word && (c == backslash) && begins_ending (p ++ backslash ∷ s))
+    (splits_word (is_word_byte c) (p ++ backslash ∷ s)) e).1 b
 
 -- 4. Readings whose lines lack names.
 
@@ -185,28 +233,36 @@ AreLacking table [] = Unit {0}
 AreLacking table (r ∷ rs) = IsLacking table r × AreLacking table rs
 
 -- A line that joins the next one ends in no word.
-code_ended : (run : List Line) (l : Line) → (is_spliced l ≡ true → ends_in_word false (content l) ≡ false) →
-    (scan_after_run run l).joins_after ≡ true → ends_in_word false (scan_after_run run l).masked ≡ false
+code_ended : (run : List Line) (l : Line) → (is_spliced l ≡ true →
+    ends_in_word false (content l) ≡ false) →
+    (scan_after_run run l).joins_after ≡ true →
+    ends_in_word false (scan_after_run run l).masked ≡ false
 unfolding scan_after_run scan_from
 code_ended run l unsplit e = by (is_spliced l) refl
   where
     w : LexState
     w = place_after in_text (spliced_text run)
 
-    from : scan_after_run run l ≡ scan_from w (white_after in_text true (spliced_text run)) (joins run) l
-    from = scan_after_run-from run l w (white_after in_text true (spliced_text run)) (joins run) (LexesTo-all (spliced_text run)) refl
+    from : scan_after_run run l ≡ scan_from w (white_after in_text true (spliced_text run))
+        (joins run) l
+    from = scan_after_run-from run l w (white_after in_text true (spliced_text run)) (joins run)
+        (LexesTo-all (spliced_text run)) refl
 
-    close : (stays : Bool) (v : LexState) → is_block (kind_in_state (state_after_line stays v)) ≡ true → is_block (kind_in_state v) ≡ true
+    close : (stays : Bool) (v : LexState) → is_block (kind_in_state (state_after_line stays v)) ≡
+        true → is_block (kind_in_state v) ≡ true
     close true v k = k
     close false v k = grind (arith, k)
 
     by : (s : Bool) → is_spliced l ≡ s → ends_in_word false (scan_after_run run l).masked ≡ false
-    by true s = cells_end false (content_cells run l) (ap (ends_in_word false) (bytes-content_cells run l) ∙ unsplit s)
+    by true s = cells_end false (content_cells run l)
+        (ap (ends_in_word false) (bytes-content_cells run l) ∙ unsplit s)
     by false s = ap (λ (x : Scan). ends_in_word false x.masked) from
-        ∙ open_blank (content l) w [] (close (stays_open l) (place_after w (content l)) (grind (arith, s, ap (λ (x : Scan). x.joins_after) from, e))) (λ k. refl)
+        ∙ open_blank (content l) w [] (close (stays_open l) (place_after w (content l))
+        (grind (arith, s, ap (λ (x : Scan). x.joins_after) from, e))) (λ k. refl)
 
 module _ (table : List Argument) where
-  read_lacking : (before : List Reading) (m : Mode) (l : Line) → LacksNames table l.body → (is_spliced l ≡ true → ends_in_word false (content l) ≡ false) →
+  read_lacking : (before : List Reading) (m : Mode) (l : Line) → LacksNames table l.body →
+      (is_spliced l ≡ true → ends_in_word false (content l) ≡ false) →
       IsLacking table (next_reading before m l)
   read_lacking before Plain l h u = record { lacks = h; fades = all_fade l.body; ended = λ e. cc }
   read_lacking before C l h u =
@@ -215,13 +271,17 @@ module _ (table : List Argument) where
       record {
         lacks = h;
         fades = subst (λ (x : List ℕ). Fades l.body x) (sym (masked-content_cells before l))
-            (subst (λ (x : List ℕ). Fades x (map shown cells)) (ap (λ (x : List ℕ). x ++ front.0) (bytes-content_cells (c_run_of before) l) ∙ sym front.1) (cells_fade cells front.0));
+            (subst (λ (x : List ℕ). Fades x (map shown cells))
+            (ap (λ (x : List ℕ). x ++ front.0) (bytes-content_cells (c_run_of before) l) ∙ sym
+            front.1) (cells_fade cells front.0));
         ended = code_ended (c_run_of before) l u;
       }
 
   -- The ending of a line begins so, whatever comes after it.
-  begins : (l after : List ℕ) → not (is_empty (ending_of l)) ≡ true → begins_ending (ending_of l ++ after) ≡ true
-  begins l after = by (ends_with nat_eq l (carriage_return ∷ newline ∷ [])) (ends_with nat_eq l (newline ∷ []))
+  begins : (l after : List ℕ) → not (is_empty (ending_of l)) ≡ true →
+      begins_ending (ending_of l ++ after) ≡ true
+  begins l after = by (ends_with nat_eq l (carriage_return ∷ newline ∷ []))
+      (ends_with nat_eq l (newline ∷ []))
     where
       e : Bool → Bool → List ℕ
       e x y = if x then carriage_return ∷ newline ∷ [] else if y then newline ∷ [] else []
@@ -232,56 +292,83 @@ module _ (table : List Argument) where
       by false false some = cc
 
   -- A splice in an unsplit text follows no word.
-  unspliced : (l : Line) (before after t : List ℕ) → t ≡ before ++ ((l.body ++ l.ending) ++ after) → (not (is_empty l.ending) ≡ true → begins_ending (l.ending ++ after) ≡ true) →
+  unspliced : (l : Line) (before after t : List ℕ) → t ≡ before ++ ((l.body ++ l.ending) ++ after) →
+      (not (is_empty l.ending) ≡ true → begins_ending (l.ending ++ after) ≡ true) →
       splits_word false t ≡ false → is_spliced l ≡ true → ends_in_word false (content l) ≡ false
   unspliced l before after t e b u s =
       let c = take (length l.body - 1) l.body in
-      let parts = and_parts (ends_with nat_eq l.body (backslash ∷ [])) (not (is_empty l.ending)) s in
-      let body : l.body ≡ c ++ backslash ∷ [] = (ends_is Decides-eqb l.body (backslash ∷ []) (ends_with nat_eq l.body (backslash ∷ [])) refl).0 parts.0 in
-      let is : t ≡ (before ++ c) ++ backslash ∷ (l.ending ++ after) = e ∙ ap (λ (x : List ℕ). before ++ ((x ++ l.ending) ++ after)) body ∙ grind (arith, append_assoc) in
+      let parts = and_parts (ends_with nat_eq l.body (backslash ∷ [])) (not (is_empty l.ending)) s
+      in
+      let body : l.body ≡ c ++ backslash ∷ [] =
+      (ends_is Decides-eqb l.body (backslash ∷ []) (ends_with nat_eq l.body (backslash ∷ []))
+      refl).0 parts.0 in
+      let is : t ≡ (before ++ c) ++ backslash ∷ (l.ending ++ after) = e ∙ ap
+      (λ (x : List ℕ). before ++ ((x ++ l.ending) ++ after)) body ∙ grind (arith, append_assoc)
+      in
       ap (λ (x : Bool). ends_in_word false (if x then c else l.body)) s
-      ∙ ends_rest false before c (unsplit_before false (before ++ c) (l.ending ++ after) (ap (splits_word false) (sym is) ∙ u) (b parts.1))
+      ∙ ends_rest false before c (unsplit_before false (before ++ c) (l.ending ++ after)
+      (ap (splits_word false) (sym is) ∙ u) (b parts.1))
 
-  one_more : (rs : List Reading) (r : Reading) → AreLacking table rs → IsLacking table r → AreLacking table (rs ++ r ∷ [])
+  one_more : (rs : List Reading) (r : Reading) → AreLacking table rs → IsLacking table r →
+      AreLacking table (rs ++ r ∷ [])
   one_more [] r h k = (k, tt)
   one_more (q ∷ rs) r h k = (h.0, one_more rs r h.1 k)
 
-  all_lacking : (t : List ℕ) → LacksNames table t → splits_word false t ≡ false → (m : Mode) (rs : List Reading) (n : ℕ) (before : List ℕ) (ls : List (List ℕ)) →
-      AreLacking table rs → t ≡ before ++ concat ls → AreLacking table (readings_after rs (map (in_mode m) (numbered_from n ls)))
+  all_lacking : (t : List ℕ) → LacksNames table t → splits_word false t ≡ false →
+      (m : Mode) (rs : List Reading) (n : ℕ) (before : List ℕ) (ls : List (List ℕ)) →
+      AreLacking table rs → t ≡ before ++ concat ls →
+      AreLacking table (readings_after rs (map (in_mode m) (numbered_from n ls)))
   all_lacking t h u m rs n before [] k e = k
   all_lacking t h u m rs n before (l ∷ ls) k e =
       let line : Line = line_at n l in
-      let is : t ≡ before ++ ((line.body ++ line.ending) ++ concat ls) = e ∙ ap (λ (x : List ℕ). before ++ (x ++ concat ls)) (sym (text_of-line_at n l)) in
-      let lacks = part_lacks table before line.body (line.ending ++ concat ls) t (is ∙ ap (λ (x : List ℕ). before ++ x) (append_assoc line.body line.ending (concat ls))) h in
+      let is : t ≡ before ++ ((line.body ++ line.ending) ++ concat ls) = e ∙ ap
+      (λ (x : List ℕ). before ++ (x ++ concat ls)) (sym (text_of-line_at n l)) in
+      let lacks = part_lacks table before line.body (line.ending ++ concat ls) t
+      (is ∙ ap (λ (x : List ℕ). before ++ x) (append_assoc line.body line.ending (concat ls))) h
+      in
       all_lacking t h u m (rs ++ next_reading rs m line ∷ []) (suc n) (before ++ l) ls
-      (one_more rs (next_reading rs m line) k (read_lacking rs m line lacks (unspliced line before (concat ls) t is (begins l (concat ls)) u)))
+      (one_more rs (next_reading rs m line) k (read_lacking rs m line lacks
+      (unspliced line before (concat ls) t is (begins l (concat ls)) u)))
       (e ∙ sym (append_assoc before l (concat ls)))
 
   -- 5. Mentions.
 
   -- No text of a mention has a name.
-  condition_unnamed : (kind : Kind) (xs : List ℕ) (goes_on : Bool) (rs : List Reading) → AreLacking table rs → has_listed table false xs ≡ false →
-      (goes_on ≡ true → ends_in_word false xs ≡ false) → has_listed table false (xs ++ joined_text (Condition kind) goes_on rs) ≡ false
+  condition_unnamed : (kind : Kind) (xs : List ℕ) (goes_on : Bool) (rs : List Reading) →
+      AreLacking table rs → has_listed table false xs ≡ false →
+      (goes_on ≡ true → ends_in_word false xs ≡ false) →
+      has_listed table false (xs ++ joined_text (Condition kind) goes_on rs) ≡ false
   condition_unnamed kind xs false rs h e ended = rw (append-nil xs) e
   condition_unnamed kind xs true [] h e ended = rw (append-nil xs) e
   condition_unnamed kind xs true (r ∷ rs) h e ended =
-      by (fits r.line) (condition_unnamed kind r.scan.masked r.scan.joins_after rs h.1 (faded table false r.line.body r.scan.masked h.0.fades h.0.lacks) h.0.ended)
+      by (fits r.line) (condition_unnamed kind r.scan.masked r.scan.joins_after rs h.1
+      (faded table false r.line.body r.scan.masked h.0.fades h.0.lacks) h.0.ended)
     where
-      by : (f : Bool) → has_listed table false (r.scan.masked ++ joined_text (Condition kind) r.scan.joins_after rs) ≡ false →
-          has_listed table false (xs ++ ((if f then r.scan.masked else []) ++ joined_text (Condition kind) (f && r.scan.joins_after) rs)) ≡ false
-      by true more = has_word-seam (is_listed table) false xs (r.scan.masked ++ joined_text (Condition kind) r.scan.joins_after rs) (ended refl) ∙ or_from (has_listed table false xs) _ e more
+      by : (f : Bool) → has_listed table false
+          (r.scan.masked ++ joined_text (Condition kind) r.scan.joins_after rs) ≡ false →
+          has_listed table false (xs ++ ((if f then r.scan.masked else []) ++ joined_text
+          (Condition kind) (f && r.scan.joins_after) rs)) ≡ false
+      by true more = has_word-seam (is_listed table) false xs
+          (r.scan.masked ++ joined_text (Condition kind) r.scan.joins_after rs) (ended refl) ∙
+          or_from (has_listed table false xs) _ e more
       by false more = rw (append-nil xs) e
 
-  closing_unnamed : (xs : List ℕ) (goes_on : Bool) (rs : List Reading) → AreLacking table rs → has_listed table false xs ≡ false →
+  closing_unnamed : (xs : List ℕ) (goes_on : Bool) (rs : List Reading) → AreLacking table rs →
+      has_listed table false xs ≡ false →
       has_listed table false (xs ++ joined_text Closing goes_on rs) ≡ false
   closing_unnamed xs false rs h e = rw (append-nil xs) e
   closing_unnamed xs true [] h e = rw (append-nil xs) e
   closing_unnamed xs true (r ∷ rs) h e =
-      by (fits r.line) (closing_unnamed r.line.body r.scan.joins_after rs h.1 (faded table false r.line.body r.line.body (all_fade r.line.body) h.0.lacks))
+      by (fits r.line) (closing_unnamed r.line.body r.scan.joins_after rs h.1
+      (faded table false r.line.body r.line.body (all_fade r.line.body) h.0.lacks))
     where
-      by : (f : Bool) → has_listed table false (r.line.body ++ joined_text Closing r.scan.joins_after rs) ≡ false →
-          has_listed table false (xs ++ ((if f then space ∷ r.line.body else []) ++ joined_text Closing (f && r.scan.joins_after) rs)) ≡ false
-      by true more = has_word-other (is_listed table) false xs (r.line.body ++ joined_text Closing r.scan.joins_after rs) space refl ∙ or_from (has_listed table false xs) _ e more
+      by : (f : Bool) → has_listed table false
+          (r.line.body ++ joined_text Closing r.scan.joins_after rs) ≡ false →
+          has_listed table false (xs ++ ((if f then space ∷ r.line.body else []) ++ joined_text
+          Closing (f && r.scan.joins_after) rs)) ≡ false
+      by true more = has_word-other (is_listed table) false xs
+          (r.line.body ++ joined_text Closing r.scan.joins_after rs) space refl ∙ or_from
+          (has_listed table false xs) _ e more
       by false more = rw (append-nil xs) e
 
   -- `AreUnnamed ms`: none of the mentions `ms` names a symbol.
@@ -292,9 +379,11 @@ module _ (table : List Argument) where
   -- The mention that begins on a line, if any, with the lines that it joins.
   abbrev IsUnnamed : Reading → List Reading → Option Mention → Type 0
   IsUnnamed r rs None = Unit {0}
-  IsUnnamed r rs (Some m) = names_listed table (with_text m (joined_text m.class (joins_next r) rs)) ≡ false
+  IsUnnamed r rs (Some m) = names_listed table (with_text m (joined_text m.class (joins_next r) rs))
+      ≡ false
 
-  directive_unnamed : (r : Reading) (rs : List Reading) (d : Directive) → IsLacking table r → AreLacking table rs → content_of r.scan ≡ directive d →
+  directive_unnamed : (r : Reading) (rs : List Reading) (d : Directive) → IsLacking table r →
+      AreLacking table rs → content_of r.scan ≡ directive d →
       IsUnnamed r rs (Some (mention_at r (class_of d.kind) (shown_after r d (class_of d.kind))))
   directive_unnamed r rs d h k e = by d.kind
     where
@@ -307,59 +396,81 @@ module _ (table : List Argument) where
       is : r.scan.masked ≡ before ++ d.after
       is = f.masked_is ∙ sym (append_assoc (f.white ++ 35 ∷ f.gap) f.word d.after)
 
-      condition : (kind : Kind) → has_listed table false (d.after ++ joined_text (Condition kind) (joins_next r) rs) ≡ false
+      condition : (kind : Kind) → has_listed table false
+          (d.after ++ joined_text (Condition kind) (joins_next r) rs) ≡ false
       condition kind = condition_unnamed kind d.after (joins_next r) rs k
-          (rest_faded table r.line.body before d.after (subst (λ (x : List ℕ). Fades r.line.body x) is h.fades) h.lacks)
-          (λ g. ends_rest false before d.after (ap (ends_in_word false) (sym is) ∙ h.ended (and_parts (fits r.line) r.scan.joins_after g).1))
+          (rest_faded table r.line.body before d.after
+          (subst (λ (x : List ℕ). Fades r.line.body x) is h.fades) h.lacks)
+          (λ g. ends_rest false before d.after
+          (ap (ends_in_word false) (sym is) ∙ h.ended
+          (and_parts (fits r.line) r.scan.joins_after g).1))
 
       n : ℕ
       n = length r.scan.masked - length d.after
 
-      closing : has_listed table false (drop n r.line.body ++ joined_text Closing (joins_next r) rs) ≡ false
+      closing : has_listed table false (drop n r.line.body ++ joined_text Closing (joins_next r) rs)
+          ≡ false
       closing = closing_unnamed (drop n r.line.body) (joins_next r) rs k
-          (rest_faded table r.line.body (take n r.line.body) (drop n r.line.body) (subst (λ (x : List ℕ). Fades r.line.body x) (sym (take-append-drop n r.line.body)) (all_fade r.line.body)) h.lacks)
+          (rest_faded table r.line.body (take n r.line.body) (drop n r.line.body)
+          (subst (λ (x : List ℕ). Fades r.line.body x) (sym (take-append-drop n r.line.body))
+          (all_fade r.line.body)) h.lacks)
 
-      by : (kind : Kind) → IsUnnamed r rs (Some (mention_at r (class_of kind) (shown_after r d (class_of kind))))
+      by : (kind : Kind) → IsUnnamed r rs (Some
+          (mention_at r (class_of kind) (shown_after r d (class_of kind))))
       by Else = closing
       by Endif = closing
       by kind = condition kind
 
-  line_unnamed : (r : Reading) (rs : List Reading) → IsLacking table r → AreLacking table rs → IsUnnamed r rs (mention_on table r)
+  line_unnamed : (r : Reading) (rs : List Reading) → IsLacking table r → AreLacking table rs →
+      IsUnnamed r rs (mention_on table r)
   line_unnamed r rs h k = by_fit (fits r.line)
     where
       none : is_definition table r ≡ false
       none = and_right r.scan.fresh (defines table r.scan.masked && defines table r.line.body)
-          (and_right (defines table r.scan.masked) (defines table r.line.body) (defines_nothing table r.line.body h.lacks))
+          (and_right (defines table r.scan.masked) (defines table r.line.body)
+          (defines_nothing table r.line.body h.lacks))
 
       by : (c : Content) → content_of r.scan ≡ c → IsUnnamed r rs (mention_by table r c)
       by cut_keyword e = tt
-      by text e = subst (λ (x : Bool). IsUnnamed r rs (if x then Some (mention_at r Definition []) else None)) (sym none) tt
+      by text e = subst (λ (x : Bool). IsUnnamed r rs
+          (if x then Some (mention_at r Definition []) else None)) (sym none) tt
       by (directive d) e = directive_unnamed r rs d h k e
 
-      by_fit : (f : Bool) → IsUnnamed r rs (if f then mention_by table r (content_of r.scan) else None)
+      by_fit : (f : Bool) → IsUnnamed r rs (if f then mention_by table r (content_of r.scan) else
+          None)
       by_fit true = by (content_of r.scan) refl
       by_fit false = tt
 
-  are_unnamed : (inside : Bool) (rs : List Reading) → AreLacking table rs → AreUnnamed (mentions_in table inside rs)
+  are_unnamed : (inside : Bool) (rs : List Reading) → AreLacking table rs →
+      AreUnnamed (mentions_in table inside rs)
   are_unnamed true [] h = tt
   are_unnamed false [] h = tt
   are_unnamed true (r ∷ rs) h = are_unnamed (joins_next r) rs h.1
-  are_unnamed false (r ∷ rs) h = by (mention_on table r) (line_unnamed r rs h.0 h.1) (are_unnamed (joins_next r) rs h.1) (are_unnamed false rs h.1)
+  are_unnamed false (r ∷ rs) h = by (mention_on table r) (line_unnamed r rs h.0 h.1)
+      (are_unnamed (joins_next r) rs h.1) (are_unnamed false rs h.1)
     where
-      by : (p : Option Mention) → IsUnnamed r rs p → AreUnnamed (mentions_in table (joins_next r) rs) → AreUnnamed (mentions_in table false rs) →
-          AreUnnamed (begun p (joins_next r) rs (mentions_in table (joins_next r) rs) (mentions_in table false rs))
+      by : (p : Option Mention) → IsUnnamed r rs p →
+          AreUnnamed (mentions_in table (joins_next r) rs) →
+          AreUnnamed (mentions_in table false rs) →
+          AreUnnamed (begun p (joins_next r) rs (mentions_in table (joins_next r) rs)
+          (mentions_in table false rs))
       by None u inside others = others
       by (Some m) u inside others = (u, inside)
 
 -- 6. What is appended: nothing.
-unnamed_append : (table : List Argument) (name : List ℕ) (ms : List Mention) (now : Search) → AreUnnamed table ms → Appends table name ms now now
+unnamed_append : (table : List Argument) (name : List ℕ) (ms : List Mention) (now : Search) →
+    AreUnnamed table ms → Appends table name ms now now
 unnamed_append table name [] now u = grind (arith, common_steps, append-nil)
 unnamed_append table name (m ∷ ms) now u =
-    appends_more table name (m ∷ []) ms now now now (grind (arith, u.0, append-nil, and_right, common_steps)) (unnamed_append table name ms now u.1)
+    appends_more table name (m ∷ []) ms now now now
+    (grind (arith, u.0, append-nil, and_right, common_steps))
+    (unnamed_append table name ms now u.1)
 
 -- So nothing is appended for such a text.
-pub appends_nothing : (table : List Argument) (mode : Mode) (name t : List ℕ) (now : Search) → LacksNames table t → splits_word false t ≡ false →
+pub appends_nothing : (table : List Argument) (mode : Mode) (name t : List ℕ) (now : Search) →
+    LacksNames table t → splits_word false t ≡ false →
     Appends table name (mentions_of table mode t) now now
 appends_nothing table mode name t now h u =
     unnamed_append table name (mentions_of table mode t) now
-    (are_unnamed table false (read_as mode t) (all_lacking table t h u mode [] 1 [] (texts_of t) tt (lines_exist t).joined))
+    (are_unnamed table false (read_as mode t) (all_lacking table t h u mode [] 1 [] (texts_of t) tt
+    (lines_exist t).joined))

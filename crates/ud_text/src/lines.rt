@@ -18,7 +18,7 @@ ghost use Rattle.ud_text.specs.lines.LinesState.{LinesRepresent, UpToNewline, Br
 ghost use Rattle.ud_text.specs.lines.LinesState.{with_fault, HasCapacity, IsComplete, IsLastLine};
 ghost use Rattle.ud_text.specs.lines.LinesState.{IsLineOf, Closes, untaken};
 ghost use Rattle.ud_model.specs.aids.LineViews.{as_line};
-ghost use Rattle.ud_text.specs.lines.Consuming.{CanConsume, EachFits};
+ghost use Rattle.ud_text.specs.lines.Consuming.{CanConsume, EachFits, FirstIsLong};
 ghost use Rattle.ud_text.specs.bulk.BulkScanning.{AreWholeLines};
 
 use crate::searching::simd::find_in_lanes;
@@ -276,7 +276,7 @@ impl<H: LineBuffer> Lines<H> {
         ensures whole_lines { 0 < result → CanConsume self.now (take result chunk.now) }
         ensures most { self.now.held ≡ [] → self.now.fault ≡ None →
             self.now.before + length chunk.now ≤ self.now.last_line →
-            (used : ℕ) → UpToNewline (drop result chunk.now) used true → LINE_BYTES < used }
+            FirstIsLong (drop result chunk.now) }
     {
         if self.fault.is_some() || !self.buffer.as_slice().is_empty() {
             return 0;
@@ -479,8 +479,7 @@ fn up_to_newline(chunk: &[u8]) -> Taken
 /// line has more than `LINE_BYTES`.
 fn first_line(chunk: &[u8]) -> Option<&[u8]>
     ensures some { IfSome result (λ line. IsFirstLine chunk.now line.now) }
-    ensures none { IfNone result ((used : ℕ) → UpToNewline chunk.now used true →
-        LINE_BYTES < used) }
+    ensures none { IfNone result (FirstIsLong chunk.now) }
 {
     let taken = up_to_newline(chunk);
     if taken.whole && taken.used <= LINE_BYTES {

@@ -2,13 +2,15 @@
 -- `ud_model.specs.conditions.Table` defines the entry that a list of calls gives a name.
 -- (unifdef(1), `-D`, `-U`, `-iD`, `-iU`)
 use Rattle.std.specs.Prelude.{◌≡◌, ℕ, ◌<◌, ◌≤◌, List, [], ◌++◌, length, get_or, None, Some}
-use Rattle.std.specs.Prelude.{bytes_eq, false, if◌then◌else◌}
+use Rattle.std.specs.Prelude.{bytes_eq, false, if◌then◌else◌, ◌⊎◌}
 use Rattle.std.specs.Ordering.{nat_cmp, ordering_then}
 use Rattle.std.specs.declared.cmp.Ordering.{Ordering}
 use Rattle.std.specs.declared.cmp.Ordering.TheVariants.{Less, Greater}
 use Rattle.std.specs.Cmp.Lexicographic.{slice_cmp}
+use Rattle.memchr.specs.Find.{OccursAt}
 use Rattle.ud_model.specs.conditions.Table.{Argument, entry_in}
 use Rattle.ud_cond.specs.symbols.Keys.{key_of}
+use Rattle.ud_cond.specs.declared.symbols.TheConstants.{FEW_NAMES}
 
 -- `TableRepresents table calls`: the table gives each name the entry that the accepted calls so far
 -- give it
@@ -59,3 +61,9 @@ pub record IsGapFor (rows : List Argument) (i : ℕ) (name : List ℕ) : Type 0 
 abbrev pub LacksNames : List Argument → List ℕ → Type 0
 LacksNames table text = (before name after : List ℕ) → text ≡ before ++ (name ++ after) →
     entry_in table name ≡ None
+
+-- `MustSearch rows text`: there are more than `FEW_NAMES` rows, or the name of one stands in the
+-- text
+abbrev pub MustSearch : List Argument → List ℕ → Type 0
+MustSearch rows text = (FEW_NAMES < length rows) ⊎
+    ((i k : ℕ) × (i < length rows) × OccursAt text (name_at rows i) k)

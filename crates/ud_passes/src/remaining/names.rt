@@ -1,12 +1,12 @@
 //! The names in a text that symbols have.
 
-ghost use Rattle.std.specs.Prelude.{◌≡◌, ◌&&◌, ◌≤◌, List, ℕ, false, length, bytes_eq};
+ghost use Rattle.std.specs.Prelude.{◌≡◌, ◌&&◌, ◌≤◌, ◌⊎◌, List, ℕ, true, false, length, bytes_eq};
 ghost use Rattle.std.specs.List.{list_any};
 ghost use Rattle.ud_model.specs.conditions.Conditions.{is_listed};
 ghost use Rattle.ud_model.specs.conditions.Names.{names_of};
 ghost use Rattle.ud_model.specs.conditions.Table.{Argument};
 ghost use Rattle.ud_model.specs.declared.limits.TheConstants.{LINE_BYTES};
-ghost use Rattle.ud_cond.specs.symbols.SymbolTable.{TableRepresents, LacksNames};
+ghost use Rattle.ud_cond.specs.symbols.SymbolTable.{TableRepresents, LacksNames, MustSearch};
 ghost use Rattle.ud_passes.specs.remaining.ListedNames.{has_listed, has_word, ends_in_word};
 ghost use Rattle.ud_passes.specs.remaining.ListedNames.{begins_ending, splits_word};
 
@@ -98,6 +98,8 @@ pub(crate) fn may_name(symbols: &Symbols, text: &[u8]) -> bool
     ensures lacks { (calls : List Argument) → TableRepresents symbols.now calls →
         result ≡ false → LacksNames calls text.now }
     ensures unsplit { result ≡ false → splits_word false text.now ≡ false }
+    ensures must { result ≡ true →
+        MustSearch symbols.now text.now ⊎ (splits_word false text.now ≡ true) }
 {
     symbols.may_stand_in(text) || splits_word(text)
 }

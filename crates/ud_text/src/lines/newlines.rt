@@ -3,9 +3,8 @@
 ghost use Rattle.std.specs.Prelude.{◌≡◌, ◌≤◌, ◌<◌, ℕ, length, take, drop, true};
 ghost use Rattle.std.specs.List.{count_by};
 ghost use Rattle.ud_model.specs.text.Lines.{whole_lines};
-ghost use Rattle.ud_text.specs.lines.LinesState.{UpToNewline};
 ghost use Rattle.ud_text.specs.bulk.BulkScanning.{AreWholeLines};
-ghost use Rattle.ud_text.specs.lines.Consuming.{is_newline, EachFits};
+ghost use Rattle.ud_text.specs.lines.Consuming.{is_newline, EachFits, FirstIsLong};
 
 use crate::searching::last_line_start;
 use std::simd::prelude::*;
@@ -95,7 +94,7 @@ pub(crate) fn whole_lines_len(chunk: &[u8]) -> usize
     ensures bound { result ≤ length chunk.now }
     ensures ends { AreWholeLines (take result chunk.now) }
     ensures fits { EachFits (whole_lines (take result chunk.now)) }
-    ensures most { (used : ℕ) → UpToNewline (drop result chunk.now) used true → LINE_BYTES < used }
+    ensures most { FirstIsLong (drop result chunk.now) }
 {
     let mut at = 0;
     while at < chunk.len() {

@@ -7,6 +7,7 @@ use Rattle.ud_model.specs.text.Lines.{NoNewline, Line, text_of, line_at}
 use Rattle.ud_model.proofs.text.LinesLemmas.{text_of-line_at}
 use Rattle.ud_text.specs.lines.LinesState.{LinesState, LinesRepresent, UpToNewline, IsLineOf}
 use Rattle.ud_text.specs.lines.Borrowing.{CanBorrow, IsFirstLine}
+use Rattle.ud_text.specs.lines.Consuming.{FirstIsLong}
 use Rattle.ud_text.proofs.lemmas.lines.NewlineLemmas.{up_to_newline-once, whole_newlineless}
 use Rattle.ud_text.proofs.lemmas.scan.MaskLemmas.{no_newline-take}
 use Rattle.ud_text.proofs.lemmas.lines.LinesLemmas.{represent_take}
@@ -28,12 +29,12 @@ none_fits chunk used other whole a long b =
 
 -- each whole line at the beginning is too long, if there is no newline in as many bytes as a line
 -- may have
-pub none_here : (rest : List ℕ) (size : ℕ) → size ≡ min (length rest) LINE_BYTES → NoNewline (take size rest) → (used : ℕ) → UpToNewline rest used true → LINE_BYTES < used
+pub none_here : (rest : List ℕ) (size : ℕ) → size ≡ min (length rest) LINE_BYTES → NoNewline (take size rest) → FirstIsLong rest
 none_here rest size e none used to =
     grind (arith, common_steps, feed_inside, no_newline-take used (take size rest) none)
 
 -- no line comes at the beginning of nothing
-pub none_after : (rest : List ℕ) → length rest ≡ 0 → (used : ℕ) → UpToNewline rest used true → LINE_BYTES < used
+pub none_after : (rest : List ℕ) → length rest ≡ 0 → FirstIsLong rest
 none_after rest e used to = grind (arith, common_steps)
 
 -- a body and an ending are the bytes of their line

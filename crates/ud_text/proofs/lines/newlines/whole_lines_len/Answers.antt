@@ -1,12 +1,12 @@
 -- Whole lines at the beginning of the next window.
-use Rattle.std.proofs.Common.{◌≡◌, ◌≤◌, ◌<◌, ◌-◌, ℕ, List, true, length, ap, subst, take, drop, arith}
+use Rattle.std.proofs.Common.{◌≡◌, ◌≤◌, ◌-◌, ℕ, List, length, ap, subst, take, drop, arith}
 use Rattle.ud_model.specs.text.Lines.{NoNewline}
-use Rattle.ud_text.specs.lines.LinesState.{UpToNewline}
 use Rattle.ud_text.proofs.lemmas.lines.BorrowLemmas.{none_here}
 use Rattle.std.proofs.lemmas.List.{take_rest}
 use Rattle.std.proofs.lemmas.Grind.{common_steps}
 use Rattle.ud_model.specs.declared.limits.TheConstants.{LINE_BYTES}
 use Rattle.ud_text.specs.bulk.BulkLexemes.{at_start}
+use Rattle.ud_text.specs.lines.Consuming.{FirstIsLong}
 use Rattle.ud_text.proofs.lemmas.bulk.BulkPlainLemmas.{begins_ends}
 use Rattle.ud_text.proofs.lemmas.lines.ConsumeLemmas.{more_end, more_fit, short_fit}
 use Rattle.ud_text.proofs.lines.newlines.whole_lines_len.Goals as goal
@@ -34,5 +34,5 @@ returns-then-count-eq0-clause-most c =
     let rest : List ℕ = take (length c.args.chunk.now - c.loop-at.at) (drop c.loop-at.at c.args.chunk.now) in
     let begin : c.last_line_start-count.result ≡ 0 = c.if-count-eq0.true in
     let none : NoNewline (take c.min.result rest) = subst (λ (n : ℕ). NoNewline (drop n (take c.min.result rest))) begin c.last_line_start-count.ensures.one_line in
-    subst (λ (l : List ℕ). (used : ℕ) → UpToNewline l used true → LINE_BYTES < used) (take_rest c.args.chunk.now c.loop-at.at)
+    subst FirstIsLong (take_rest c.args.chunk.now c.loop-at.at)
     (none_here rest c.min.result c.min.ensures none)
