@@ -20,7 +20,8 @@ use Rattle.ud_laws.proofs.conditions.SpacedTexts.{condition_spaced}
 use Rattle.ud_model.proofs.output.Each.{Pairwise, pairwise_parts}
 use Rattle.ud_laws.proofs.output.CConditions.{item_fits}
 use Rattle.ud_model.proofs.output.Changed.{as_many_nodes, as_many_groups, as_many_elifs}
-use Rattle.ud_laws.proofs.output.CSelected.{Clear, at_kept, elif_moves, many_both, not_any}
+use Rattle.ud_laws.proofs.output.CSelected.{Clear, at_kept, elif_moves, elif_parts, many_both}
+use Rattle.ud_laws.proofs.output.CSelected.{not_any}
 use Rattle.ud_laws.proofs.output.ProcessedPruned.{IsRight, NodesRight, GroupsRight, ElifsRight}
 
 -- Down the tree.
@@ -97,18 +98,10 @@ module _ (o : Options) {S F : Type 0} (takes : S → List ℕ → Scan → S →
           λ s t h. not_any [] q.cond refl (not_yes q.cond s t (a s false t (first_is_false h))),
         )
     elifs_right (elif es q ns) k =
-        let v : Verdict = verdict_so_far (conds_of_elifs es) an_elif q.cond in
-        let h : Pairwise (Clear o) (lines_of_elifs es ++ elif_line q ∷ []) (elifs_so_far true es ++ marked true v ∷ [])
-        × Pairwise (Clear o) (lines_of_nodes ns) (nodes_so_far (is_kept (conds_of_elifs es) q.cond) ns) =
-        pairwise_parts (Clear o) (lines_of_elifs es ++ elif_line q ∷ []) (elifs_so_far true es ++ marked true v ∷ []) (lines_of_nodes ns)
-        (nodes_so_far (is_kept (conds_of_elifs es) q.cond) ns)
-        (many_both (lines_of_elifs es) (elif_line q ∷ []) (elifs_so_far true es) (marked true v ∷ []) (as_many_elifs true es)
-        refl) k in
-        let f : Pairwise (Clear o) (lines_of_elifs es) (elifs_so_far true es) × Pairwise (Clear o) (elif_line q ∷ []) (marked true v ∷ []) =
-        pairwise_parts (Clear o) (lines_of_elifs es) (elifs_so_far true es) (elif_line q ∷ []) (marked true v ∷ []) (as_many_elifs true es) h.0 in
-        let r : ElifsRight p es × ((s t : S) → NoneTrue p es s t → any_true (conds_of_elifs es) ≡ false) = elifs_right es f.0 in
-        let a : IsRight p q = elif_right (conds_of_elifs es) q f.1.0 in (
-          (r.0, λ s t g. (a, λ u v d. nodes_right ns (at_kept o (is_kept (conds_of_elifs es) q.cond) ns (kept_by (conds_of_elifs es) q.cond u v (r.1 s t g) (a u true v d)) h.1))),
+        let parts = elif_parts o es q ns k in
+        let r : ElifsRight p es × ((s t : S) → NoneTrue p es s t → any_true (conds_of_elifs es) ≡ false) = elifs_right es parts.0 in
+        let a : IsRight p q = elif_right (conds_of_elifs es) q parts.1 in (
+          (r.0, λ s t g. (a, λ u v d. nodes_right ns (at_kept o (is_kept (conds_of_elifs es) q.cond) ns (kept_by (conds_of_elifs es) q.cond u v (r.1 s t g) (a u true v d)) parts.2))),
           λ s u g. let f : (t : S) × NoneTrue p es s t × decides t (condition_on q.line) false u = elif_is_false g in
               not_any (conds_of_elifs es) q.cond (r.1 s f.0 f.1) (not_yes q.cond f.0 u (a f.0 false u f.2)),
         )

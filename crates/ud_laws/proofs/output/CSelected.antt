@@ -71,6 +71,23 @@ elif_moves cs c d = ap keeps_rest (verdict_by_stage cs an_elif c) ∙ (grind (ar
 pub many_both : {A B : Type 0} (a c : List A) (b d : List B) → length a ≡ length b → length c ≡ length d → length (a ++ c) ≡ length (b ++ d)
 many_both a c b d e f = simp length-append (omega (arith, e, f))
 
+-- The parts of an `#elif` after others: their lines, its own, and those of its group.
+pub elif_parts : (o : Options) (es : Elifs Reading) (q : Opener Reading) (ns : Nodes Reading) →
+    Pairwise (Clear o) (lines_of_elifs (elif es q ns)) (elifs_so_far true (elif es q ns)) →
+    Pairwise (Clear o) (lines_of_elifs es) (elifs_so_far true es) × Clear o (elif_line q)
+    (marked true (verdict_so_far (conds_of_elifs es) an_elif q.cond))
+    × Pairwise (Clear o) (lines_of_nodes ns) (nodes_so_far (is_kept (conds_of_elifs es) q.cond) ns)
+elif_parts o es q ns k =
+    let marks = marked true (verdict_so_far (conds_of_elifs es) an_elif q.cond) ∷ [] in
+    let group = pairwise_parts (Clear o) (lines_of_elifs es ++ elif_line q ∷ [])
+    (elifs_so_far true es ++ marks) (lines_of_nodes ns)
+    (nodes_so_far (is_kept (conds_of_elifs es) q.cond) ns)
+    (many_both (lines_of_elifs es) (elif_line q ∷ []) (elifs_so_far true es) marks
+    (as_many_elifs true es) refl) k in
+    let own = pairwise_parts (Clear o) (lines_of_elifs es) (elifs_so_far true es) (elif_line q ∷ [])
+    marks (as_many_elifs true es) group.0 in
+    (own.0, own.1.0, group.1)
+
 pub not_any : (cs : List Cond) (c : Cond) → any_true cs ≡ false → (c ≡ Yes → ⊥) → any_true (cs ++ c ∷ []) ≡ false
 not_any (No ∷ cs) c e n = not_any cs c e n
 not_any (Unknown ∷ cs) c e n = not_any cs c e n
@@ -146,18 +163,10 @@ module _ (o : Options) (w : World Reading) where
           λ e. not_any [] p.cond refl (not_yes p.cond p.line a (where_none (w p.line) (selected w ns) e)),
         )
     elifs_right (elif es p ns) k h =
-        let v : Verdict = verdict_so_far (conds_of_elifs es) an_elif p.cond in
-        let q : Pairwise (Clear o) (lines_of_elifs es ++ elif_line p ∷ []) (elifs_so_far true es ++ marked true v ∷ [])
-        × Pairwise (Clear o) (lines_of_nodes ns) (nodes_so_far (is_kept (conds_of_elifs es) p.cond) ns) =
-        pairwise_parts (Clear o) (lines_of_elifs es ++ elif_line p ∷ []) (elifs_so_far true es ++ marked true v ∷ []) (lines_of_nodes ns)
-        (nodes_so_far (is_kept (conds_of_elifs es) p.cond) ns)
-        (many_both (lines_of_elifs es) (elif_line p ∷ []) (elifs_so_far true es) (marked true v ∷ []) (as_many_elifs true es)
-        refl) k in
-        let f : Pairwise (Clear o) (lines_of_elifs es) (elifs_so_far true es) × Pairwise (Clear o) (elif_line p ∷ []) (marked true v ∷ []) =
-        pairwise_parts (Clear o) (lines_of_elifs es) (elifs_so_far true es) (elif_line p ∷ []) (marked true v ∷ []) (as_many_elifs true es) q.0 in
-        let r = elifs_right es f.0 h.0 in
-        let a : selected_elifs w es ≡ None → Right p = λ e. elif_right (conds_of_elifs es) p f.1.0 (h.1 e).0 in (
-          (r.0, λ e. (a e, λ t. nodes_right ns (at_kept o (is_kept (conds_of_elifs es) p.cond) ns (kept_by (conds_of_elifs es) p.cond p.line (r.1 e) (a e) t) q.1) ((h.1 e).1 t))),
+        let parts = elif_parts o es p ns k in
+        let r = elifs_right es parts.0 h.0 in
+        let a : selected_elifs w es ≡ None → Right p = λ e. elif_right (conds_of_elifs es) p parts.1 (h.1 e).0 in (
+          (r.0, λ e. (a e, λ t. nodes_right ns (at_kept o (is_kept (conds_of_elifs es) p.cond) ns (kept_by (conds_of_elifs es) p.cond p.line (r.1 e) (a e) t) parts.2) ((h.1 e).1 t))),
           λ e. let n : (selected_elifs w es ≡ None) × (where_true (w p.line) (selected w ns) ≡ None) = or_none (selected_elifs w es) (where_true (w p.line) (selected w ns)) e in
               not_any (conds_of_elifs es) p.cond (r.1 n.0) (not_yes p.cond p.line (a n.0) (where_none (w p.line) (selected w ns) n.1)),
         )
