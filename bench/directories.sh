@@ -23,9 +23,9 @@ for other in 'rg -uuu -j1 -l NOFILEHASIT .' "$released" "$cat"; do
   [ "$other" != "$released" ] || command -v unifdef > /dev/null || continue
   ! command -v "${other%% *}" > /dev/null || commands+=(-n "$other" "$other")
 done
-hyperfine "${commands[@]}" 2> /dev/null
 find . -type f -printf '%s\n' | awk '{ n += $1 } END { print NR " files, " n " bytes" }'
-{ "$program" -n $nowhere -- . 2>&1 > /dev/null || true; } | head -n 1
+hyperfine "${commands[@]}" 2> /dev/null
+{ "$program" -n $nowhere -- . 2>&1 > /dev/null || true; } | grep 'would change'
 printf '\n| command, in that directory | seconds | times `cat` |\n| --- | --- | --- |\n'
 python3 -c 'import json, sys
 rows = [(it["command"], it["user"] + it["system"]) for it in json.load(sys.stdin)["results"]]
