@@ -6,13 +6,15 @@ ghost use Rattle.ud_tree.specs.Naming.{is_directory, is_proper, proper_names};
 
 use crate::disk::directories::{Directories, other_file};
 use crate::disk::opening::check_path;
+use crate::disk::reading::read_blocks;
 use crate::disk::system::{System, SystemFile};
 use crate::find_files::split_paths;
 use std::alloc::{AllocError, Global};
 use std::io::{self, ErrorKind, Read};
 use ud_replace::{Node, NodeKind};
 
-/// The bytes of names that are reserved before a directory is listed.
+/// The room for names in each read of a directory. The system refuses a read with less room than a
+/// name needs.
 const NAMES_BYTES: usize = 32 << 10;
 
 /// Gives the open file another name.
@@ -101,8 +103,9 @@ pub(crate) fn list_directory<S: System>(
         (map (λ n. n.items) names.new.items)) }
 {
     let place = directories.within(system, directory)?;
-    let mut packed = Vec::with_capacity(alloc, NAMES_BYTES)?;
-    let _count = system.names(place.as_str())?.read_to_end(&mut packed)?;
+    let mut packed = Vec::new(alloc);
+    let mut listed = system.names(place.as_str())?;
+    read_blocks(&mut listed, NAMES_BYTES, &mut packed)?;
     *names = proper_names(alloc, packed.as_slice())?;
     Ok(())
 }

@@ -1,7 +1,7 @@
 //! Reads the bytes of a file.
 
 ghost use Rattle.std.specs.Prelude.{◌≡◌, ◌<◌, [], IfOk, OnOk, OnErr, false, is_err};
-ghost use Rattle.std.specs.Io.KnownBytes.{Keeps};
+ghost use Rattle.std.specs.Io.KnownBytes.{Consumes, IsAtEnd, Keeps};
 ghost use Rattle.ud_tree.specs.Reading.{begins_section, ends_in_long_line, has_bad_mark};
 ghost use Rattle.ud_tree.specs.Reading.{ReadsAll, ReadsBlock};
 
@@ -51,6 +51,32 @@ fn read_bytes<F: Read>(file: &mut F, size: u64, text: &mut Vec<u8>) -> io::Resul
         }
         if ends_in_long_line(text.as_slice()) {
             return Err(io::Error::new(ErrorKind::FileTooLarge, "line too long"));
+        }
+    }
+    Err(io::Error::from(ErrorKind::FileTooLarge))
+}
+
+/// Reads the rest of a reader, with room for `block` bytes in each read.
+///
+/// # Errors
+/// Fails if a read fails, unless it was interrupted.
+pub(crate) fn read_blocks<F: Read>(
+    reader: &mut F,
+    block: usize,
+    bytes: &mut Vec<u8>,
+) -> io::Result<()>
+    requires some { 0 < block }
+    requires empty { bytes.old.items ≡ [] }
+    ensures consumed { OnOk result
+        (Consumes (F.remaining reader.old) (F.remaining reader.new) bytes.new.items) }
+    ensures ended { OnOk result (IsAtEnd (F.remaining reader.new)) }
+{
+    for _block in 0..u64::MAX {
+        match read_block(reader, block, bytes) {
+            Ok(0) => return Ok(()),
+            Ok(_) => {}
+            Err(error) if error.kind() == ErrorKind::Interrupted => {}
+            Err(error) => return Err(error),
         }
     }
     Err(io::Error::from(ErrorKind::FileTooLarge))
