@@ -208,10 +208,11 @@ test: $(CRATE)/out/unproved
 test-all: $(CRATE)/out/unproved
 	@RT='$(RT)' tests/quick.py --all
 
-## runs the merge gate: proofs from nothing, wrong edits,
-## tests, stored runs; RT_JOBS=N runs N checks side by side
+## runs the merge gate: proofs, wrong edits, tests, stored
+## runs; ANEW=1 believes no earlier gate on this machine;
+## RT_JOBS=N runs N checks side by side
 check: kit
-	@RT='$(RT)' tools/gate.py
+	@RT='$(RT)' tools/gate.py $(if $(ANEW),--anew)
 
 ## tries wrong edits of public functions; CRATES='NAME ..'
 ## those of some crates, EDITS=--all further ones too
@@ -222,9 +223,16 @@ edits: edits-test
 edits-test: kit
 	@RT='$(RT)' tests/edits_control.py
 
-## tries all around the programs: the next ten
-around: manuals cases examples differences faults lines-test tree-test clients-test lib-test \
-	packages-test
+AROUND := ci-test manuals cases examples differences faults lines-test tree-test clients-test \
+	lib-test packages-test
+## tries all around the programs, up to the first of the next
+## eleven that fails; says what was skipped, and why
+around:
+	@$(TRIED) tools/results.py $(AROUND)
+
+## tries what adds up the results of tests, in seconds
+ci-test:
+	@tests/ci_control.py
 
 ## checks version, manuals, scripts, comments and pages, and
 ## that each edit can be applied

@@ -16,7 +16,10 @@ import subprocess
 import sys
 from pathlib import Path
 
-from selects import CC, CONDITIONAL, UNIFDEF, bare, chosen, code_of, logical_lines, neutral
+sys.path.append(str(Path(__file__).resolve().parent.parent / "tools"))
+
+import results
+from selects import CC, CONDITIONAL, UNIFDEF, WRONG, bare, chosen, code_of, logical_lines, neutral
 from selects import parsed, report, selected, shown
 
 WORD = b"line_%d __LINE__ "
@@ -122,16 +125,23 @@ def compare_fixed():
             yield how, f"{options} {' '.join(world)}: {text!r}: {difference}", compared
 
 
+def run_fixed():
+    """Compares the texts in this script, and returns the status."""
+    if not shutil.which(CC):
+        return results.lacks("lines-test", CC, "all")
+    every = list(compare_fixed())
+    print(f"{report(every, 'texts')[0][0]} lines compared")
+    wrong = sum(kind in WRONG for kind, *_ in every)
+    return 0 if results.report("lines-test", len(every) - wrong, wrong) else 1
+
+
 def main():
     fixed = "the texts in this script"
     options, jobs = parsed("Compares the numbers of lines before and after -n and -b.", fixed=fixed)
-    if options.fixed and not shutil.which(CC):
-        sys.exit(print(f"lines: left out, since {CC} is not there"))
     if options.fixed:
-        sums, status = report(compare_fixed(), "texts")
-    else:
-        with multiprocessing.Pool() as pool:
-            sums, status = report(pool.imap_unordered(compare, jobs, chunksize=16), "files")
+        sys.exit(run_fixed())
+    with multiprocessing.Pool() as pool:
+        sums, status = report(pool.imap_unordered(compare, jobs, chunksize=16), "files")
     print(f"{sums[0]} lines compared")
     sys.exit(status)
 

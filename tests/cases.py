@@ -5,7 +5,7 @@
 
 PROGRAM is ./unifdef by default. NAME is a case file or a directory of them; without it, all cases
 of crates/test_runner/data are run, whose README.md describes the files. A case with lines about its
-streams is left out, since these need a reader and a writer over memory.
+streams is none of them, since these need a reader and a writer over memory: `make test` runs it.
 """
 
 import argparse
@@ -21,6 +21,10 @@ from pathlib import Path
 from typing import Iterable, Iterator, Optional
 
 TOP = Path(__file__).resolve().parent.parent
+sys.path.append(str(TOP / "tools"))
+
+from results import report  # noqa: E402
+
 DATA = TOP / "crates" / "test_runner" / "data"
 # The seconds after which a program hangs. No answer depends on how fast it is.
 HANG = 3600
@@ -173,9 +177,9 @@ def main() -> int:
         print(f"cases: {error}", file=sys.stderr)
         return 1
     if len(tried) < len(every):
-        print(f"cases: {len(every) - len(tried)} left out, which need streams over memory")
-    print(f"cases: {right} right, {len(tried) - right} wrong")
-    return 1 if right < len(tried) or not every else 0
+        print(f"cases: {len(every) - len(tried)} more need streams over memory, as make test has")
+    is_right = report("cases", right, len(tried) - right)
+    return 0 if is_right or (every and not tried) else 1
 
 
 if __name__ == "__main__":

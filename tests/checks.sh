@@ -1,6 +1,6 @@
 #!/usr/bin/env bash
-# What the tests of packages, completions and hooks share. They read this file, and are then at the
-# top of the repository, with a directory of their own in $work.
+# What the tests and tools/lint.sh share. They read this file, and are then at the top of the
+# repository, with a directory of their own in $work.
 # shellcheck disable=SC2034,SC2154 # Some names are for the scripts that read this file, or theirs.
 set -u -o pipefail
 export LC_ALL=C
@@ -13,13 +13,31 @@ version=$(packaging/version.sh) || failed=1
 trap 'rm -rf "$work"' EXIT
 
 has() { command -v "$1" > /dev/null; }
-left_out() { echo "$name: left out, since $1 is not there"; }
 
-# needs TOOL|FILE..: ends the test if one isn't there. That is a failure for a file of ./.
+# skip WHAT WHY: says that something is skipped, since this machine can't do it. lacks TOOL WHAT: the
+# same for want of a tool. tools/results.py has both for Python.
+skip() { echo "$name: skipped: $1: $2"; }
+lacks() { skip "$2" "$1 is not installed"; }
+
+# lacks_none WHAT TOOL..: succeeds if each tool is there. Else what follows is skipped.
+lacks_none() {
+  local it
+  for it in "${@:2}"; do
+    has "$it" || { lacks "$it" "$1"; return 1; }
+  done
+}
+
+# needs FILE|TOOL..: fails if a file of ./ isn't there, and skips all for want of a tool, or of a
+# file that `make` hasn't built.
 needs() {
   local it
   for it; do
-    has "$it" || [ -e "$it" ] || { left_out "$it"; [[ $it != ./* ]]; exit; }
+    if has "$it" || [ -e "$it" ]; then continue; fi
+    case $it in
+      ./*) echo "$name: $it is not there"; exit 1 ;;
+      */*) skip all "$it is not built"; exit ;;
+      *) lacks "$it" all; exit ;;
+    esac
   done
 }
 
@@ -33,15 +51,18 @@ check() {
     cat "$work/said"
   fi
 }
+
+# check_by TOOL WHAT COMMAND..: checks a command, or skips it for want of the tool.
+check_by() { if has "$1"; then check "${@:2}"; else lacks "$1" "$2"; fi; }
 same() { [ "$1" = "$2" ] || { printf '%s\n---\n%s\n' "$1" "$2"; false; }; }
 
 # lines WORD..: prints a line for each. files_in DIRECTORY TEST..: prints what find finds, in order.
 lines() { printf '%s\n' "$@"; }
 files_in() { find "$@" | sed 's|^\./||' | sort; }
 
-# finish: says how many checks hold, and fails if one doesn't.
+# finish: says how many checks passed and failed, and fails if one did.
 finish() {
-  echo "$name: $passed checks hold, $failed don't"
+  echo "$name: $passed passed, $failed failed"
   [ "$failed" -eq 0 ]
 }
 
@@ -58,7 +79,7 @@ in_root() {
   local forced=(--force-not-root --force-depends --force-script-chrootless)
   dpkg --root="$root" --log=/dev/null "${forced[@]}" "$@"
 }
-quiet_lintian() { ! has lintian || same "$(lintian --allow-root "$1" 2>&1 | grep '^[EW]:')" ''; }
+quiet_lintian() { same "$(lintian --allow-root "$1" 2>&1 | grep '^[EW]:')" ''; }
 
 # made_again TARGET COMMAND..: ${packages[@]}, which are there, are the same if they are made again.
 made_again() {
@@ -67,7 +88,7 @@ made_again() {
   check "$1: again" "${@:2}"
   check "$1: the same bytes" same "$(sha256sum "${packages[@]}")" "$sums"
   for it in "${packages[@]}"; do
-    check "$it: lintian" quiet_lintian "$it"
+    check_by lintian "$it: lintian" quiet_lintian "$it"
   done
 }
 

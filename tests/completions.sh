@@ -1,5 +1,5 @@
 #!/usr/bin/env bash
-# Tries the completions in each of bash, zsh and fish that is installed.
+# Tries the completions in bash, zsh and fish.
 source "$(dirname "$0")/checks.sh"
 needs ./unifdef ./unifdef-tree
 completions=$here/packaging/completions
@@ -70,7 +70,7 @@ offered_alone() {
 }
 
 for shell in bash zsh fish; do
-  has "$shell" || { left_out "$shell"; continue; }
+  has "$shell" || { lacks "$shell" "completions in $shell"; continue; }
   offers "$shell" 'unifdef -' -S -r
   offers "$shell" 'unifdef-tree -' -r -S
   names=-U files=-x.h

@@ -3,7 +3,7 @@
 calls that 2.10 takes.
 
 The released programs are the first unifdef on PATH whose -V reports 2.10, and the first one that
-reports 2.12. One that isn't there is left out. Each example of docs/DIFFERENCES.md must be a case.
+reports 2.12. One that isn't there is skipped. Each example of docs/DIFFERENCES.md must be a case.
 2.12 gives what the example says of it, or else what 2.10 gives.
 """
 
@@ -18,6 +18,7 @@ from typing import Iterator, Optional
 
 from cases import TOP, Answer, Case, CaseError, cases_in, check, link_programs, run_in_bash, shown
 from cases import unescaped
+from results import report, skip
 
 EXAMPLE = re.compile(
     r"^(-[^:\n]*):  (.*)\nhere: ([012])(?:  (.*))?\n2\.10: ([012])(?:  (.*))?$"
@@ -163,15 +164,14 @@ def main() -> int:
     released, new = (next((it for it in programs if is_released(it, v)), None) for v in (OLD, NEW))
     for version, there in ((OLD, released), (NEW, new)):
         if not there:
-            print(f"differences: unifdef {version} is not there, so it is left out")
+            skip("differences", f"unifdef {version}", "no unifdef on PATH has this version")
     try:
         found = list(results(program, released, new))
     except (ValueError, OSError) as error:
         print(f"differences: {error}", file=sys.stderr)
         return 1
-    wrong = found.count(False)
-    print(f"differences: {len(found) - wrong} examples give what the pages say, {wrong} don't")
-    return 0 if wrong == 0 and len(found) > 30 else 1
+    is_right = report("differences", found.count(True), found.count(False))
+    return 0 if is_right and len(found) > 30 else 1
 
 
 sys.exit(main())

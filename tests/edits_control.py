@@ -7,14 +7,20 @@ proved, although all are checked together. Two edits are of bodies with an answe
 without it, one is refused, and one isn't decided, as its contract accepts the body. One edit
 doesn't compile. Three are of definitions of a crate below: one is refused there, one by the crate
 itself, and one is proved.
+
+At last, verdicts are counted. The status must be 1 if an edit is proved or bad, or if more aren't
+decided than may be.
 """
+import contextlib
 import os
 import sys
 import tempfile
+from collections import Counter
 from pathlib import Path
 
 sys.path.insert(0, f"{os.path.dirname(os.path.dirname(os.path.realpath(__file__)))}/tools")
-from edits import BAD, OPEN, PROVED, REFUSED, edits_of, run
+from edits import BAD, MOST_OPEN, OPEN, PROVED, REFUSED, conclude, edits_of, run
+from results import report
 
 SOURCE = """\
 //! Functions with contracts, for wrong and right edits.
@@ -172,6 +178,20 @@ def write_edits(directory, edits, path="src/lib.rt"):
         write(f"{directory}/{name}.edit", f"file: {path}\nold: {old}\nnew: {new}\n")
 
 
+def statuses():
+    """Returns whether each count of verdicts gives its status."""
+    at_most = MOST_OPEN["must-fail"]
+    rows = [
+        ("refused edits pass", {REFUSED: 3}, 0),
+        ("an edit that is proved fails", {REFUSED: 3, PROVED: 1}, 1),
+        ("a bad edit fails", {REFUSED: 3, BAD: 1}, 1),
+        ("as many undecided ones as may be pass", {REFUSED: 3, OPEN: at_most}, 0),
+        ("one more fails", {REFUSED: 3, OPEN: at_most + 1}, 1),
+    ]
+    with contextlib.redirect_stdout(None):
+        return {it: conclude(Counter(count), ["must-fail"]) == to for it, count, to in rows}
+
+
 def main():
     with tempfile.TemporaryDirectory(prefix="edits-control-") as top:
         crate, lower = f"{top}/crates/control", f"{top}/crates/lower"
@@ -190,10 +210,12 @@ def main():
         unread = edits_of(top, "control", ["must-fail", "must-fail-second"])[1]
     wanted = sorted((verdict, name) for verdict, name, *_ in EDITS + EDITS_BELOW)
     is_right = wanted == sorted((verdict, name) for verdict in found for name in found[verdict])
-    if not is_right or len(unread) != 2:
-        return "edits-test: FAILED: not exactly the wrong edits are refused"
-    print("edits-test: exactly the wrong edits are refused")
-    return 0
+    checks = {"exactly the wrong edits are refused": is_right and len(unread) == 2, **statuses()}
+    for what, holds in checks.items():
+        if not holds:
+            print(f"edits-test: failed: {what}")
+    count = Counter(checks.values())
+    return 0 if report("edits-test", count[True], count[False]) else 1
 
 
 sys.exit(main())

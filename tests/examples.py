@@ -6,7 +6,7 @@
 
 An example of a page is a block that begins with ```console: commands after "$ ", with further lines
 after "> ", and what each prints, on either stream. The commands run in order, in a directory of
-their own with the programs. The rest of a block is left out if a command needs a tool that isn't
+their own with the programs. The rest of a block is skipped if a command needs a tool that isn't
 there, or if the block begins with a header of the machine that is another one here.
 
 Under OPTIONS of the manual, a line has the arguments, a colon, two spaces and the input; the line
@@ -27,10 +27,12 @@ import tempfile
 from pathlib import Path
 
 from cases import TOP, link_programs, run_in_bash, unescaped
+from results import lacks, report, skip
 
 PAGES = ["README.md", "docs/EXAMPLES.md", "docs/LIBRARY.md", "docs/unifdef.1"]
 # The tools that may not be there, each with those that it calls.
-TOOLS = {"cmake": "make cc", "meson": "ninja cc", "git": "", "cc": "", "make": "", "ninja": ""}
+TOOLS = {"cmake": "make cc", "meson": "ninja cc"}
+TOOLS |= dict.fromkeys(("cc", "git", "make", "ninja", "patch", "rg"), "")
 BLOCK = re.compile(r"\n```(.*)((?s:.*?))(\n```(?=\n)|\Z)")
 # What a command prints on either stream, as text.
 BOTH = {"stderr": subprocess.STDOUT, "errors": "replace"}
@@ -41,7 +43,7 @@ class Examples:
     """The examples of a page, which are counted."""
 
     def __init__(self, page):
-        self.page, self.right, self.wrong, self.left_out = page, 0, 0, 0
+        self.page, self.right, self.wrong = page, 0, 0
         self.text = (TOP / page).read_text(encoding="utf-8")
 
     def compare(self, what, wanted, found):
@@ -54,16 +56,9 @@ class Examples:
             print(f"{self.page}: {what}", *differences, sep="\n")
         return is_right
 
-    def skip(self, why, command):
-        """Counts an example that is left out, with the rest of its block."""
-        print(f"{self.page}: left out, since {why}: {command}")
-        self.left_out += 1
-
     def told(self):
         """Says how many examples are right. Returns whether all are, and there are some."""
-        counts = f"{self.right} right, {self.wrong} wrong, {self.left_out} left out"
-        print(f"examples of {self.page}: {counts}")
-        return not self.wrong and self.right > 0
+        return report(f"examples of {self.page}", self.right, self.wrong)
 
 
 def commands_in(block):
@@ -85,11 +80,12 @@ def run_block(examples, block):
             needed += [below for it in needed for below in TOOLS[it].split()]
             missing = [it for it in needed if not shutil.which(it)]
             if missing:
-                return examples.skip(f"{missing[0]} isn't there", command)
+                first = command.partition("\n")[0]
+                return lacks(examples.page, missing[0], f"'{first}' and what follows")
             found = run_in_bash(f"{command}\npwd > '{work}/at'", place, top, **BOTH).stdout
             place = Path(work, "at").read_text(encoding="utf-8").rstrip("\n")
             if not number and command.startswith("cat /usr/include/") and found != wanted:
-                return examples.skip("this machine has another header", command)
+                return skip(examples.page, command, "this machine has another header")
             if not examples.compare(command, wanted, found):
                 return None
 

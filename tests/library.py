@@ -300,8 +300,8 @@ def by_stream(case: cases.Case, most: int) -> cases.Answer:
         return answer_of(trouble.answer)
 
 
-def all_cases(programs: list[str]) -> int:
-    """Runs all cases in each way, and returns how many answers are wrong."""
+def all_cases(programs: list[str]) -> bool:
+    """Runs all cases in each way, and returns whether all answers are right."""
     tried = [case for case in cases.cases_in() if not case.has_streams]
     found = [("C", it, by_filter(program, it)) for program in programs for it in tried]
     found += [("Python", it, by_module(it)) for it in tried]
@@ -313,9 +313,8 @@ def all_cases(programs: list[str]) -> int:
     failed = [it for it in found if not it[1].answer.matches(it[2])]
     for way, case, answer in failed:
         print(f"library: {way}: {case.path}\n  expected {case.answer}\n  found    {answer}")
-    counts = f"{len(tried)} cases in C, in Python and in {THREADS} threads, {len(failed)} wrong"
-    print(f"library: {counts}")
-    return len(failed) if tried else 1
+    wrong = {case.path for _, case, _ in failed}
+    return cases.report("library, cases", len(tried) - len(wrong), len(wrong))
 
 
 def main() -> int:
@@ -324,8 +323,8 @@ def main() -> int:
     libraries()
     pools()
     stacks(Path(sys.argv[1]))
-    print(f"library: {right} checks of the Python module hold, {wrong} don't")
-    return 1 if all_cases(sys.argv[2:]) or wrong else 0
+    is_right = cases.report("library, Python", right, wrong)
+    return 0 if all_cases(sys.argv[2:]) and is_right else 1
 
 
 if __name__ == "__main__":

@@ -87,7 +87,7 @@ if has "$cxx"; then
   gives 2 x "$work/strip" -DA < <(printf 'x\n#endif\n')
   filters+=("$work/strip")
 else
-  left_out "$cxx"
+  lacks "$cxx" C++
 fi
 
 # Through the shared library: what pkg-config prints is what a program needs.
@@ -107,7 +107,7 @@ export UNIFDEF_LIBRARY=$PWD/lib/libunifdef.so.1 PYTHONDONTWRITEBYTECODE=1
 if has mypy; then
   (cd lib/python && mypy --strict --cache-dir=/dev/null unifdef)
 else
-  left_out mypy
+  lacks mypy 'types of the module'
 fi
 mkdir "$work/deep"
 for kind in $(deep); do

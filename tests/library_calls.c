@@ -380,6 +380,6 @@ int main(void) {
     stream_growth();
     stream_moves();
     threads();
-    printf("library: %d calls right, %d wrong\n", right, wrong);
+    printf("library, C: %d passed, %d failed\n", right, wrong);
     return wrong != 0;
 }

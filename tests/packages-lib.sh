@@ -17,20 +17,25 @@ built_by() {
 }
 filtered() { LD_LIBRARY_PATH=$1 "$work/filter" -DA <<< "$text"; }
 
-# in_an_environment LIBRARIES: pip installs the module into a virtual environment, beside the
-# installed library. It gets nothing from the network, so setuptools has to be there.
-in_an_environment() {
-  local python=$work/environment/bin/python site
-  # pip writes to the directory that it installs.
-  cp -R lib/python "$work/module"
-  if ! python3 -m venv --system-site-packages "$work/environment" > /dev/null 2>&1 ||
-    ! "$python" -c '
+# builds_modules PYTHON: makes a virtual environment. It must build a module without the network.
+builds_modules() {
+  "$1" -m venv --clear --system-site-packages "$work/environment" > /dev/null 2>&1 &&
+    "$work/environment/bin/python" -c '
 from importlib.util import find_spec
 built = any(map(find_spec, ("wheel", "setuptools.command.bdist_wheel")))
-raise SystemExit(not (built and find_spec("pip")))' 2> /dev/null; then
-    left_out 'venv, pip, setuptools or wheel'
+raise SystemExit(not (built and find_spec("pip")))' 2> /dev/null
+}
+
+# in_an_environment LIBRARIES: pip installs the module into a virtual environment, beside the
+# installed library. The python3 on PATH may lack what Debian's has.
+in_an_environment() {
+  local python=$work/environment/bin/python site
+  if ! builds_modules python3 && ! builds_modules /usr/bin/python3; then
+    lacks 'venv, pip, setuptools or wheel' 'pip install'
     return
   fi
+  # pip writes to the directory that it installs.
+  cp -R lib/python "$work/module"
   check 'pip install' "$python" -m pip -q install --no-build-isolation --no-index --no-deps \
     "$work/module"
   site=$(cd "$work/environment/lib"/python3*/site-packages && pwd -P)
@@ -67,6 +72,8 @@ if has pkg-config; then
   PKG_CONFIG_PATH=$odd/lib/pkgconfig
   check 'install-lib: odd flags' same "<-I$odd/include><-L$odd/lib><-lunifdef>" \
     "$(eval "printf '<%s>' $(pkg-config --cflags --libs unifdef)")"
+else
+  lacks pkg-config unifdef.pc
 fi
 check 'install-lib: Python' same "[b'A', b'B']" "$(LD_LIBRARY_PATH=$prefix/lib \
   PYTHONPATH=$prefix/lib/python3/dist-packages python3 -Bc "$names_in")"
@@ -81,6 +88,8 @@ mkdir -p "$(python3 -c 'import site; print(site.getusersitepackages())')"
 if [ "$(python3 -c 'import site; print(site.ENABLE_USER_SITE)')" = True ]; then
   check 'install-lib: where Python looks for a user' \
     in_path "$(packaging/pythondir.sh "$PYTHONUSERBASE")"
+else
+  skip "a user's modules" 'python3 looks for none'
 fi
 unset PYTHONUSERBASE
 in_an_environment "$prefix/lib"
@@ -95,11 +104,7 @@ check 'uninstall-lib: again' make_lib uninstall-lib PREFIX="$prefix"
 check 'uninstall-lib: another one' same "$(readlink "$prefix/lib/libunifdef.so")" libunifdef.so.0
 rm -r "$prefix"
 check 'uninstall-lib: nothing' make_lib uninstall-lib PREFIX="$prefix"
-if ! has dpkg-deb || ! has objdump; then
-  left_out 'dpkg-deb or objdump'
-  finish
-  exit
-fi
+lacks_none 'Debian packages' dpkg-deb objdump || { finish; exit; }
 
 directory=usr/lib/$("${cc[@]}" -print-multiarch) architecture=$(dpkg --print-architecture)
 packages=({libunifdef1,libunifdef-dev}"_${version}_$architecture.deb"
@@ -123,7 +128,7 @@ check 'a tarball' package_in_copy -u DEBFULLNAME -u DEBEMAIL -u SOURCE_DATE_EPOC
 check 'a tarball: the time' same "$(other_times)" 0
 check 'a tarball: the maintainer' same "$(maintainer)" \
   'unifdef maintainers <maintainers@unifdef.invalid>'
-check 'a tarball: lintian' quiet_lintian "$copy/${packages[0]}"
+check_by lintian 'a tarball: lintian' quiet_lintian "$copy/${packages[0]}"
 check 'a maintainer' package_in_copy DEBFULLNAME='A Name' DEBEMAIL=name@example.org
 check 'a maintainer: the maintainer' same "$(maintainer)" 'A Name <name@example.org>'
 

@@ -58,6 +58,8 @@ if unshare -m true 2> /dev/null; then
     "$(said_after 'mount --bind -o ro . .' "$make -s kit RT=$kit")"
   check 'no /proc' same 'unproved: /proc is not mounted, where the program is found while it runs' \
     "$(said_after 'umount -l /proc' 'tools/unproved.sh unifdef_cli none')"
+else
+  skip 'a read-only directory, no /proc' 'nothing can be mounted here'
 fi
 
 # Installs before a released program on PATH.
@@ -91,12 +93,14 @@ if git rev-parse HEAD > /dev/null 2>&1; then
   check 'dist: a version without a commit' same "$("$work/clone/packaging/dist.sh" 2>&1)" \
     "dist: the last commit has the version $version, so commit 0.9 first"
   check 'dist: no tarball then' test ! -e "$work/clone/unifdef-0.9.tar.gz"
+elif has git; then
+  skip 'the tarball' 'this is no repository'
 else
-  left_out 'version control, for the tarball,'
+  lacks git 'the tarball'
 fi
 
 # The Debian packages.
-if has dpkg-deb && has objdump; then
+if lacks_none 'Debian packages' dpkg-deb objdump; then
   packages=({unifdef-tree,unifdef-proved}"_${version}_$(dpkg --print-architecture).deb")
   check deb same "$(make_with deb)" "$(lines "${packages[@]}")"
   made_again deb make_with deb
@@ -104,6 +108,8 @@ if has dpkg-deb && has objdump; then
   if [ -w /dev/shm ] && [ "$(stat -fc %T /dev/shm)" != "$(stat -fc %T "$work")" ]; then
     check 'deb: in memory' env TMPDIR=/dev/shm "$make" -s -o unifdef -o unifdef-tree deb
     check 'deb: the same bytes in memory' same "$(sha256sum "${packages[@]}")" "$sums"
+  else
+    skip 'packages made in memory' '/dev/shm is no file system of its own'
   fi
   new_root
   is_installed() { in_root -s "$1" | grep -qx 'Status: install ok installed'; }
@@ -126,7 +132,5 @@ if has dpkg-deb && has objdump; then
   check 'deb: in place of unifdef' in_root -i "$here/${packages[1]}"
   check 'deb: unifdef is away' eval '! is_installed unifdef && is_installed unifdef-proved &&
     is_installed unifdef-tree'
-else
-  left_out 'dpkg-deb or objdump'
 fi
 finish

@@ -19,11 +19,10 @@ import time
 from pathlib import Path
 from typing import NamedTuple, Optional
 
-sys.path.insert(0, os.path.join(os.path.dirname(os.path.realpath(__file__)), "..", "tools"))
-
-from cases import TOP, cases_in  # noqa: E402
-from files import text_of  # noqa: E402
-from prove import RT, Commands, end_by_signals, processors, say  # noqa: E402
+from cases import TOP, cases_in
+from files import text_of
+from prove import RT, Commands, end_by_signals, processors, say
+from results import report
 
 RUNNER = TOP / "crates" / "test_runner"
 TRY = [RT, "try", "--seconds", "3600"]
@@ -88,9 +87,8 @@ def main():
             passed = list(pool.map(Task.ends_well, todo))
         finally:
             COMMANDS.stop()
-    counts = f"{sum(passed)} passed, {len(todo) - sum(passed)} failed"
-    print(f"test: {counts}; nothing is proved by this")
-    return 0 if passed and all(passed) else 1
+    say("test", "nothing is proved by this")
+    return 0 if report("test", sum(passed), len(todo) - sum(passed)) else 1
 
 
 sys.exit(main())

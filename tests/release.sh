@@ -4,8 +4,9 @@
 #
 # The clones get what is built here. The second one has another path, umask and time zone.
 source "$(dirname "$0")/checks.sh"
-needs git dpkg-deb objdump lib/libunifdef.a .git
-[ -z "$(git status --porcelain)" ] || echo 'release: what is not committed is left out'
+needs git dpkg-deb objdump lib/libunifdef.a
+[ -e .git ] || { skip all 'this is no repository'; exit; }
+[ -z "$(git status --porcelain)" ] || skip 'what is not committed' 'a release is of a commit'
 text=$'#ifdef A\nx\n#endif'
 first=$work/first second="$work/another directory/second"
 
@@ -68,5 +69,7 @@ if has pkg-config; then
   read -ra flags <<< "$(pkg-config --define-prefix --cflags --libs unifdef)"
   check 'C, by pkg-config' same "${flags[*]}" "-I$directory/include -L$directory/lib -lunifdef"
   check 'C, with the shared library' built "${flags[@]}"
+else
+  lacks pkg-config unifdef.pc
 fi
 finish

@@ -22,7 +22,8 @@ An edit may be of definitions of a crate below, in files such as `../ud_model/sp
 is checked alone in each crate from that one up to its own, until one check refuses it.
 
 The status is 1 if an edit is proved or can't be tried: if an old text isn't in its file exactly
-once, or two edits of a crate have one name.
+once, two edits of a crate have one name, or an edit doesn't compile. It is 1 too if more edits than
+MOST_OPEN aren't decided.
 """
 import argparse
 import collections
@@ -40,14 +41,17 @@ from files import text_of
 from gate import is_of_gate, jobs
 from prove import CAUGHT, HERE, RT, Build, Commands, at_or_below, end_by_signals
 from prove import found_repository, libraries, link
+from results import report
 
 REFUSED, OPEN, PROVED, BAD = "refused", "not decided", "PROVED", "BAD EDIT"
 
 # The line on which a function begins. `const fn` is left out: a type may rest on the body.
 FUNCTION = re.compile(r'( *)(?:pub(?:\([a-z: ]+\))? )?(?:unsafe )?(?:extern "C" )?fn (\w+)')
 
-# The directories of edits of a crate: those that `.ci/run` tries, and further ones.
-DIRECTORIES = ["must-fail", "must-fail-second"]
+# The directories of edits of a crate, those that `.ci/run` tries and further ones, each with the
+# most edits of all crates that may stay undecided.
+MOST_OPEN = {"must-fail": 45, "must-fail-second": 100}
+DIRECTORIES = list(MOST_OPEN)
 
 # A file that an edit may change: one of the crate itself, or definitions of a crate below.
 EDITABLE = re.compile(r"(?:(?:src|specs|proofs)|\.\./(\w+)/specs)/(?!.*\.\.)")
@@ -376,6 +380,16 @@ def run_all(crates, used, directories, alone):
     return count
 
 
+def conclude(count, directories):
+    """Prints how many edits of these directories have each verdict, and returns the status."""
+    most = sum(MOST_OPEN[it] for it in directories)
+    undecided = f"{count[OPEN]} not decided, of at most {most}"
+    print(f"edits: {undecided}; {count[PROVED]} proved, {count[BAD]} can't be tried")
+    failed = count[PROVED] + count[BAD] + max(count[OPEN] - most, 0)
+    report("edits", count[REFUSED], failed)
+    return 1 if failed else 0
+
+
 def main():
     how = {"usage": argparse.SUPPRESS, "formatter_class": argparse.RawDescriptionHelpFormatter}
     parser = argparse.ArgumentParser(description=__doc__, **how)
@@ -394,10 +408,7 @@ def main():
     crates = [it for it in options.crates or used if sum(map(len, edits_of(HERE, it, directories)))]
     if not Build(crates, split={}).run():
         return 1
-    count = run_all(crates, used, directories, options.alone)
-    bad = f", {count[BAD]} can't be tried" if count[BAD] else ""
-    print(f"{count[REFUSED]} refused, {count[OPEN]} not decided, {count[PROVED]} proved{bad}")
-    return 1 if count[PROVED] or count[BAD] else 0
+    return conclude(run_all(crates, used, directories, options.alone), directories)
 
 
 if __name__ == "__main__":

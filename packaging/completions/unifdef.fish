@@ -32,7 +32,7 @@ function __unifdef_at_options
             set value no
         else if string match -qr '^-[^DUixg]*[DUixg]$' -- $word
             set value yes
-        else if not string match -q -- '-?*' $word
+        else if not string match -qr '^-.' -- $word
             return 1
         end
     end

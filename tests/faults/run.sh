@@ -151,7 +151,8 @@ refuse_table() {
   done
 }
 
-if "${cc[@]}" -O1 -shared -fPIC -o "$work/refuse.so" tests/faults/refuse.c -ldl 2> /dev/null; then
+if has "${cc[0]}"; then
+  check 'refuse.c' "${cc[@]}" -O1 -shared -fPIC -o "$work/refuse.so" tests/faults/refuse.c -ldl
   printf '#ifdef A\nx\n#endif\n' > "$work/in"
   { deep sections; deep longest; deep comment; seq 1 100000; } > "$work/deep"
   # The arguments of the cases that ask for it, and those that have a fault or no symbol.
@@ -163,8 +164,8 @@ if "${cc[@]}" -O1 -shared -fPIC -o "$work/refuse.so" tests/faults/refuse.c -ldl 
   done
   refuse_each no -B -DA
   refuse_each no -tk -x2
-  if [ -x "$table" ]; then refuse_table; else left_out 'crates/test_memory, built,'; fi
+  if [ -x "$table" ]; then refuse_table; else skip 'the table' 'test_memory is not built'; fi
 else
-  left_out 'a C compiler, for refused memory,'
+  lacks "${cc[0]}" 'refused memory'
 fi
 finish
