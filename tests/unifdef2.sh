@@ -1,6 +1,7 @@
 #!/usr/bin/env bash
-# Runs packaging/unifdef2 by each shell that is there: the calls of programs that use unifdef 2.x,
-# the rules of -f, and faults. What must come out follows from the manual of 2.10, or from the text.
+# Runs packaging/unifdef2 by several shells: the calls of programs that use unifdef 2.x, the rules
+# of -f, faults, and what another user may do to a directory meanwhile. What must come out follows
+# from the manual of 2.10, or from the text.
 source "$(dirname "$0")/checks.sh"
 needs ./unifdef
 export UNIFDEF=$here/unifdef
@@ -17,10 +18,11 @@ fresh() {
   printf 'x\n#endif\n' > bad.c
 }
 
-# run ARGUMENT..: runs the script in the files of the case, with in.c as its input, and sets `status`.
+# run ARGUMENT..: runs the script in the files of the case with in.c as its input. Sets `status`.
+by=(timeout 60)
 run() {
   status=0
-  "${shell[@]}" "$script" "$@" < in.c > "$work/out" 2> "$work/message" || status=$?
+  "${by[@]}" "${shell[@]}" "$script" "$@" < in.c > "$work/out" 2> "$work/message" || status=$?
 }
 
 # in_shell WHAT COMMAND..: a check, which names the shell if it fails.
@@ -154,6 +156,12 @@ options() {
   makes "./$odd" b 1 "-o$odd" -UA in.c
   gives 1 a -D "A=\$(x) \"'*" in.c
   gives 1 b -U A -i DB=1 -iUC in.c
+  # A name that isn't UTF-8, which yash takes for an empty one.
+  if [ "${shell[0]}" != yash ]; then
+    cp in.c $'\377.c'
+    makes $'\377.c' a 1 -m -DA $'\377.c'
+    rm $'\377.c'
+  fi
   in_shell 'the files that are left' same "$(ls -A)" "$odd"$'\na.c\nbad.c\nc.c\nin.c\nsame.c'
   # What has no effect, and options that unifdef has itself.
   gives 1 $'\na' -dedb -DA in.c
@@ -276,7 +284,147 @@ faults() {
   if [ -w /dev/full ]; then
     "${shell[@]}" "$script" -DA in.c > /dev/full 2> "$work/message"
     in_shell 'a full disk' same "$? $(grep -c . "$work/message")" '2 1'
+  else
+    skip 'a full disk' '/dev/full is not there'
   fi
+}
+
+# What a file keeps of its mode.
+modes() {
+  local mode
+  fresh
+  for mode in 4755 2755 1755 6711; do
+    cp in.c c.c
+    chmod "$mode" c.c
+    makes c.c a 1 -m -DA c.c
+    in_shell "the mode $mode" same "$(stat -c %a c.c)" "${mode#?}"
+  done
+}
+
+# In the directory of another user, a new file has another owner, and maybe another group, which
+# gets what all others have. No list of that user lets him read what he couldn't read before.
+foreign_directory() {
+  if [ "$(id -u)" -ne 0 ]; then
+    skip 'the directory of another user' 'only root may change owners'
+    return
+  fi
+  fresh
+  mkdir d
+  cp in.c d/a.c
+  cp in.c d/b.c
+  chown 65534:65533 d d/a.c
+  chmod 2755 d
+  chmod 4755 d/a.c
+  chmod 640 d/b.c
+  gives 1 '' -m -DA d/a.c d/b.c
+  in_shell 'the modes of another user' same "$(stat -c '%u:%g %a' d/a.c d/b.c)" \
+    $'0:65533 755\n0:65533 600'
+  cp in.c d/a.c
+  has setfacl || { lacks setfacl 'an access control list'; return; }
+  if ! setfacl -d -m u:65534:rw d 2> /dev/null; then
+    skip 'an access control list' 'this file system has none'
+    return
+  fi
+  chmod 600 d/a.c
+  run -m -DA d/a.c
+  in_shell 'an access control list' same "$status $(cat "$work/message"; ls d; cat d/a.c)" \
+    "2 unifdef2: d/a.c: Cannot be replaced: the owner of its directory lets others read new files
+a.c
+b.c
+$(cat in.c)"
+  chmod 644 d/a.c
+  makes d/a.c a 1 -m -DA d/a.c
+}
+
+# Without /proc, nothing can be done by a descriptor.
+without_proc() {
+  local by=(unshare -m sh -c 'mount -t tmpfs none /proc && exec "$@"' -)
+  if ! "${by[@]}" true 2> /dev/null; then
+    skip 'unifdef2 without /proc' 'this user may not cover it'
+    return
+  fi
+  fresh
+  refuses 'unifdef2: a.c: Cannot be replaced without /proc' -m -DA a.c
+  refuses 'unifdef2: new: Cannot be replaced without /proc' -o new -DA in.c
+}
+
+# meanwhile COMMAND ACTION: makes a command that does an action before each call, as the owner of the
+# directory d may. There, $new is the new file, and `swap` puts what $it makes in its place.
+meanwhile() {
+  printf '%s\n' '#!/bin/sh' 'PATH=${PATH#*:}' "it='$it'" 'new=$(ls -d ./a.c.??????)' \
+    'swap() { rm -rf "$new"; $it "$new"; }' "$2" "exec $(command -v "$1") \"\$@\"" \
+    > "$work/meanwhile/${1##*/}"
+  chmod +x "$work/meanwhile/${1##*/}"
+}
+
+# attacked STATUS MESSAGE OPTION..: runs the script so on d/a.c. No file outside of d may change.
+attacked() {
+  PATH=$work/meanwhile:$PATH UNIFDEF=$program run "${@:3}" -DA d/a.c
+  rm -f "$work"/meanwhile/*
+  in_shell "$it: the run" same "$status $(cat "$work/message")" "$1 $2"
+  in_shell "$it: other files" same "$(stat -c %a precious; cat precious; ls e; cat e/a.c)" \
+    $'640\nprecious\na.c\n'"$(cat in.c)"
+}
+
+# victims: makes the files of an attack: d is the attacker's, and the others aren't.
+victims() {
+  fresh
+  mkdir -p d e "$work/meanwhile"
+  echo precious > precious
+  chmod 640 precious
+  cp in.c e/a.c
+  cp in.c d/a.c
+}
+
+# Whoever owns a directory may put something else in the place of the new file at any time: before
+# it is made, before anything is written, and while the program runs.
+attacks_on_new() {
+  local it program=$UNIFDEF changes='Cannot be replaced: its directory changes meanwhile'
+  for it in 'ln -s ../precious' 'ln -s none' 'ln -s /dev/null' 'ln ../precious' mkfifo 'cp ../in.c'; do
+    victims
+    meanwhile mktemp '$it ./a.c.guess; echo ./a.c.guess; exit'
+    attacked 2 'unifdef2: d/a.c: Cannot be written' -m
+    holds d/a.c "$(cat in.c)"
+    rm d/a.c.guess
+    meanwhile stat swap
+    attacked 2 "unifdef2: d/a.c: $changes" -m
+    in_shell "$it: what is left" same "$(ls -A d; cat d/a.c)" a.c$'\n'"$(cat in.c)"
+    meanwhile "$UNIFDEF" swap
+    program=$work/meanwhile/unifdef attacked 1 '' -m
+  done
+  victims
+  it='a second name'
+  meanwhile stat '[ -e second ] || ln "$new" second'
+  attacked 2 "unifdef2: d/a.c: $changes" -m
+}
+
+# The same with the old file, whose mode counts if it was read, its directory, and the name of -M.
+attacks_on_old() {
+  local it program=$work/meanwhile/unifdef
+  victims
+  it='another old file'
+  chmod 600 d/a.c
+  meanwhile "$UNIFDEF" 'rm a.c; echo other > a.c; chmod 666 a.c'
+  attacked 1 '' -m
+  in_shell "$it" same "$(stat -c %a d/a.c; cat d/a.c)" $'600\na'
+  victims
+  it='another directory'
+  meanwhile "$UNIFDEF" 'mv ../d ../gone; ln -s e ../d'
+  attacked 1 '' -m
+  holds gone/a.c a
+  victims
+  it='a link to a directory' program=$UNIFDEF
+  meanwhile mv 'ln -sfn ../e a.c'
+  attacked 1 '' -m
+  holds d/a.c a
+  victims
+  it='a link under the suffix'
+  meanwhile ln 'ln -sfn ../e a.c.bak'
+  attacked 1 '' -M .bak
+  holds d/a.c a d/a.c.bak "$(cat in.c)"
+  victims
+  ln -s ../e d/a.c.bak
+  attacked 2 'unifdef2: d/a.c.bak: Is a directory' -M .bak
 }
 
 # Finds the program: beside the script to which a link leads, or else on PATH.
@@ -293,13 +441,23 @@ finds() {
   in_shell 'a program on PATH' same "$(PATH="$work/bin:$PATH" "$work/lib/unifdef" -x2 -DA in.c)" a
 }
 
-for shell in dash 'bash --posix' 'busybox sh' mksh yash; do
+# Debian 13 has no yash, and a fresh Debian no ksh.
+shells=(dash 'bash --posix' 'busybox sh' mksh 'zsh --emulate sh')
+for shell in yash ksh; do
+  if has "$shell"; then shells+=("$shell"); else skip "unifdef2 by $shell" "no $shell is on PATH"; fi
+done
+for shell in "${shells[@]}"; do
   read -ra shell <<< "$shell"
-  has "${shell[0]}" || continue
+  has "${shell[0]}" || { lacks "${shell[0]}" "unifdef2 by ${shell[*]}"; continue; }
   clients
   options
   headers
   faults
+  modes
+  foreign_directory
+  without_proc
+  attacks_on_new
+  attacks_on_old
 done
 shell=(sh)
 finds
