@@ -8,8 +8,8 @@ test_faults() {
   is src/good.c "$text"
   after '2 -DA src -n' says 'Option after a path: -n'
   is src/good.c "$text"
-  after 'any -DA src' says '1 changed, 0 unchanged, 2 faulty'
-  check grep -qxF 'unifdef: src/bad.c: 1: Inappropriate #endif' "$work/err"
+  after '2 -DA src' says '1 changed, 0 unchanged, 2 faulty'
+  holds_that grep -qxF 'unifdef: src/bad.c: 1: Inappropriate #endif' "$work/err"
   is src/bad.c '#endif\n' and src/good.c 'yes\n'
 }
 
@@ -21,11 +21,11 @@ test_statuses() {
   put src/end.c '#ifdef A\nno newline\n#endif'
   cp -r src was
   after '1 -n -DA -- src' says '2 would change, 0 unchanged, 0 faulty'
-  check diff -r was src
+  holds_that diff -r was src
   cp "$work/out" diff
   run 0 -x2 -DA -- src
-  check patch -s -p1 -d was -i ../diff
-  check diff -r was src
+  holds_that patch -s -p1 -d was -i ../diff
+  holds_that diff -r was src
 }
 
 test_usage() {
@@ -34,16 +34,16 @@ test_usage() {
   for words in -h --help '-DA -h src'; do
     run 0 $words
     says_only
-    check grep -q '^usage: unifdef-tree ' "$work/out"
+    holds_that grep -q '^usage: unifdef-tree ' "$work/out"
     # A line for each option.
-    prints $'-\n0\nB\nD\nK\nU\nV\nb\nc\nd\ng\nh\ni\nk\nl\nn\np\nq\nr\ns\nt\nw\nx' letters
+    prints -0BDKUVbcdghiklnpqrstwx letters
   done
   exits 2 "$TREE" -h > /dev/full 2> /dev/null
   put src/good.c '#if A == 2\nyes\n#endif\n'
-  tree -D 'A=1 ' -D 'A=2' -U "B" src
+  run 1 -D 'A=1 ' -D 'A=2' -U "B" src
   is src/good.c 'yes\n'
 }
-letters() { sed -n 's/^  -\(.\).*/\1/p' | sort -u; }
+letters() { sed -n 's/^  -\(.\).*/\1/p' | sort -u | tr -d '\n'; }
 
 # The message of each fault of the arguments, with the usage where the manual says so.
 test_refused_arguments() {
@@ -53,7 +53,7 @@ test_refused_arguments() {
     run 2 $words
     prints ''
     says_first "$message"
-    check same "$(sed 1d "$work/err" | grep -c '^usage: unifdef-tree ')" "$usage"
+    holds_that same "$(sed 1d "$work/err" | grep -c '^usage: unifdef-tree ')" "$usage"
     [ "$usage" -eq 1 ] || says_only "$message"
   done << 'EOT'
 0:-D1A src:Bad symbol: -D1A
@@ -69,6 +69,16 @@ test_refused_arguments() {
 1:--dry-run src:Unknown option --: each option is one letter; -n shows what would change
 0:-D:Option -D needs an argument
 0:-g:Option -g needs an argument
+0:-g !/third -DA src:Bad pattern: !/third; patterns are matched below each path: write !third
+0:-DA -g+./a/b src:Bad pattern: +./a/b; patterns are matched below each path: write +a/b
+0:-g/.//*.c -DA src:Bad pattern: /.//*.c; patterns are matched below each path: write *.c
+0:-DA -g!a/**/b src:Bad pattern: !a/**/b; write * for **, or a name alone for any directory
+0:-DA -g lib/ src:Bad pattern: lib/; only ! takes a slash at the end: write lib/*
+0:-DA -g +*.h/ src:Bad pattern: +*.h/; only ! takes a slash at the end: write +*.h/*
+0:-DA -g ! src:Bad pattern: !; no name is empty: write * for all names
+0:-DA -g+ src:Bad pattern: +; no name is empty: write * for all names
+0:-DA -g !./ src:Bad pattern: !./; no name is empty: write * for all names
+0:-DA -g ok -g !/x/ -g ! src:Bad pattern: !/x/; patterns are matched below each path: write !x/
 0:-DA src -x2:Option after a path: -x2
 0:-0 src:-0 takes no paths
 0:-s -DA src:Symbols and -s don't go together: it lists all names
@@ -89,6 +99,7 @@ EOT
     refused "$words and -s don't go together" -s "$words" src
   done
   refused 'Bad symbol: -D' -D '' -UA src
+  refused 'Bad pattern: ; no name is empty: write * for all names' -g '' -DA src
   refused "src/\\xff.c: Argument isn't UTF-8; name its directory" -DA $'src/\xff.c'
   refused 'Cannot take arguments' -DA "$(repeat x 5000)"$'\xff.c'
   is src/good.c "$text"

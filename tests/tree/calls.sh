@@ -1,47 +1,52 @@
 # Which calls a run makes, and what it leaves if one of them fails or if it is killed there.
 
+# What strace ends with if its process is killed: 128 and the number of the signal KILL.
+killed=137
+
 # named PATTERN: prints the names of the calls in $work/calls that a pattern of sed finds.
 named() { sed -n "s/^[0-9]* *\\($1\\).*/\\1/p" "$work/calls" | tr '\n' ' '; }
 
 # Each file is old or new after a kill at a call about the tree, and a second run does the rest.
 test_kills() {
-  local calls it killed=0
-  anew traced any all -DA src
+  local calls it
+  anew traced 2 all -DA src
   mapfile -t calls < <(sed -n 's/^[0-9]* *\([a-z_0-9]*\)(\(.*\)/\1 \2/p' "$work/calls" | awk '
     { count[$1]++ }
     /AT_FDCWD, "src"/ { begun = 1 }
     begun && !/^exit/ { print $1, count[$1] }')
   for it in "${calls[@]}"; do
-    anew injected any "${it% *}:signal=KILL:when=${it#* }" -DA src
-    [ "$status" -ne 137 ] || killed=$((killed + 1))
+    anew injected "$killed" "${it% *}:signal=KILL:when=${it#* }" -DA src
     each_old_or_new
-    after 'any -DA src' none_left
+    is src/bad.c '#endif\n'
+    after '2 -DA src' none_left
     is src/a.c src/directory/b.c 'yes\n'
-    check grep -q ', 1 faulty$' "$work/err"
+    holds_that grep -q ', 1 faulty$' "$work/err"
   done
-  check test "$killed" -gt 40
+  holds_that test "${#calls[@]}" -gt 40
 }
 
 test_signals() {
-  local it
-  for it in HUP INT TERM; do
-    anew injected any "rename:signal=$it:when=1" -DA src
-    check test "$status" -gt 128
+  local signal number
+  while read -r signal number; do
+    anew injected $((128 + number)) "rename:signal=$signal:when=1" -DA src
     is src/a.c 'yes\n' and src/directory/b.c "$text"
-  done
+  done <<< $'HUP 1\nINT 2\nTERM 15'
 }
 
-# Each file is old or new if such a call fails. The status is 2 then, unless both are new.
+# Each file is old or new if such a call fails, in a tree without another error. The status is 1
+# only if both are new.
 test_failing_calls() {
   local call errors error i first count
   while read -r call errors; do
-    anew traced any all -DA src
+    anew rm src/bad.c
+    traced 1 all -DA src
     first=$(awk -v call="$call(" '{ count += index($0, call) > 0 }
       /AT_FDCWD, "src"/ { print count + (index($0, call) == 0); exit }' "$work/calls")
     count=$(grep -c " $call(" "$work/calls")
     for error in $errors; do
       for i in $(seq "$first" "$count"); do
-        anew injected any "$call:error=$error:when=$i" -DA src
+        anew rm src/bad.c
+        injected "$whole_or_failed" "$call:error=$error:when=$i" -DA src
         each_old_or_new
         [ "$status" -eq 2 ] || is src/a.c src/directory/b.c 'yes\n'
       done
@@ -60,8 +65,8 @@ EOT
 
 # The bytes of the new file are on the disk before it takes the place of the old one.
 test_syncs() {
-  anew traced any fsync,rename -DA src
-  check same "$(named 'fsync\|rename')" 'fsync rename fsync rename '
+  anew traced 2 fsync,rename -DA src
+  holds_that same "$(named 'fsync\|rename')" 'fsync rename fsync rename '
   anew injected 2 fsync:error=EIO:when=1 -DA src
   says 'src/a.c: Cannot be written: Input/output error'
   is src/a.c "$text" and src/directory/b.c 'yes\n'
@@ -78,13 +83,13 @@ test_syncs() {
 
 # A diff of -d is on the disk before the next file is changed, if it goes to a file.
 test_synced_diffs() {
-  anew traced any write,fdatasync,rename -q -d -DA src
-  check same "$(named 'write(1\|fdatasync\|rename')" \
+  anew traced 2 write,fdatasync,rename -q -d -DA src
+  holds_that same "$(named 'write(1\|fdatasync\|rename')" \
     'rename write(1 fdatasync rename write(1 fdatasync '
   small_tree
-  strace -f -o "$work/calls" -e trace=fdatasync "$TREE" -q -d -DA src 2> "$work/err" |
-    cat > "$work/out"
-  check same "$(grep -c fdatasync "$work/calls")" 0
+  exits 2 strace -f -o "$work/calls" -e trace=fdatasync "$TREE" -q -d -DA src \
+    > >(cat > /dev/null) 2> "$work/err"
+  holds_that same "$(grep -c fdatasync "$work/calls")" 0
   anew injected 2 fdatasync:error=EIO:when=1 -q -d -DA src
   says 'stdout: Cannot be written'
   is src/a.c 'yes\n' and src/directory/b.c "$text"
@@ -92,44 +97,63 @@ test_synced_diffs() {
 
 # No file is read for -n once its diffs can't be written.
 test_stops_showing() {
-  [ -w /dev/full ] || return 0
+  [ -w /dev/full ] || { skip 'a full output' '/dev/full is not there'; return 0; }
   small_tree
-  exits 2 strace -f -o "$work/calls" -e trace=openat "$TREE" -n -DA src > /dev/full 2> "$work/err"
+  exits 2 strace -f -o "$work/calls" -e trace=openat "$TREE" -n -DA src \
+    > /dev/full 2> "$work/err"
   says_only 'stdout: Cannot be written' '1 would change, 0 unchanged, 1 faulty' '4 lines removed'
-  check same "$(grep -c '/a.c"' "$work/calls")" 1
-  check same "$(grep -c '/b.c"' "$work/calls")" 0
+  holds_that same "$(grep -c '/a.c"' "$work/calls")" 1
+  holds_that same "$(grep -c '/b.c"' "$work/calls")" 0
+}
+
+# Nor is one of another name then read for -r. Else its first bytes tell whether more is read.
+test_searches() {
+  small_tree
+  put src/b.x "$text"
+  truncate -s 1M src/image.x
+  traced 2 openat,read -n -r -UA src
+  holds_that same "$(grep -c '/b.x"' "$work/calls")" 1
+  holds_that same "$(grep -A 2 '/image.x"' "$work/calls" | grep -c 'read(.* = 8192$')" 1
+  holds_that same "$(grep -c ' = 1048576$' "$work/calls")" 0
+  [ -w /dev/full ] || return 0
+  exits 2 strace -f -o "$work/calls" -e trace=openat "$TREE" -n -r -UA src \
+    > /dev/full 2> "$work/err"
+  says_only 'stdout: Cannot be written' '1 would change, 0 unchanged, 1 faulty' '4 lines removed' \
+    '0 conditions still name a symbol'
+  holds_that same "$(grep -c '[.]x"' "$work/calls")" 0
 }
 
 # A new file is its user's alone until it gets its mode. No mode or owner is set by a name.
 test_modes() {
   anew chmod 644 src/a.c
-  injected any fchmod:signal=KILL:when=1 -DA src
-  check same "$(stat -c %a src/.unifdef-tree.a.c)" 600
+  injected "$killed" fchmod:signal=KILL:when=1 -DA src
+  holds_that same "$(stat -c %a src/.unifdef-tree.a.c)" 600
   anew chmod 600 src/a.c
   traced 1 fchmod -DA src/a.c
-  check same "$(grep -c 'fchmod(' "$work/calls")" 0
+  holds_that same "$(grep -c 'fchmod(' "$work/calls")" 0
   anew chmod 754 src/a.c
-  traced any chown,lchown,fchownat,chmod,fchmodat,fchmod -DA src
-  check same "$(grep -cE 'chown\(|chmod\(|at\(' "$work/calls")" "$(grep -c 'fchmod(' "$work/calls")"
-  check same "$(stat -c %a src/a.c)" 754
+  traced 2 chown,lchown,fchownat,chmod,fchmodat,fchmod -DA src
+  holds_that same "$(grep -cE 'chown\(|chmod\(|at\(' "$work/calls")" \
+    "$(grep -c 'fchmod(' "$work/calls")"
+  holds_that same "$(stat -c %a src/a.c)" 754
 }
 
 # Only the user's rights excuse an owner or a group that isn't set.
 test_owners() {
   local error
-  is_root || return 0
+  for_root 'owners that cannot be set' || return 0
   for error in EDQUOT EIO EROFS; do
     anew chown 65534:65534 src/a.c
     injected 2 "fchown:error=$error" -DA src/a.c
-    check grep -q '^unifdef-tree: src/a.c: Cannot be written: ' "$work/err"
+    holds_that grep -q '^unifdef-tree: src/a.c: Cannot be written: ' "$work/err"
     is src/a.c "$text"
-    check same "$(stat -c %u src/a.c)" 65534
+    holds_that same "$(stat -c %u src/a.c)" 65534
     none_left
   done
   for error in EPERM EINVAL EOPNOTSUPP ENOSYS; do
     anew chown 65534:65534 src/a.c
     chmod 4755 src/a.c
     injected 1 "fchown:error=$error" -DA src/a.c
-    check same "$(stat -c '%a %u' src/a.c)" '755 0'
+    holds_that same "$(stat -c '%a %u' src/a.c)" '755 0'
   done
 }

@@ -16,21 +16,21 @@ test_keeps() {
   put directory/f.c "$text"
   before=$(stat -c '%i %y' src/same.c)
   one=$(number src/one.c)
-  after 'any -n -w -DA -- src src/one.c ./src/mode.c' says '3 would change, 1 unchanged, 0 faulty'
+  after '1 -n -w -DA -- src src/one.c ./src/mode.c' says '3 would change, 1 unchanged, 0 faulty'
   after '2 -DA -- src/one.c src/three.c' says 'src/one.c: Has several links; -w writes into it'
   is src/one.c "$text"
   after '1 -DA -w -- src src/one.c ./src/mode.c' says '3 changed, 1 unchanged, 0 faulty'
-  check same "$(stat -c %a src/mode.c)" 754
-  check same "$(stat -c '%i %y' src/same.c)" "$before"
-  check same "$(number src/one.c) $(number src/two.c)" "$one $one"
+  holds_that same "$(stat -c %a src/mode.c)" 754
+  holds_that same "$(stat -c '%i %y' src/same.c)" "$before"
+  holds_that same "$(number src/one.c) $(number src/two.c)" "$one $one"
   is src/mode.c src/two.c outside.c 'yes\n'
-  check same "$(readlink src/{symbolic,outside,dangling}.c)" $'one.c\n../elsewhere.c\nnowhere'
+  holds_that same "$(readlink src/{symbolic,outside,dangling}.c)" $'one.c\n../elsewhere.c\nnowhere'
   is elsewhere.c directory/f.c "$text"
   none_left
-  after 'any -DA -- src/linked' is directory/f.c 'yes\n'
+  after '1 -DA -- src/linked' is directory/f.c 'yes\n'
   after '2 -DA -- src/outside.c' says_first 'src/outside.c: Is a symbolic link'
   put src/one.c "$text"
-  after 'any -c -DA -w -- src/one.c src ./src' is src/two.c '#ifdef A\n#else\nno\n#endif\n'
+  after '1 -c -DA -w -- src/one.c src ./src' is src/two.c '#ifdef A\n#else\nno\n#endif\n'
 }
 
 # -n reports the links that a run reports.
@@ -42,8 +42,8 @@ test_links() {
   after '2 -n -DA src' says 'src/a.c: Has several links; -w writes into it'
   prints ''
   cp "$work/err" "$work/shown"
-  tree -DA src
-  check same "$(sed 's/would change/changed/' "$work/shown")" "$(cat "$work/err")"
+  run 2 -DA src
+  holds_that same "$(sed 's/would change/changed/' "$work/shown")" "$(cat "$work/err")"
   after '1 -n -w -DA src' prints 1 grep -c '^-#ifdef'
 }
 
@@ -58,7 +58,7 @@ test_refusals() {
   chmod 0 src/unreadable.c src/closed
   chmod 444 src/locked.c
   chmod 555 src/sealed
-  $as any -DA src
+  $as 2 -DA src
   says '0 changed, 0 unchanged, 4 faulty' 'src/locked.c: Cannot be written: Permission denied' \
     "src/sealed/a.c: Its directory can't be written; -w writes into the file" \
     'src/closed/: Cannot be read: Permission denied' \
@@ -66,27 +66,27 @@ test_refusals() {
   is src/locked.c src/sealed/a.c "$text"
   $as 2 -DA src/closed
   says_only 'src/closed/: Cannot be read: Permission denied'
-  $as any -w -DA src/sealed
+  $as 1 -w -DA src/sealed
   is src/sealed/a.c 'yes\n'
   chmod 755 src/sealed src/closed
   chmod 644 src/unreadable.c
-  is_root || return 0
+  for_root 'owners that stay' || return 0
   fresh src/a.c
   chmod 640 src/a.c
   chown 65534:65533 src/a.c
-  tree -DA src
-  check same "$(stat -c '%u:%g %a' src/a.c)" '65534:65533 640'
+  run 1 -DA src
+  holds_that same "$(stat -c '%u:%g %a' src/a.c)" '65534:65533 640'
   is src/a.c 'yes\n'
 }
 
 # Rights to run as the owner go if the owner is another one.
 test_setuid() {
-  is_root || return 0
+  for_root 'rights to run as the owner' || return 0
   fresh src/a.c
   chmod 6777 src/a.c
   chown 65534 src
   as_nobody 1 -DA src
-  check same "$(stat -c '%u %a' src/a.c)" '65534 777'
+  holds_that same "$(stat -c '%u %a' src/a.c)" '65534 777'
 }
 
 # The name that locks a second run out. A file that a killed run left is removed.
@@ -97,7 +97,7 @@ test_locks() {
   under 2 flock src/.unifdef-tree.a.c -- -DA src
   says "$taken"
   is src/a.c "$text" and src/.unifdef-tree.a.c 'left\n'
-  after 'any -n -DA src' is src/.unifdef-tree.a.c 'left\n'
+  after '1 -n -DA src' is src/.unifdef-tree.a.c 'left\n'
   ln src/.unifdef-tree.a.c linked
   after '1 -DA src' says_only '1 changed, 0 unchanged, 0 faulty' '4 lines removed'
   is src/a.c 'yes\n' and linked 'left\n'
@@ -106,51 +106,51 @@ test_locks() {
     fresh src/a.c
     put mine 'mine\n'
     $kind src/.unifdef-tree.a.c
-    after 'any -DA src' says "$taken"
-    check same "$(find src -mindepth 1 | wc -l)" 2
+    after '2 -DA src' says "$taken"
+    holds_that same "$(find src -mindepth 1 | wc -l)" 2
     is mine 'mine\n'
     rm -r src/.unifdef-tree.a.c
   done
   long=src/$(repeat 0 253).c
   put "$long" "$text"
-  after 'any -DA src' is src/a.c "$long" 'yes\n'
+  after '1 -DA src' is src/a.c "$long" 'yes\n'
   none_left
   fresh src/a.c src/.unifdef-tree.other.c
-  tree -g '*' -DA src
+  run 1 -g '*' -DA src
   is src/.unifdef-tree.other.c "$text" and src/a.c 'yes\n'
 }
 
 # Files over which none is renamed: a mounted one, and others' in a directory with the sticky bit.
 test_unrenamed() {
-  is_root || return 0
+  for_root 'files that cannot be renamed' || return 0
   fresh src/a.c
   put "$work/over" "$text"
   if mount --bind "$work/over" src/a.c 2> /dev/null; then
-    tree -DA src
+    run 2 -DA src
     says 'src/a.c: Cannot be replaced; -w writes into it: Device or resource busy'
     none_left
-    after 'any -w -DA src' is "$work/over" 'yes\n'
+    after '1 -w -DA src' is "$work/over" 'yes\n'
     umount src/a.c
   else
-    left_out 'files cannot be mounted here'
+    skip 'a mounted file' 'no file can be mounted here'
   fi
   fresh src/a.c
   chmod 666 src/a.c
   chmod 1777 src
-  as_nobody any -DA src
+  as_nobody 2 -DA src
   says 'src/a.c: Cannot be replaced; -w writes into it: Operation not permitted'
   is src/a.c "$text"
-  as_nobody any -w -DA src
+  as_nobody 1 -w -DA src
   is src/a.c 'yes\n'
 }
 
 # The files of a lower layer, which are copied when they are opened for writing.
 test_overlay() {
   local layers=$work/layers
-  is_root || return 0
+  for_root 'overlays' || return 0
   mkdir -p "$layers"
   mount -t tmpfs none "$layers" 2> /dev/null ||
-    { left_out 'nothing can be mounted here: overlays'; return; }
+    { skip overlays 'nothing can be mounted here'; return; }
   mkdir "$layers/lower" "$layers/upper" "$layers/work"
   put "$layers"/lower/{a,b,c}.c "$text"
   fresh
@@ -160,26 +160,29 @@ test_overlay() {
     is "$layers/lower/a.c" "$text"
     umount src
   else
-    left_out 'overlays cannot be mounted here'
+    skip overlays 'none can be mounted here'
   fi
   umount "$layers"
 }
 
 # A run in place over real headers is like unifdef on each file.
 test_real_headers() {
-  local name changed=0
-  [ -d /usr/include/linux ] || return 0
+  local name changed=0 wanted=1
+  [ -d /usr/include/linux ] || { lacks linux-libc-dev 'real headers'; return 0; }
   fresh
   cp -rL /usr/include/linux src
   cp -r src wanted
-  tree -q -g '*' -D__KERNEL__ -U__cplusplus -- src
   while IFS= read -r name; do
-    "$UNIFDEF" -D__KERNEL__ -U__cplusplus "$name" > "$work/out" 2> /dev/null
-    if [ "$?" -eq 1 ]; then
-      changed=$((changed + 1))
-      cp "$work/out" "$name"
-    fi
+    "$UNIFDEF" -D__KERNEL__ -U__cplusplus "$name" > "$work/output" 2> /dev/null
+    case $? in
+      1)
+        changed=$((changed + 1))
+        cp "$work/output" "$name"
+        ;;
+      2) wanted=2 ;;
+    esac
   done < <(find wanted -type f)
-  check diff -r wanted src
-  check test "$changed" -gt 0
+  run "$wanted" -q -g '*' -D__KERNEL__ -U__cplusplus -- src
+  holds_that diff -r wanted src
+  holds_that test "$changed" -gt 0
 }

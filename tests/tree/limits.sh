@@ -16,13 +16,14 @@ test_full_disk() {
     ln -s "$work/small" src
     printf '%s\n' "$big" > src/c.c
   else
+    skip 'a full file system' 'nothing can be mounted here'
     limited=(within 2 -f 40)
   fi
   printf '%s\n' "$big" > src/a.c
   put src/b.c "$text"
   cp -rL src was
   "${limited[@]}" -DA src
-  check cmp was/a.c src/a.c
+  holds_that cmp was/a.c src/a.c
   is src/b.c 'yes\n'
   none_left
   [ -L src ] || return 0
@@ -30,8 +31,8 @@ test_full_disk() {
   ln src/a.c src/linked.c
   head -c 200000 /dev/zero > src/filled 2> /dev/null
   # A shorter text, written into a file, takes no space.
-  tree -DA -w src
-  check same "$(wc -l < src/linked.c)" 9002
+  run 1 -DA -w src
+  holds_that same "$(wc -l < src/linked.c)" 9002
   rm src/filled src
   umount "$work/small"
 }
@@ -70,13 +71,16 @@ test_large_files() {
   local words
   fresh
   # An image of a file system may be too small for them.
-  [ "$(df -k --output=avail . | tail -n 1)" -gt 150000 ] || return 0
+  if [ "$(df -k --output=avail . | tail -n 1)" -lt 150000 ]; then
+    [ -n "$mounted" ] || skip 'large files' 'there is too little space'
+    return
+  fi
   { printf '%b' "$text"; yes 'int x;' | head -n 2600000; } > src/a.c
   { echo yes; yes 'int x;' | head -n 2600000; } > "$work/wanted"
   for words in -DA '-p -DA' '-w -DA'; do
     cp src/a.c src/b.c
     run 1 -q $words src/b.c
-    check cmp -s src/b.c "$work/wanted"
+    holds_that cmp -s src/b.c "$work/wanted"
   done
 }
 
@@ -88,63 +92,69 @@ test_long_lines() {
   says 'src/long.c: Cannot be read: line too long'
   is src/a.c 'yes\n'
   fresh
-  { printf '%b' "$text"; head -c 65535 /dev/zero | tr '\0' a; echo; } > src/a.c
-  { printf '%b' "$text"; head -c 65536 /dev/zero | tr '\0' a; echo; } > src/b.c
+  put src/a.c "$text$(repeat a 65535)\n"
+  put src/b.c "$text$(repeat a 65536)\n"
   run 2 -q -DA src
-  check same "$(stat -c %s src/a.c)" 65540
-  check grep -qxF 'unifdef: src/b.c: 6: Line too long' "$work/err"
+  holds_that same "$(stat -c %s src/a.c)" 65540
+  holds_that grep -qxF 'unifdef: src/b.c: 6: Line too long' "$work/err"
 }
 
 # With less and less memory, a list of -r or -s is whole, or there is a message and status 2.
 test_little_memory() {
-  local i list lines low high limit wrong told
+  local i list lines low high limit wrong told listed_or_failed='0 2'
   fresh
   for i in {1..9}; do
     seq -f "#if NAME_${i}_%g || A" 3000 | sed 's/$/\n#endif/' > "src/$i.c"
   done
   for list in '-n -r -UA' '-s'; do
-    lines=27000 low=0 high=400000 wrong=0 told=0
+    # Far less than 4,000 KiB, and the system couldn't start the program.
+    lines=27000 low=4000 high=400000 wrong=0 told=0
     [ "$list" != '-s' ] || lines=27001
     run 0 $list -- src
-    check same "$(wc -l < "$work/out")" "$lines"
+    holds_that same "$(wc -l < "$work/out")" "$lines"
     cp "$work/out" "$work/whole"
     while [ $((high - low)) -gt 32 ]; do
       limit=$(((low + high) / 2))
-      within any -v "$limit" $list -- src
+      within "$listed_or_failed" -v "$limit" $list -- src
       if [ "$status" -eq 0 ]; then high=$limit; else low=$limit; fi
     done
     for ((i = 0; i < 16; i++)); do
-      within any -v $((high + 64 - 64 * i)) $list -- src
+      within "$listed_or_failed" -v $((high + 64 - 64 * i)) $list -- src
       if [ "$status" -eq 0 ]; then
         cmp -s "$work/out" "$work/whole" || wrong=$((wrong + 1))
       else
-        [ "$status" -eq 2 ] && grep -qi 'out of memory$' "$work/err" || wrong=$((wrong + 1))
+        grep -qi 'out of memory$' "$work/err" || wrong=$((wrong + 1))
         ! grep -qxF 'unifdef-tree: stdout: Out of memory' "$work/err" || told=$((told + 1))
       fi
     done
-    check same "$wrong" 0
-    check test "$told" -gt 0
+    holds_that same "$wrong" 0
+    holds_that test "$told" -gt 0
   done
 }
 
-# Each growth of memory is refused in turn: a message says so if the diff of a changed file is lost.
+# Each growth of memory is refused in turn. The run does without it, or has a message, also if only
+# the diff of a changed file is lost.
 test_lost_for_memory() {
   local i lost=0 untold=0 refusing=$work/refuse.so source=$here/tests/faults/refuse.c
-  "${cc[@]}" -O1 -shared -fPIC -o "$refusing" "$source" -ldl 2> /dev/null ||
-    { left_out 'there is no C compiler: refused memory'; return; }
+  has "${cc[0]}" || { lacks "${cc[0]}" 'refused memory'; return; }
+  holds_that "${cc[@]}" -O1 -shared -fPIC -o "$refusing" "$source" -ldl
   fresh src/a.c
-  under any env REFUSE_COUNT="$work/count" LD_PRELOAD="$refusing" -- -d -DA src
-  check test -s "$work/out"
+  under 1 env REFUSE_COUNT="$work/count" LD_PRELOAD="$refusing" -- -d -DA src
+  prints '--- src/a.c' head -n 1
+  cp "$work/out" "$work/whole"
   for i in $(seq 1 "$(wc -c < "$work/count")"); do
     put src/a.c "$text"
-    under any env REFUSE_FROM="$i" REFUSE_TO="$i" LD_PRELOAD="$refusing" -- -d -DA src
-    if holds src/a.c 'yes\n' && [ ! -s "$work/out" ]; then
+    under "$whole_or_failed" env REFUSE_FROM="$i" REFUSE_TO="$i" LD_PRELOAD="$refusing" \
+      -- -d -DA src
+    if [ "$status" -eq 1 ]; then
+      is src/a.c 'yes\n'
+      holds_that cmp "$work/out" "$work/whole"
+    elif has_text src/a.c 'yes\n' > /dev/null && [ ! -s "$work/out" ]; then
       lost=$((lost + 1))
       grep -qxF 'unifdef-tree: stdout: Out of memory' "$work/err" || untold=$((untold + 1))
-      ends 2
     fi
   done
-  check test "$lost" -gt 0
-  check same "$untold" 0
+  holds_that test "$lost" -gt 0
+  holds_that same "$untold" 0
   rm "$refusing" "$work/count"
 }

@@ -16,10 +16,10 @@ test_names() {
   rm "$bad"
   after '0 -DA -- src' is "${chosen[@]}" 'yes\n' and "${others[@]}" "$text"
   none_left
-  tree -DA -g '*.txt' -g '*.new' src/a.txt src
+  run 1 -DA -g '*.txt' -g '*.new' src/a.txt src
   says '2 changed, 0 unchanged, 0 faulty'
   put ./-x.c "$text"
-  after 'any -DA -- -x.c' is ./-x.c 'yes\n'
+  after '1 -DA -- -x.c' is ./-x.c 'yes\n'
 }
 
 test_named_files() {
@@ -27,14 +27,14 @@ test_named_files() {
   mkfifo src/pipe.c
   refused 'No file matches' -DA -g '*.none' src
   is src/a.txt "$text"
-  after 'any -DA src/a.txt' is src/a.txt 'yes\n'
+  after '1 -DA src/a.txt' is src/a.txt 'yes\n'
   put src/a.txt src/b.txt "$text"
-  after 'any -DA -g a.txt src/b.txt' is src/b.txt 'yes\n' and src/a.txt "$text"
+  after '1 -DA -g a.txt src/b.txt' is src/b.txt 'yes\n' and src/a.txt "$text"
   refused 'src/pipe.c: Is no regular file' -DA src/x.cc src/pipe.c
   is src/x.cc "$text"
 }
 
-# Messages show control bytes of names, and each is one write.
+# Messages show control characters of names, and each is one write.
 test_messages() {
   local sealed=src/$'del\177 and\nline.c'
   fresh "$sealed"
@@ -43,12 +43,15 @@ test_messages() {
   mkfifo src/$'tab\t.c'
   refused 'src/tab\x09.c: Is no regular file' -DA src/$'tab\t.c'
   refused 'src/\x1b[31mred.c: No such file or directory' -DA src/$'\e[31mred.c'
+  refused $'src/\xc2\xa0\xc3\x85\\xc2\\x80\\xc2\\x9f: No such file or directory' \
+    -DA $'src/\xc2\xa0\xc3\x85\xc2\x80\xc2\x9f'
   refused 'Bad symbol: -DA\x0a1' -D$'A\n1' src
-  after 'any -DA src' check grep -qxF 'unifdef: src/bell\x07.c: 1: Inappropriate #endif' "$work/err"
+  run 2 -DA src
+  holds_that grep -qxF 'unifdef: src/bell\x07.c: 1: Inappropriate #endif' "$work/err"
   is_root || says 'src/del\x7f and\x0aline.c: Cannot be read: Permission denied'
-  can_trace || return 0
-  under any strace -f -s 200 -o "$work/calls" -e trace=write -- -DA src
-  check same "$(grep 'write(2' "$work/calls" | grep -cv 'write(2, "unifdef.*\\n"')" 0
+  can_trace 'messages in one call' || return 0
+  under 2 strace -f -s 200 -o "$work/calls" -e trace=write -- -DA src
+  holds_that same "$(grep 'write(2' "$work/calls" | grep -cv 'write(2, "unifdef.*\\n"')" 0
 }
 
 # Paths from the input are read by the program alone.

@@ -3,6 +3,7 @@
 # paused STATUS OPTIONS CALL N COMMAND..: runs a command while a run waits after its Nth CALL.
 paused() {
   local pid line tracer
+  read -ra ran <<< "$TREE $2 src"
   rm -f "$work/trace"
   mkfifo "$work/trace"
   strace -f -o "$work/trace" -e trace="$3" -e inject="$3:signal=STOP:when=$4" \
@@ -40,12 +41,28 @@ with_outside() {
 }
 
 # What another program does.
-put_link() { mv "$1" "$work/moved"; ln -s "$work/victim" "$1"; }
-move_directory() { mv src/directory was; ln -s ../outside src/directory; }
-put_pipe() { rm src/directory/b.c; mkfifo src/directory/b.c; }
+put_link() {
+  mv "$1" "$work/moved"
+  ln -s "$work/victim" "$1"
+}
+move_directory() {
+  mv src/directory was
+  ln -s ../outside src/directory
+}
+put_pipe() {
+  rm src/directory/b.c
+  mkfifo src/directory/b.c
+}
 edit() { printf '#ifdef B' | dd of=src/a.c conv=notrunc status=none; }
-edit_in_secret() { touch -r src/a.c "$work/time"; edit; touch -r "$work/time" src/a.c; }
-other_run() { "$TREE" -q -UA src 2> "$work/other"; }
+edit_in_secret() {
+  touch -r src/a.c "$work/time"
+  edit
+  touch -r "$work/time" src/a.c
+}
+other_run() {
+  "$TREE" -q -UA src 2> "$work/other"
+  holds_that same "$?" 2
+}
 edited='#ifdef B\nyes\n#else\nno\n#endif\n'
 
 # A file that changes between read and rename, and two runs at once.
@@ -54,9 +71,9 @@ test_meanwhile() {
   is src/a.c 'mine\n' and src/directory/b.c 'yes\n'
   none_left
   anew paused 2 -DA fchmod 1 rm src/a.c
-  check same "$(ls src)" $'bad.c\ndirectory\nsame.c'
-  anew paused any -DA fchmod 1 other_run
-  check grep -qxF "unifdef-tree: src/a.c: Another run is at it; if none is, remove\
+  holds_that same "$(ls src)" $'bad.c\ndirectory\nsame.c'
+  anew paused 2 -DA fchmod 1 other_run
+  holds_that grep -qxF "unifdef-tree: src/a.c: Another run is at it; if none is, remove\
  src/.unifdef-tree.a.c" "$work/other"
   is src/a.c 'yes\n'
   none_left
@@ -64,23 +81,27 @@ test_meanwhile() {
 
 # A changed file is left alone even if its size and times are the old ones. New times are no change.
 test_compares_bytes() {
-  meanwhile any -DA fsync 1 edit_in_secret
+  meanwhile 2 -DA fsync 1 edit_in_secret
   is src/a.c "$edited"
   anew paused 2 -DA fsync 1 touch src/a.c
   is src/a.c 'yes\n'
-  meanwhile any -DA fsync 1 chmod 600 src/a.c
-  check same "$(stat -c %a src/a.c)" 600
+  meanwhile 2 -DA fsync 1 chmod 600 src/a.c
+  holds_that same "$(stat -c %a src/a.c)" 600
 }
 
-# A change after the second reading is found by the file's times, though the size stays.
+# A change after the second reading is found by the file's times, though the size stays: also by the
+# time of its last change of any kind, if the time of its bytes is the old one again.
 test_looks_at_times() {
-  anew touch -d '2001-01-01' src/a.c
-  under any strace -f -y -o "$work/calls" -e trace=read -- -DA src
-  anew touch -d '2001-01-01' src/a.c
-  paused any -DA read "$(last_of read '/src/a.c>')" edit
-  says 'src/a.c: Changed meanwhile'
-  is src/a.c "$edited"
-  none_left
+  local by
+  for by in edit edit_in_secret; do
+    anew touch -d '2001-01-01' src/a.c
+    under 2 strace -f -y -o "$work/calls" -e trace=read -- -DA src
+    anew touch -d '2001-01-01' src/a.c
+    paused 2 -DA read "$(last_of read '/src/a.c>')" "$by"
+    says 'src/a.c: Changed meanwhile'
+    is src/a.c "$edited"
+    none_left
+  done
 }
 
 # A link in the place of the new file is not followed.
@@ -89,16 +110,16 @@ test_links_for_new_files() {
   chmod 600 "$work/victim"
   meanwhile 2 -DA fchmod 1 put_link src/.unifdef-tree.a.c
   is src/a.c "$text"
-  check same "$(stat -c %a "$work/victim") $(cat "$work/victim")" '600 mine'
-  check same "$(readlink src/.unifdef-tree.a.c)" "$work/victim"
-  meanwhile any -DA fchmod 1 rm src/.unifdef-tree.a.c
+  holds_that same "$(stat -c %a "$work/victim") $(cat "$work/victim")" '600 mine'
+  holds_that same "$(readlink src/.unifdef-tree.a.c)" "$work/victim"
+  meanwhile 2 -DA fchmod 1 rm src/.unifdef-tree.a.c
   is src/a.c "$text"
 }
 
 # The file that is read is the one that was found.
 test_finds_same_file() {
   local number options
-  anew traced any openat -DA src
+  anew traced 2 openat -DA src
   number=$(number_of openat '/a.c"')
   for options in -DA '-n -DA'; do
     with_outside
@@ -107,29 +128,29 @@ test_finds_same_file() {
     is outside/b.c "$text"
   done
   anew paused 2 -DA openat "$number" put_pipe
-  check grep -q '^unifdef-tree: src/directory/b.c: Cannot be read' "$work/err"
+  holds_that grep -q '^unifdef-tree: src/directory/b.c: Cannot be read' "$work/err"
 }
 
 # No call leaves a directory that becomes a link before its listing, or before a replacement in it.
 test_stays_in_tree() {
   local number options
-  anew traced any statx -DA src
+  anew traced 2 statx -DA src
   number=$(number_of statx '/directory"')
   with_outside
   put outside/c.c "$text"
   paused 2 -DA statx "$number" move_directory
   says 'src/directory/: Cannot be read: changed meanwhile'
-  check same "$(find outside -type f | wc -l)" 2
+  holds_that same "$(find outside -type f | wc -l)" 2
   is outside/b.c outside/c.c "$text"
-  anew traced any openat -DA src
+  anew traced 2 openat -DA src
   number=$(number_of openat '/b.c", O_RDWR')
   for options in -DA '-w -DA'; do
     with_outside
     [ "$options" = -DA ] || ln src/directory/b.c linked.txt
-    paused any "$options" openat "$number" move_directory
+    paused 2 "$options" openat "$number" move_directory
     is was/b.c 'yes\n'
     none_left
-    check same "$(ls -A outside)" b.c
+    holds_that same "$(ls -A outside)" b.c
     is outside/b.c "$text"
   done
 }
@@ -137,10 +158,10 @@ test_stays_in_tree() {
 # -w writes into the file whose bytes were compared, and into no other one.
 test_writes_into_open_file() {
   anew ln src/a.c linked.txt
-  traced any statx -w -DA src
+  traced 2 statx -w -DA src
   anew ln src/a.c linked.txt
   put "$work/victim" "$text"
-  paused any '-w -DA' statx "$(last_of statx '/a.c"')" put_link src/a.c
+  paused 2 '-w -DA' statx "$(last_of statx '/a.c"')" put_link src/a.c
   is linked.txt 'yes\n' and "$work/victim" "$text"
 }
 
@@ -159,13 +180,12 @@ test_numbers_used_again() {
   local first second old new
   fresh src/a.c src/b.c
   [ "$(stat -c %W src/a.c)" -gt 0 ] 2> /dev/null || return 0
-  traced any statx -n -DA src
+  traced 1 statx -n -DA src
   first=$(grep -m 1 -o '[ab]\.c"' "$work/calls" | tr -d '"')
   second=$([ "$first" = a.c ] && echo b.c || echo a.c)
   old=$(number "src/$first")
-  paused any -DA statx "$(number_of statx '/[ab]\.c"')" save_both "$first" "$second"
+  paused 2 -DA statx "$(number_of statx '/[ab]\.c"')" save_both "$first" "$second"
   [ "$old" = "$new" ] || return 0
-  ends 2
   says "src/$first: Changed meanwhile"
   is "src/$second" 'yes\n'
 }

@@ -1,57 +1,321 @@
 # Which blank lines go under -B.
 
-# squeezes BEFORE AFTER [WORD..]: checks what -B makes of a file. A second run changes nothing.
+# squeezes [WORD..]: checks what -B makes of the file of before_and_after. A second run changes
+# nothing.
 squeezes() {
-  put src/a.c "$1"
-  run 1 -q -B "${@:3}" -UVMS src
+  before_and_after
+  run 1 -q -B "$@" -UVMS src
   says_only
-  is src/a.c "$2"
-  run 0 -n -q -B "${@:3}" -UVMS src
+  holds_that diff "$work/wanted" src/a.c
+  run 0 -n -q -B "$@" -UVMS src
   prints ''
 }
 
-# Gaps, stretches, and the lines above and below.
-test_squeezed() {
-  local gone='#ifdef VMS\nv();\n#endif\n'
+# What -UVMS removes: with and without a line between the directives.
+gone=$'#ifdef VMS\nv();\n#endif'
+gone_empty=$'#ifdef VMS\n#endif'
+
+# As many blank lines stay as the longest part of a run had that removed lines split.
+test_squeezed_gaps() {
   fresh
-  squeezes "a;\n\n$gone\nb;\n" 'a;\n\nb;\n'
-  squeezes "a;\n\n\n$gone\nb;\n$gone\n${gone}c;\n" 'a;\n\n\nb;\n\nc;\n'
-  squeezes "f() {\n$gone\n  a;\n\n$gone}\n" 'f() {\n  a;\n}\n'
-  squeezes "f() {\n\n$gone\n  a;\n\n$gone\n}\n" 'f() {\n\n  a;\n\n}\n'
-  squeezes "#if X\n$gone\na;\n\n$gone#else\n$gone\nb;\n\n$gone#endif\n" \
-    '#if X\na;\n#else\nb;\n#endif\n'
-  squeezes "$gone\na;\n\n$gone" 'a;\n'
-  squeezes "f() { /* f */\n$gone\n  a;\n}\n" 'f() { /* f */\n  a;\n}\n'
-  squeezes "a; /* { */\n$gone\nb;\n" 'a; /* { */\n\nb;\n'
-  squeezes "a;\n\n\nb;\n${gone}c;\n" 'a;\n\n\nb;\nc;\n'
-  squeezes "a;\r\n\r\n#ifdef VMS\r\n#endif\r\n\r\nb;\r\n" 'a;\r\n\r\nb;\r\n'
-  squeezes "#define X \\\\\n\n$gone}\n/* x\n\n\n y */\n${gone}z;\n" \
-    '#define X \\\n\n}\n/* x\n\n\n y */\nz;\n'
-  squeezes "a;\n\n\n$gone\nb;\n$gone\n${gone}c;\n\n#if VMS || \\\\\n  X\n\nd;\n\n$gone#endif\n\n$gone" \
-    'a;\n\n\nb;\n\nc;\n\n#if X\nd;\n#endif\n' -p
-  squeezes '#define X \\\n\n#ifdef VMS\nv\n#endif\n}\n/*\n\n\n*/\n' \
-    '#define X \\\n\n}\n/*\n\n\n*/\n'
-  gone='#ifdef VMS\n#endif\n'
-  squeezes "a;\n\n\n$gone\nb;\n$gone\n${gone}c;\n\n#if VMS || \\\\\n  X\nd;\n\n$gone#endif\n\n$gone" \
-    'a;\n\n\nb;\n\nc;\n\n#if X\nd;\n#endif\n' -p
+  squeezes << EOT
+a;
+
+$gone
+
+b;
+->
+a;
+
+b;
+EOT
+  squeezes << EOT
+a;
+
+
+$gone
+
+b;
+$gone
+
+$gone
+c;
+->
+a;
+
+
+b;
+
+c;
+EOT
+  # No removed line is next to the first run.
+  squeezes << EOT
+a;
+
+
+b;
+$gone
+c;
+->
+a;
+
+
+b;
+c;
+EOT
+  # A carriage return alone makes a blank line.
+  put src/a.c 'a;\r\n\r\n#ifdef VMS\r\n#endif\r\n\r\nb;\r\n'
+  run 1 -q -B -UVMS src
+  says_only
+  is src/a.c 'a;\r\n\r\nb;\r\n'
+  after '0 -n -q -B -UVMS src' prints ''
+}
+
+# After a line that opens, only those stay that came before the removed lines; before a line that
+# closes, only those that came after them.
+test_squeezed_blocks() {
+  fresh
+  squeezes << EOT
+f() {
+$gone
+
+  a;
+
+$gone
+}
+->
+f() {
+  a;
+}
+EOT
+  squeezes << EOT
+f() {
+
+$gone
+
+  a;
+
+$gone
+
+}
+->
+f() {
+
+  a;
+
+}
+EOT
+  # Directives open and close groups, and so do the beginning and the end of a file.
+  squeezes << EOT
+#if X
+$gone
+
+a;
+
+$gone
+#else
+$gone
+
+b;
+
+$gone
+#endif
+->
+#if X
+a;
+#else
+b;
+#endif
+EOT
+  squeezes << EOT
+$gone
+
+a;
+
+$gone
+->
+a;
+EOT
+  # Comments don't count.
+  squeezes << EOT
+f() { /* f */
+$gone
+
+  a;
+}
+->
+f() { /* f */
+  a;
+}
+EOT
+  squeezes << EOT
+a; /* { */
+$gone
+
+b;
+->
+a; /* { */
+
+b;
+EOT
+}
+
+# A blank line stays after a backslash and in a comment.
+test_squeezed_inside() {
+  fresh
+  squeezes << EOT
+#define X \\
+
+$gone
+}
+/* x
+
+
+ y */
+$gone
+z;
+->
+#define X \\
+
+}
+/* x
+
+
+ y */
+z;
+EOT
+  squeezes << EOT
+#define X \\
+
+$gone
+}
+/*
+
+
+*/
+->
+#define X \\
+
+}
+/*
+
+
+*/
+EOT
+}
+
+# With -p, the lines of a directive that it joins are removed lines, too.
+test_squeezed_and_pruned() {
+  fresh
+  squeezes -p << EOT
+a;
+
+
+$gone
+
+b;
+$gone
+
+$gone
+c;
+
+#if VMS || \\
+  X
+
+d;
+
+$gone
+#endif
+
+$gone
+->
+a;
+
+
+b;
+
+c;
+
+#if X
+d;
+#endif
+EOT
+  squeezes -p << EOT
+a;
+
+
+$gone_empty
+
+b;
+$gone_empty
+
+$gone_empty
+c;
+
+#if VMS || \\
+  X
+d;
+
+$gone_empty
+#endif
+
+$gone_empty
+->
+a;
+
+
+b;
+
+c;
+
+#if X
+d;
+#endif
+EOT
 }
 
 # The counts, the diffs and the list.
 test_squeezed_counts() {
-  local before='int a;\n\n#ifdef VMS\nint v;\n#endif\n\nint b;\nvoid f(void) {\n#ifdef VMS\n  v();
-#endif\n\n  a = 1;\n\n#ifdef VMS\n  v();\n#endif\n}\n'
-  local after='int a;\n\nint b;\nvoid f(void) {\n  a = 1;\n}\n'
-  alone src/a.c "$before"
-  after '1 -n -B -UVMS src' is src/a.c "$before"
+  fresh
+  cat > src/a.c << 'EOT'
+int a;
+
+#ifdef VMS
+int v;
+#endif
+
+int b;
+void f(void) {
+#ifdef VMS
+  v();
+#endif
+
+  a = 1;
+
+#ifdef VMS
+  v();
+#endif
+}
+EOT
+  cat > "$work/wanted" << 'EOT'
+int a;
+
+int b;
+void f(void) {
+  a = 1;
+}
+EOT
+  cp src/a.c "$work/before"
+  after '1 -n -B -UVMS src' holds_that diff "$work/before" src/a.c
   cp "$work/out" "$work/diff"
   after '1 -B -UVMS src' says_only '1 changed, 0 unchanged, 0 faulty' '12 lines removed'
-  is src/a.c "$after"
-  put src/a.c "$before"
-  after '1 -B -d -UVMS src' check cmp -s "$work/out" "$work/diff"
-  patch -s -R -p0 < "$work/diff"
-  is src/a.c "$before"
-  patch -s -p0 < "$work/diff"
-  is src/a.c "$after"
+  holds_that diff "$work/wanted" src/a.c
+  cp "$work/before" src/a.c
+  after '1 -B -d -UVMS src' holds_that cmp "$work/out" "$work/diff"
+  holds_that patch -s -R -p0 -i "$work/diff"
+  holds_that diff "$work/before" src/a.c
+  holds_that patch -s -p0 -i "$work/diff"
+  holds_that diff "$work/wanted" src/a.c
   put src/a.c 'a;\n\n#ifdef Y\n#endif\n\n#if Y(1)\n#endif\n'
   after '1 -B -r -q -UY src' prints 'src/a.c:3: #if Y(1)'
 }

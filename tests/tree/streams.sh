@@ -46,50 +46,52 @@ test_marks() {
     '1 changed, 1 unchanged, 3 faulty' '2 lines removed'
   is src/later.h '\xef\xbb\xbf#pragma once\nyes\n'
   for name in big.h first.h little.h; do
-    check cmp "src/$name" "was/$name"
+    holds_that cmp "src/$name" "was/$name"
   done
 }
 
-# on_terminal WORDS: runs unifdef-tree on a terminal, with all that it shows in $work/out.
-on_terminal() { script -qec "'$TREE' $1" /dev/null < /dev/null > "$work/out"; }
+# on_terminal STATUS WORDS: runs it on a terminal, with all that it shows in $work/out.
+on_terminal() { exits "$1" script -qec "'$TREE' $2" /dev/null < /dev/null > "$work/out"; }
 without_returns() { tr -d '\r'; }
+without_colours() { tr -d '\r' | sed $'s/\x1b\\[[0-9]*m//g'; }
+changed_lines() { tr -d '\r' | sed -n '3,5p;7,8p'; }
 counted() { grep -o 'unifdef-tree: [0-9]* of .* files' | tr '\r' '\n'; }
 
 test_counter() {
   local words none='unifdef-tree: 0 changed, 100 unchanged, 0 faulty'
   alone src/{1..100}.c "$text"
-  on_terminal '-DA src'
+  on_terminal 1 '-DA src'
   prints $'unifdef-tree: 0 of 100 files \nunifdef-tree: 64 of 100 files' counted
-  check grep -q $'\r\x1b\\[Kunifdef-tree: 100 changed, 0 unchanged, 0 faulty' "$work/out"
-  for words in -q -r -s; do
-    on_terminal "$words -DB src"
+  holds_that grep -q $'\r\x1b\\[Kunifdef-tree: 100 changed, 0 unchanged, 0 faulty' "$work/out"
+  for words in '-q -DB' '-r -DB' -s; do
+    on_terminal 0 "$words src"
     prints 0 grep -c -e 'of 100 files' -e $'\x1b'
   done
-  TERM=dumb on_terminal '-DB src'
+  TERM=dumb on_terminal 0 '-DB src'
   prints "$none"$'\nunifdef-tree: no condition names B' without_returns
-  tree -DA src
-  check same "$(cat "$work/err")" "$none"$'\nunifdef-tree: no condition names A'
-  after 'any -q -DA src' says_only
+  run 0 -DA src
+  holds_that same "$(cat "$work/err")" "$none"$'\nunifdef-tree: no condition names A'
+  after '0 -q -DA src' says_only
 }
 
 # Removed lines are red, added ones green, and the head is cyan.
 test_colours() {
   local esc=$'\x1b' plain
   fresh src/a.c
-  after 'any -n -q -UA src' prints 0 grep -c "$esc"
+  after '1 -n -q -UA src' prints 0 grep -c "$esc"
   plain=$(cat "$work/out")
-  on_terminal '-n -q -UA src'
-  check same "$(tr -d '\r' < "$work/out" | sed -n '3,5p;7,8p')" "${esc}[36m@@ -1,5 +1 @@${esc}[m
+  on_terminal 1 '-n -q -UA src'
+  prints "${esc}[36m@@ -1,5 +1 @@${esc}[m
 ${esc}[31m-#ifdef A${esc}[m
 ${esc}[31m-yes${esc}[m
  no
-${esc}[31m-#endif${esc}[m"
-  check same "$(tr -d '\r' < "$work/out" | sed "s/${esc}\\[[0-9]*m//g")" "$plain"
-  NO_COLOR=1 on_terminal '-n -q -UA src'
+${esc}[31m-#endif${esc}[m" changed_lines
+  prints "$plain" without_colours
+  NO_COLOR=1 on_terminal 1 '-n -q -UA src'
   prints "$plain" without_returns
   # An empty NO_COLOR counts as unset.
-  NO_COLOR='' on_terminal '-n -q -UA src'
-  check grep -q "$esc" "$work/out"
-  TERM=dumb on_terminal '-n -q -UA src'
+  NO_COLOR='' on_terminal 1 '-n -q -UA src'
+  holds_that grep -q "$esc" "$work/out"
+  TERM=dumb on_terminal 1 '-n -q -UA src'
   prints "$plain" without_returns
 }

@@ -1,37 +1,110 @@
 # Symbols that no condition names, and runs without a symbol.
 
-# unnamed NAMES WORD..: a run says of these symbols, in this order, that no condition names them.
+# unnamed NAMES STATUS WORD..: a run says of these symbols, in this order, that no condition names
+# them.
 unnamed() {
-  tree "${@:2}"
-  check same "$(sed -n 's/^unifdef-tree: no condition names //p' "$work/err" | tr '\n' ' ')" "$1"
+  run "${@:2}"
+  holds_that same "$(names_without_condition < "$work/err" | tr '\n' ' ')" "$1"
 }
+names_without_condition() { sed -n 's/^unifdef-tree: no condition names //p'; }
 
 test_unnamed_symbols() {
   alone src/n.c '#ifdef HAIKU\nx\n#endif\n'
   run 0 -U__HAIKU__ -UVMS src
   says_only '0 changed, 1 unchanged, 0 faulty' 'no condition names __HAIKU__' \
     'no condition names VMS'
-  unnamed 'B C E D ' -n -DB=2 -iUC -UE -iDD=1 -UHAIKU -DB -UE src
-  unnamed 'E ' -d -n -UHAIKU -UE src
-  unnamed 'E ' -p -n -UHAIKU -UE src
-  unnamed 'E ' -r -n -UE src
+  unnamed 'B C E D ' 1 -n -DB=2 -iUC -UE -iDD=1 -UHAIKU -DB -UE src
+  unnamed 'E ' 1 -d -n -UHAIKU -UE src
+  unnamed 'E ' 1 -p -n -UHAIKU -UE src
+  unnamed 'E ' 0 -r -n -UE src
   says_last 'no condition names E'
-  unnamed '' -q -n -UE src
+  unnamed '' 0 -q -n -UE src
   says_only
-  unnamed '' -k -n src
-  unnamed '' -s src
-  put src/n.c '#if A1\n#elif defined B1 // C1\n#elif 0D1 + E1x + xF1 + "G1"\n#else // H1
-#endif /* I1 */\n#define J1\nK1\n'
-  unnamed 'C1 D1 E1 F1 H1 I1 J1 K1 ' -n -UA1 -UB1 -UC1 -UD1 -UE1 -UF1 -UG1 -UH1 -UI1 -UJ1 -UK1 src
-  put src/n.c '/*\n#if A\n#endif\n*/\n#ifndef B\n#endif\n#elifdef X\n'
-  put src/m.c '#if X || \\\n    C\n#endif\n#ifdef X /* \n */ D\n#endif\n'
-  unnamed 'A ' -n -UA -UB -UC -UD src
+  unnamed '' 0 -k -n src
+  unnamed '' 0 -s src
+  cat > src/n.c << 'EOT'
+#if A1
+#elif defined B1 // C1
+#elif 0D1 + E1x + xF1 + "G1"
+#else // H1
+#endif /* I1 */
+#define J1
+K1
+EOT
+  unnamed 'C1 D1 E1 F1 H1 I1 J1 K1 ' \
+    1 -n -UA1 -UB1 -UC1 -UD1 -UE1 -UF1 -UG1 -UH1 -UI1 -UJ1 -UK1 src
+  cat > src/n.c << 'EOT'
+/*
+#if A
+#endif
+*/
+#ifndef B
+#endif
+EOT
+  cat > src/m.c << 'EOT'
+#if X || \
+    C
+#endif
+#ifdef X /* 
+ */ D
+#endif
+EOT
+  unnamed 'A ' 1 -n -UA -UB -UC -UD src
   rm src/m.c
   put src/n.c '#if X || V\\\nMS\n#endif\n'
-  unnamed '' -n -UVMS src
+  unnamed '' 0 -n -UVMS src
   put src/n.c '#if A\n#endif\n'
-  unnamed '' -UA src
-  unnamed 'A ' -UA src
+  unnamed '' 1 -UA src
+  unnamed 'A ' 0 -UA src
+}
+
+# After an error there is no such line, since a file that wasn't read may name the symbol.
+test_unnamed_after_errors() {
+  local as=as_nobody counts='0 would change, 1 unchanged, 1 faulty'
+  is_root || as=run
+  alone src/n.c 'int a;\n'
+  mkdir src/closed
+  put src/closed/a.c 'int a;\n'
+  chmod 0 src/closed
+  $as 2 -n -UB src
+  says_only 'src/closed/: Cannot be read: Permission denied' "$counts"
+  chmod 755 src/closed
+  chmod 0 src/closed/a.c
+  $as 2 -n -UB src
+  says_only 'src/closed/a.c: Cannot be read: Permission denied' "$counts"
+  chmod 644 src/closed/a.c
+  put src/closed/a.c '\xff\xfe#\0i\0f\0 \0B\0\n\0'
+  after '2 -n -UB src' says_only 'src/closed/a.c: Cannot be read: text in UTF-16' "$counts"
+  put src/closed/a.c "$(repeat x 65536)\n#if B\n#endif\n"
+  run 2 -n -UB src
+  holds_that same "$(cat "$work/err")" "unifdef: src/closed/a.c: 1: Line too long
+unifdef-tree: $counts"
+  put src/closed/a.c '#endif\n'
+  run 2 -n -UB src
+  holds_that same "$(grep -c 'no condition' "$work/err")" 0
+  input=$work/paths
+  printf 'src/n.c\0src/gone.c\0' > "$input"
+  after '2 -n -0 -UB' says_only 'src/gone.c: No such file or directory' "$counts"
+  input=''
+  rm -r src/closed
+  after '0 -n -UB src' says_only '0 would change, 1 unchanged, 0 faulty' 'no condition names B'
+}
+
+# An output that fails is such an error: one that nobody reads any more, and a full one.
+test_unnamed_after_failed_output() {
+  alone src/a.c '#ifdef A\n#endif\n'
+  put src/b.c '#if A + X\n#endif\n'
+  exec 3> >(:)
+  wait "$!"
+  exits 2 "$TREE" -n -UA -UB src >&3 2> "$work/err"
+  exec 3>&-
+  says_only 'stdout: Cannot be written' '1 would change, 0 unchanged, 1 faulty' '2 lines removed'
+  [ -w /dev/full ] || return 0
+  exits 2 "$TREE" -n -UA -UB src > /dev/full 2> "$work/err"
+  says_only 'stdout: Cannot be written' '1 would change, 0 unchanged, 1 faulty' '2 lines removed'
+  exits 2 "$TREE" -r -UA -UB src > /dev/full 2> "$work/err"
+  says_only 'stdout: Cannot be written' '1 changed, 1 unchanged, 1 faulty' '2 lines removed' \
+    '1 condition still names a symbol'
 }
 
 test_no_symbol() {
@@ -41,7 +114,7 @@ test_no_symbol() {
   for words in src '-K src' '-n src' '-p -r src' '-x2 src' -0; do
     run 2 $words
     says_first 'No symbol; -k decides constants alone, -s lists names'
-    check same "$(sed 1d "$work/err" | grep -c '^usage: unifdef-tree ')" 1
+    holds_that same "$(sed 1d "$work/err" | grep -c '^usage: unifdef-tree ')" 1
     is src/n.c "$text"
   done
   for words in '-k src' '-k -K src' '-s src' '-UB src' '-DB src' '-iUB src' -h -V; do

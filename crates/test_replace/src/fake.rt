@@ -122,6 +122,8 @@ fn append_one(fresh: &mut Option<Vec<u8>>, bytes: &[u8]) -> Option<usize>
 impl Directory for FakeDirectory {
     ghost history = { λ f. f.history.calls };
 
+    ghost is_evident = { λ _. Unit {0} };
+
     fn read(&mut self, name: &[u8], text: &mut Vec<u8>) -> Option<FileStat> {
         let works = self.works(b'r') && text.extend_from_slice(self.file.as_slice()).is_ok();
         self.reads = self.reads.saturating_add(1);
@@ -244,4 +246,6 @@ impl Directory for FakeDirectory {
         self.history = self.history.with(&DirectoryCall::Remove { name, answer });
         answer
     }
+
+    ghost evident = { λ _. ∣ (λ _ _ _. tt) ∣₁ };
 }

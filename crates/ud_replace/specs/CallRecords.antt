@@ -6,9 +6,9 @@ use Rattle.ud_replace.specs.declared.call.DirectoryCall.{DirectoryCall}
 use Rattle.ud_replace.specs.declared.call.DirectoryCall.TheVariants.{Read, MayWrite, Create, Append}
 use Rattle.ud_replace.specs.declared.call.DirectoryCall.TheVariants.{SetModeAndOwner, Sync, Look}
 use Rattle.ud_replace.specs.declared.call.DirectoryCall.TheVariants.{Rename, Overwrite, Remove}
-use Rattle.ud_replace.specs.declared.call.DirectoryCall.TheVariants.{Walk}
+use Rattle.ud_replace.specs.declared.call.DirectoryCall.TheVariants.{Sample, Walk}
 use Rattle.ud_replace.specs.Calls.{Call, was_read, asked, made, appended, given, synced, looked}
-use Rattle.ud_replace.specs.Calls.{renamed, overwrote, removed, walked}
+use Rattle.ud_replace.specs.Calls.{renamed, overwrote, removed, sampled, walked}
 use Rattle.ud_replace.specs.Calls.{WalkCall, met, followed, listed}
 
 -- `walk_call_of w`: the same call, with the bytes that `w` refers to.
@@ -30,4 +30,5 @@ call_of (Look name answer) = looked name.now answer
 call_of (Rename from to answer) = renamed from.now to.now answer
 call_of (Overwrite name text answer) = overwrote name.now text.now answer
 call_of (Remove name answer) = removed name.now answer
+call_of (Sample name text answer) = sampled name.now text.now answer
 call_of (Walk w) = walked (walk_call_of w)

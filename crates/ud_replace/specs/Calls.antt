@@ -2,6 +2,7 @@
 use Rattle.std.specs.Prelude.{ℕ, List, Bool, Option, Result}
 use Rattle.ud_replace.specs.declared.directory.CreateError.{CreateError}
 use Rattle.ud_replace.specs.declared.node.Lookup.{Lookup}
+use Rattle.ud_replace.specs.declared.node.Sample.{Sample}
 use Rattle.ud_replace.specs.declared.stat.FileStat.{FileStat}
 
 -- `WalkCall`: a call made by a walk over directories, with its answer. Paths are bytes.
@@ -35,5 +36,7 @@ pub data Call : Type 0 where
   overwrote : List ℕ → List ℕ → Bool → Call
   -- `removed name answer`: the file was removed, or not
   removed : List ℕ → Bool → Call
+  -- `sampled name text answer`: `text` was read of the file, to be searched
+  sampled : List ℕ → List ℕ → Sample → Call
   -- `walked w`: a call of a walk, which changes nothing
   walked : WalkCall → Call

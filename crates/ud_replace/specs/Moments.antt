@@ -17,7 +17,7 @@ use Rattle.std.specs.Prelude.{Option, Some, None, Ok, Err, bytes_eq, ifâ—Œthenâ—
 use Rattle.std.specs.Prelude.{option_map}
 use Rattle.ud_replace.specs.declared.stat.FileStat.{FileStat}
 use Rattle.ud_replace.specs.Calls.{Call, was_read, asked, made, appended, given, synced, looked}
-use Rattle.ud_replace.specs.Calls.{renamed, overwrote, removed, walked}
+use Rattle.ud_replace.specs.Calls.{renamed, overwrote, removed, sampled, walked}
 use Rattle.ud_replace.specs.Filling.{FileTakes, Confirms}
 use Rattle.ud_replace.specs.TextOutcomes.{TextOptions, TextOutcome, HasTextOutcome}
 
@@ -44,6 +44,7 @@ after (renamed from to false) f n = f n
 after (overwrote m text ok) f n = if bytes_eq n m then Some text else f n
 after (removed m true) f n = if bytes_eq n m then None else f n
 after (removed m false) f n = f n
+after (sampled m text answer) f n = f n
 after (walked w) f n = f n
 
 -- `content first calls`: the files `first` after these calls, the newest first.
@@ -66,6 +67,7 @@ IsTrueOf (looked m seen) f = Unit {0}
 IsTrueOf (renamed from to ok) f = Unit {0}
 IsTrueOf (overwrote m text ok) f = Unit {0}
 IsTrueOf (removed m gone) f = Unit {0}
+IsTrueOf (sampled m text answer) f = Unit {0}
 IsTrueOf (walked w) f = Unit {0}
 
 -- `AreTrue first calls`: the answer of each call is true of the files before it.
@@ -111,6 +113,7 @@ touches (looked m seen) n = false
 touches (renamed from to ok) n = bytes_eq n from || bytes_eq n to
 touches (overwrote m text ok) n = bytes_eq n m
 touches (removed m gone) n = bytes_eq n m
+touches (sampled m text answer) n = false
 touches (walked w) n = false
 
 -- `TookOutput o name fresh old calls`: after `old`, `name` was read, and the user was found to have

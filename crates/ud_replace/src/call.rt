@@ -1,7 +1,7 @@
 //! A call of a directory, for a `History`.
 
 use crate::directory::CreateError;
-use crate::node::Lookup;
+use crate::node::{Lookup, Sample};
 use crate::stat::FileStat;
 
 /// A call made by a walk over directories, with its answer.
@@ -82,6 +82,12 @@ pub enum DirectoryCall<'a> {
     Remove {
         name: &'a [u8],
         answer: bool,
+    },
+    /// A file was read to be searched, and `text` is what was read of it.
+    Sample {
+        name: &'a [u8],
+        text: &'a [u8],
+        answer: Sample,
     },
     /// A walk made a call, which changes nothing.
     Walk(DirectoryWalk<'a>),

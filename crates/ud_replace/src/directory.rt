@@ -1,6 +1,7 @@
 //! The directory of a file, as far as `replace` uses it.
 
 ghost use Rattle.std.specs.Prelude.{◌≡◌, ◌≤◌, ◌∷◌, [], List, length, IfSome};
+ghost use Rattle.std.specs.List.{All};
 ghost use Rattle.ud_replace.specs.Calls.{Call, was_read, asked, made, appended, given, synced};
 ghost use Rattle.ud_replace.specs.Calls.{looked, renamed, overwrote, removed};
 
@@ -20,13 +21,17 @@ pub enum CreateError {
 /// A directory of files, each with a name.
 ///
 /// Calls may answer anything, but each call adds itself and its answer to `history`. A type that
-/// implements this trait makes the system call that it records, and no other one. It keeps the
-/// reasons for failures itself, if they are to be reported.
+/// implements this trait makes the system call that it records, and no other one, and has the
+/// evidence that the system answered so. It keeps the reasons for failures itself, if they are to
+/// be reported.
 ///
 /// A name is a path, as bytes. No call follows a symbolic link at the end of a path.
 pub trait Directory {
     /// The calls so far with their answers, the newest first.
     ghost history: { Self → List Call };
+
+    /// There is evidence for the answer of this call, unless it failed.
+    ghost is_evident: { Call → Type 0 };
 
     /// Reads all bytes of a file into `text`. Returns the facts about the file from before the
     /// first byte was read.
@@ -87,4 +92,7 @@ pub trait Directory {
     /// Removes a file. Returns whether it is gone.
     fn remove(&mut self, name: &[u8]) -> bool
         ensures { history self.new ≡ removed name.now result ∷ history self.old };
+
+    /// There is evidence for the answer of each call so far.
+    ghost evident: { (d : Self) → ∥ All is_evident (history d) ∥₁ };
 }

@@ -35,7 +35,7 @@ pub use folded_run::{folded, goes_back, may_fold};
 pub use history::History;
 pub use kept::Kept;
 pub use laws::{law_old_or_new, law_one_rename};
-pub use node::{FileId, Lookup, Node, NodeKind};
+pub use node::{FileId, Lookup, Node, NodeKind, Sample};
 pub use replacement::{Target, replace, replace_keeping};
 pub use squeezed_run::{change_marks, run_text};
 pub use stat::{FileStat, FileTime, FileVersion};

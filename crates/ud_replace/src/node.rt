@@ -1,4 +1,4 @@
-//! What is at a path, as a walk over directories sees it.
+//! What is at a path, as a walk over directories and a search of files see it.
 
 /// The kind of thing at a path.
 #[derive(Clone, Copy, Debug, PartialEq, Eq)]
@@ -43,4 +43,19 @@ pub enum Lookup {
     Absent,
     /// The look failed, so what is at the path isn't known.
     Unknown,
+}
+
+/// The result of reading a file that is only searched.
+#[derive(Clone, Copy, Debug, PartialEq, Eq)]
+pub enum Sample {
+    /// All of the file, which is text.
+    Whole,
+    /// The beginning of a file that isn't text.
+    Binary,
+    /// The beginning of a text in UTF-16.
+    Utf16,
+    /// The beginning of a text that is too large to be searched.
+    TooLarge,
+    /// Some of a file that can't be read, or nothing.
+    Unread,
 }

@@ -1,36 +1,47 @@
 -- The rules of a walk, one after another.
-use Rattle.std.proofs.Common.{◌≡◌, ℕ, ◌-◌, ◌≤◌, ◌<◌, List, [], ◌∷◌, ◌++◌, length, take, drop, get_or, Bool, true, false, Option, Some, None, sym, ap, ◌∙◌, subst, take-append-drop, arith}
-use Rattle.std.proofs.lemmas.List.{drop_more}
+use Rattle.std.proofs.Common.{◌≡◌, ◌⊎◌, inl, inr, refl, true≢false, ℕ, List, [], ◌∷◌, ◌++◌, Bool, true, false, Option, Some, None, sym, ap, ◌∙◌, subst, arith}
 use Rattle.std.proofs.lemmas.List.Elements.{Contains-push_cases}
 use Rattle.std.proofs.lemmas.Grind.{common_steps}
-use Rattle.std.specs.List.{Contains, list_any}
+use Rattle.std.specs.List.{Contains}
+use Rattle.std.specs.Prelude.{◌↔◌}
+use Rattle.ud_tree.specs.Patterns.{Matches}
+use Rattle.ud_tree.specs.Paths.{last_name}
 use Rattle.ud_tree.specs.declared.patterns.Effect.{Effect}
 use Rattle.ud_tree.specs.declared.patterns.Effect.TheVariants.{Leave}
-use Rattle.ud_tree.specs.Choices.{Rule, rule_of, Fits, Decides, last_fits, last_differs, LeavesDirectory, IsBelow, after, Chooses, decided, usual, chosen_by, is_only}
+use Rattle.ud_tree.specs.Choices.{Rule, rule_of, Fits, FitsFile, Decides, last_fits, last_differs, LeavesDirectory, Chooses, decided, usual, unusual, chosen_by, is_fresh, IsUsual, MatchesOne}
 
 -- The last rule matches.
 pub decides_fits : {below : List ℕ} {texts more : List (List ℕ)} {effect : Option Effect} (text : List ℕ) (rule : Rule) → more ≡ texts ++ text ∷ [] → rule ≡ rule_of text →
-    Fits rule below → Decides below texts effect → Decides below more (Some rule.effect)
+    FitsFile rule below → Decides below texts effect → Decides below more (Some rule.effect)
 decides_fits {below = below} {texts = texts} text rule grown is fits h =
     subst (λ (ts : List (List ℕ)). Decides below ts (Some rule.effect)) (sym grown)
     (subst (λ (r : Rule). Decides below (texts ++ text ∷ []) (Some r.effect)) (sym is)
-    (last_fits text h (subst (λ (r : Rule). Fits r below) is fits)))
+    (last_fits text h (subst (λ (r : Rule). FitsFile r below) is fits)))
 
 -- The last rule doesn't match.
 pub decides_differs : {below : List ℕ} {texts more : List (List ℕ)} {effect : Option Effect} (text : List ℕ) (rule : Rule) → more ≡ texts ++ text ∷ [] → rule ≡ rule_of text →
-    ¬ (Fits rule below) → Decides below texts effect → Decides below more effect
+    ¬ (FitsFile rule below) → Decides below texts effect → Decides below more effect
 decides_differs {below = below} {effect = effect} text rule grown is differs h =
     subst (λ (ts : List (List ℕ)). Decides below ts effect) (sym grown)
-    (last_differs text h (λ fits. differs (subst (λ (r : Rule). Fits r below) (sym is) fits)))
+    (last_differs text h (λ fits. differs (subst (λ (r : Rule). FitsFile r below) (sym is) fits)))
 
-pub chooses_decided : {below : List ℕ} {texts : List (List ℕ)} {last : Option Effect} {b : Bool} (effect : Effect) → last ≡ Some effect → Decides below texts last → b ≡ chosen_by effect →
-    Chooses texts below b
-chooses_decided {below = below} {texts = texts} effect is h same =
-    subst (λ (b : Bool). Chooses texts below b) (sym same) (decided effect (subst (λ (e : Option Effect). Decides below texts e) is h))
+pub chooses_decided : {below : List ℕ} {texts : List (List ℕ)} {last : Option Effect} {b : Bool} (effect : Effect) → is_fresh (last_name below) ≡ false → last ≡ Some effect → Decides below texts last →
+    b ≡ chosen_by effect → Chooses texts below b
+chooses_decided {below = below} {texts = texts} effect old is h same =
+    subst (λ (b : Bool). Chooses texts below b) (sym same) (decided effect old (subst (λ (e : Option Effect). Decides below texts e) is h))
 
-pub chooses_usual : {below : List ℕ} {texts : List (List ℕ)} {last : Option Effect} {b : Bool} → last ≡ None → Decides below texts last → (list_any is_only texts ≡ true → b ≡ false) →
-    Chooses texts below b
-chooses_usual {below = below} {texts = texts} is h other = usual (subst (λ (e : Option Effect). Decides below texts e) is h) other
+pub chooses_usual : {below : List ℕ} {texts : List (List ℕ)} {last : Option Effect} (b : Bool) → is_fresh (last_name below) ≡ false → last ≡ None → Decides below texts last →
+    (b ≡ true) ↔ IsUsual texts (last_name below) → Chooses texts below b
+chooses_usual {below = below} {texts = texts} true old is h by_name = usual old (subst (λ (e : Option Effect). Decides below texts e) is h) (by_name.0 refl)
+chooses_usual {below = below} {texts = texts} false old is h by_name = unusual (subst (λ (e : Option Effect). Decides below texts e) is h) (λ u. true≢false (sym (by_name.1 u)))
+
+-- No pattern matches, and one more doesn't.
+pub matches_none : {name : List ℕ} {more : List (List ℕ)} (patterns : List (List ℕ)) (pattern : List ℕ) → more ≡ patterns ++ pattern ∷ [] → ¬ (Matches pattern name) → ¬ (MatchesOne patterns name) → ¬ (MatchesOne more name)
+matches_none {name = name} patterns pattern grown other none h = by_case (Contains-push_cases patterns pattern h.0 (subst (λ (ps : List (List ℕ)). Contains ps h.0) grown h.1))
+  where
+    by_case : Contains patterns h.0 ⊎ (pattern ≡ h.0) → ⊥
+    by_case (inl there) = none (h.0, there, h.2)
+    by_case (inr same) = other (subst (λ (p : List ℕ). Matches p name) (sym same) h.2)
 
 -- One of the rules leaves out the directory.
 pub leaves_at : {below : List ℕ} {texts : List (List ℕ)} (text : List ℕ) (rule : Rule) → Contains texts text → rule ≡ rule_of text → rule.effect ≡ Leave → Fits rule below →
@@ -46,15 +57,3 @@ leaves_at {below = below} text rule there is leaves fits = record {
 pub leaves_none : {below : List ℕ} {texts more : List (List ℕ)} (text : List ℕ) (rule : Rule) → more ≡ texts ++ text ∷ [] → rule ≡ rule_of text →
     ¬ ((rule.effect ≡ Leave) × Fits rule below) → ¬ (LeavesDirectory texts below) → ¬ (LeavesDirectory more below)
 leaves_none {below = below} {texts = texts} text rule grown is other none h = grind (arith, common_steps, Contains-push_cases)
-
--- The bytes that follow a slash.
-pub after_slash : (path : List ℕ) (len : ℕ) → 0 < len → len ≤ length path → get_or path (len - 1) 0 ≡ 47 → IsBelow path (take (length path - len) (drop len path))
-after_slash path len some within is =
-    subst (λ (x : List ℕ). IsBelow path x) (sym to_end)
-    (after (take (len - 1) path) (drop len path) (sym (take-append-drop (len - 1) path) ∙ ap (λ (x : List ℕ). take (len - 1) path ++ x) rest))
-  where
-    rest : drop (len - 1) path ≡ 47 ∷ drop len path
-    rest = grind (arith, drop_more)
-
-    to_end : take (length path - len) (drop len path) ≡ drop len path
-    to_end = grind (arith, common_steps)

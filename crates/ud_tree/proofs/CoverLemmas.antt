@@ -1,9 +1,9 @@
 -- Parts of a walk that miss no name, one after another.
-use Rattle.std.proofs.Common.{◌≡◌, ◌⊎◌, inl, inr, ℕ, ◌+◌, ◌<◌, ◌≤◌, ◌^◌, List, [], ◌∷◌, ◌++◌, length, map, take, get_or, Bool, true, Option, Some, Result, refl, sym, ap, ◌∙◌, subst, arith, length-append, rules}
+use Rattle.std.proofs.Common.{◌≡◌, ◌⊎◌, inl, inr, ℕ, ◌+◌, ◌<◌, ◌≤◌, ◌^◌, List, [], ◌∷◌, ◌++◌, length, map, take, get_or, Bool, true, Option, Some, None, Result, refl, sym, ap, ◌∙◌, subst, arith, length-append, append-nil, rules}
 use Rattle.std.proofs.lemmas.List.{map-append, append_cancel_right, take_more, take_all}
 use Rattle.std.proofs.lemmas.List.Elements.{All-weaker, All-contains, All-contains_itself, All-nil, All-push, Contains-append_left, Contains-append_right, Contains-append_cases, Contains-push, Contains-push_cases}
 use Rattle.std.specs.List.{All, Contains}
-use Rattle.std.specs.Prelude.{OnOk, IsUtf8, option_to_list, string_bytes}
+use Rattle.std.specs.Prelude.{OnErr, OnOk, IsUtf8, option_to_list, string_bytes}
 use Rattle.std.proofs.lemmas.Grind.{common_steps}
 use Rattle.ud_replace.specs.declared.node.Lookup.{Lookup}
 use Rattle.ud_replace.specs.declared.node.Lookup.TheVariants.{Present}
@@ -15,9 +15,9 @@ use Rattle.ud_tree.specs.declared.arguments.Arguments.{Arguments}
 use Rattle.ud_tree.specs.Reports.{ReportState}
 use Rattle.ud_tree.specs.declared.walk.Found.{Found}
 use Rattle.ud_tree.specs.declared.walk.Walk.{Walk}
-use Rattle.ud_tree.specs.Catching.{MayHave, Catches}
-use Rattle.ud_tree.specs.Choices.{IsLeft, IsSkipped}
-use Rattle.ud_tree.specs.Covering.{IsDirectoryPath, WasEntered, IsDue, Begins, at_file, at_directory, at_link, Visits, no_text, was_met, VisitsAll, IsAllowed, IsIn, StandsIn, Gives, no_path_text, was_given, paths_of, CoversPaths, CoversInput, MissesNone, misses_no_path, misses_no_input}
+use Rattle.ud_tree.specs.Catching.{MayHave, Catches, scope_of}
+use Rattle.ud_tree.specs.Scopes.{Scope, IsDirectoryPath, IsLeft, IsOpen, IsSkipped}
+use Rattle.ud_tree.specs.Covering.{WasEntered, IsDue, Begins, at_file, at_directory, at_link, Visits, no_text, was_met, IsAllowed, IsIn, StandsIn, Gives, no_path_text, was_given, paths_of, CoversPaths, CoversInput, MissesNone, misses_no_path, misses_no_input}
 use Rattle.ud_tree.specs.Streams.{Source}
 use Rattle.ud_tree.specs.WalkMessages.{TakesPaths}
 use Rattle.ud_tree.specs.Walks.{IsKept, Adds, adds_none, adds_one, AddsNode, no_node, file_node}
@@ -43,17 +43,23 @@ due_within xs ys a b path w k h = (h.0, h.1, by_case h.2)
     by_case (inr there) = k h.0 there
 
 -- A name that was visited stays so.
-visits_within : {pats : List (List ℕ)} → {xs ys : List WalkCall} {p q : List ℕ → Type 0} {s t : Type 0} {directory : List ℕ} (name : List ℕ) → Within xs ys → ((path : List ℕ) → p path → q path) → (s → t) →
-    Visits pats xs p s directory name → Visits pats ys q t directory name
-visits_within {pats = pats} name w d e (no_text other told) = no_text other (e told)
-visits_within {pats = pats} {p = p} {q = q} {directory = directory} name w d e (was_met answer seen k) = was_met answer (w (met (directory ++ name) answer) seen) (λ node is kind. by_case (k node is kind))
+visits_within : {scope : Scope} → {xs ys : List WalkCall} {p q : List ℕ → Type 0} {s t : Type 0} {directory : List ℕ} (name : List ℕ) → Within xs ys → ((path : List ℕ) → p path → q path) → (s → t) →
+    Visits scope xs p s directory name → Visits scope ys q t directory name
+visits_within {scope = scope} name w d e (no_text other told) = no_text other (e told)
+visits_within {scope = scope} {p = p} {q = q} {directory = directory} name w d e (was_met answer seen k) = was_met answer (w (met (directory ++ name) answer) seen) (λ node is kind. by_case (k node is kind))
   where
-    by_case : IsSkipped pats (directory ++ name) name ⊎ p (directory ++ name) → IsSkipped pats (directory ++ name) name ⊎ q (directory ++ name)
-    by_case (inl left) = inl left
-    by_case (inr due) = inr (d (directory ++ name) due)
+    Skipped : Type 0
+    Skipped = IsSkipped scope (directory ++ name) name
 
-visits_all_within : {pats : List (List ℕ)} → {xs ys : List WalkCall} {p q : List ℕ → Type 0} {s t : Type 0} {directory : List ℕ} (names : List (List ℕ)) → Within xs ys → ((path : List ℕ) → p path → q path) → (s → t) →
-    All (Visits pats xs p s directory) names → All (Visits pats ys q t directory) names
+    Opened : Type 0
+    Opened = IsOpen scope (directory ++ name) name
+
+    by_case : Skipped ⊎ (Opened × p (directory ++ name)) → Skipped ⊎ (Opened × q (directory ++ name))
+    by_case (inl left) = inl left
+    by_case (inr due) = inr (due.0, d (directory ++ name) due.1)
+
+visits_all_within : {scope : Scope} → {xs ys : List WalkCall} {p q : List ℕ → Type 0} {s t : Type 0} {directory : List ℕ} (names : List (List ℕ)) → Within xs ys → ((path : List ℕ) → p path → q path) → (s → t) →
+    All (Visits scope xs p s directory) names → All (Visits scope ys q t directory) names
 visits_all_within names w d e h = search (rules, All-weaker, visits_within)
 
 -- A path of the command line that can be taken stays so.
@@ -120,9 +126,9 @@ pub followed_none : (path : List ℕ) (answer : Bool) (other : List ℕ) (seen :
 followed_none path answer other seen = lists_no_more (followed path answer) (met other seen ∷ []) (λ directory names listing e. absurd cc) (met_none other seen)
 
 -- A few calls were made, and none of them lists a directory.
-pub explores_few : {pats : List (List ℕ)} → (ws : List WalkCall) {calls calls' : List Call} (directories directories' : List (List ℕ))
+pub explores_few : {scope : Scope} → (ws : List WalkCall) {calls calls' : List Call} (directories directories' : List (List ℕ))
     (r r' : ReportState) → (0 < r.faulty → 0 < r'.faulty) → calls' ≡ map walked ws ++ calls → ListsNone ws →
-    Within directories directories' → Explores pats calls calls' directories directories' r r'
+    Within directories directories' → Explores scope calls calls' directories directories' r r'
 explores_few ws directories directories' r r' counted is none kept = record {
   kept = counted;
   made = ws;
@@ -132,7 +138,7 @@ explores_few ws directories directories' r r' counted is none kept = record {
 }
 
 -- Nothing was asked.
-pub explores_none : {pats : List (List ℕ)} → (calls : List Call) (directories : List (List ℕ)) (r r' : ReportState) → (0 < r.faulty → 0 < r'.faulty) → Explores pats calls calls directories directories r r'
+pub explores_none : {scope : Scope} → (calls : List Call) (directories : List (List ℕ)) (r r' : ReportState) → (0 < r.faulty → 0 < r'.faulty) → Explores scope calls calls directories directories r r'
 explores_none calls directories r r' counted = explores_few [] directories directories r r' counted refl lists_none (λ directory there. there)
 
 -- All directories that waited still wait, and one more may.
@@ -154,50 +160,50 @@ waits_due ws {directories = directories} h =
     (h.directory, h.is_path, inr (subst (λ (fs : List (List ℕ)). Contains fs h.directory) (sym h.grown) (Contains-push directories h.directory)))
 
 -- A path of the command line can be taken.
-pub starts_good : {pats : List (List ℕ)} → (ws : List WalkCall) (path : List ℕ) {calls calls' : List Call} (directories directories' : List (List ℕ))
+pub starts_good : {scope : Scope} → (ws : List WalkCall) (path : List ℕ) {calls calls' : List Call} (directories directories' : List (List ℕ))
     {found' : List Found} (r : ReportState) → calls' ≡ map walked ws ++ calls → ListsNone ws → Within directories directories' →
-    Begins ws (IsDue ws directories') (IsIn found') path → Starts pats path calls calls' directories directories' found' r r
+    Begins ws (IsDue ws directories') (IsIn found') path → Starts scope path calls calls' directories directories' found' r r
 unfolding explores_few
 starts_good ws path directories directories' r is none kept b = record { explores = explores_few ws directories directories' r r (λ some. some) is none kept; begins = inr b }
 
 -- A path of the command line has a fault.
-pub starts_bad : {pats : List (List ℕ)} → (ws : List WalkCall) (path : List ℕ) {calls calls' : List Call} (directories : List (List ℕ))
+pub starts_bad : {scope : Scope} → (ws : List WalkCall) (path : List ℕ) {calls calls' : List Call} (directories : List (List ℕ))
     {found' : List Found} (r r' : ReportState) → calls' ≡ map walked ws ++ calls → ListsNone ws → 0 < r'.faulty →
-    Starts pats path calls calls' directories directories found' r r'
+    Starts scope path calls calls' directories directories found' r r'
 starts_bad ws path directories r r' is none some = record { explores = explores_few ws directories directories r r' (λ before. some) is none (waits_still directories); begins = inl some }
 
 -- A name in a directory was looked at.
-visits_met : {pats : List (List ℕ)} → (answer : Lookup) (path directory name : List ℕ) {calls calls' : List Call} (directories directories' : List (List ℕ))
+visits_met : {scope : Scope} → (answer : Lookup) (path directory name : List ℕ) {calls calls' : List Call} (directories directories' : List (List ℕ))
     (r r' : ReportState) → (0 < r.faulty → 0 < r'.faulty) → path ≡ directory ++ name →
     calls' ≡ walked (met path answer) ∷ calls → Within directories directories' →
-    ((node : Node) → answer ≡ Present node → node.kind ≡ Directory → IsSkipped pats path name ⊎
-    IsDue (met path answer ∷ []) directories' path) → VisitsOne pats directory name calls calls' directories directories' r r'
+    ((node : Node) → answer ≡ Present node → node.kind ≡ Directory → IsSkipped scope path name ⊎
+    (IsOpen scope path name × IsDue (met path answer ∷ []) directories' path)) → VisitsOne scope directory name calls calls' directories directories' r r'
 unfolding explores_few
-visits_met {pats = pats} answer path directory name directories directories' r r' counted named is kept due = record {
+visits_met {scope = scope} answer path directory name directories directories' r r' counted named is kept due = record {
   explores = explores_few (met path answer ∷ []) directories directories' r r' counted is (met_none path answer) kept;
   visited = was_met answer (0, omega arith, ap (λ (p : List ℕ). met p answer) named)
-      (λ node is_node kind. subst (λ (p : List ℕ). IsSkipped pats p name ⊎ IsDue (met path answer ∷ []) directories' p) named (due node is_node kind));
+      (λ node is_node kind. subst (λ (p : List ℕ). IsSkipped scope p name ⊎ (IsOpen scope p name × IsDue (met path answer ∷ []) directories' p)) named (due node is_node kind));
 }
 
 -- A name in a directory isn't UTF-8.
-pub visits_other : {pats : List (List ℕ)} → (directory name : List ℕ) (calls : List Call) (directories : List (List ℕ)) (r r' : ReportState) → ¬ (IsUtf8 name) → 0 < r'.faulty → VisitsOne pats directory name calls calls directories directories r r'
+pub visits_other : {scope : Scope} → (directory name : List ℕ) (calls : List Call) (directories : List (List ℕ)) (r r' : ReportState) → ¬ (IsUtf8 name) → 0 < r'.faulty → VisitsOne scope directory name calls calls directories directories r r'
 visits_other directory name calls directories r r' other some = record { explores = explores_none calls directories r r' (λ before. some); visited = no_text other some }
 
 -- Nothing has the path of a name, or that isn't known.
-pub visits_unmet : {pats : List (List ℕ)} → (answer : Lookup) (path directory name : List ℕ) {calls calls' : List Call} (directories : List (List ℕ))
+pub visits_unmet : {scope : Scope} → (answer : Lookup) (path directory name : List ℕ) {calls calls' : List Call} (directories : List (List ℕ))
     (r r' : ReportState) → (0 < r.faulty → 0 < r'.faulty) → ((node : Node) → ¬ (answer ≡ Present node)) →
     path ≡ directory ++ name → calls' ≡ walked (met path answer) ∷ calls →
-    VisitsOne pats directory name calls calls' directories directories r r'
+    VisitsOne scope directory name calls calls' directories directories r r'
 visits_unmet answer path directory name directories r r' counted other named is =
     visits_met answer path directory name directories directories r r' counted named is (waits_still directories) (λ node is_node kind. absurd (other node is_node))
 
 -- A node has the path of a name, and was added.
-pub visits_node : {pats : List (List ℕ)} → (node : Node) (path directory name : List ℕ) {calls calls' : List Call}
+pub visits_node : {scope : Scope} → (node : Node) (path directory name : List ℕ) {calls calls' : List Call}
     (directories directories' : List (List ℕ)) (r : ReportState) → path ≡ directory ++ name →
-    calls' ≡ walked (met path (Present node)) ∷ calls → AddsDirectory pats path name node directories directories' →
-    VisitsOne pats directory name calls calls' directories directories' r r
-visits_node node path directory name directories directories' r named is (waits_directory kind w) =
-    visits_met (Present node) path directory name directories directories' r r (λ some. some) named is (waits_more w) (λ n is_node k. inr (waits_due (met path (Present node) ∷ []) w))
+    calls' ≡ walked (met path (Present node)) ∷ calls → AddsDirectory scope path name node directories directories' →
+    VisitsOne scope directory name calls calls' directories directories' r r
+visits_node node path directory name directories directories' r named is (waits_directory kind open_here w) =
+    visits_met (Present node) path directory name directories directories' r r (λ some. some) named is (waits_more w) (λ n is_node k. inr (open_here, waits_due (met path (Present node) ∷ []) w))
 visits_node node path directory name directories directories' r named is (left_directory left same) =
     visits_met (Present node) path directory name directories directories' r r (λ some. some) named is (waits_equal same) (λ n is_node k. inl left)
 visits_node node path directory name directories directories' r named is (no_directory other same) =
@@ -212,8 +218,8 @@ parts_are : (xs ys : List WalkCall) (x y z : List Call) → y ≡ map walked xs 
 parts_are xs ys x y z h k = grind (arith, common_steps, map-append)
 
 -- One part after another.
-pub explores_then : {pats : List (List ℕ)} → {x y z : List Call} {f g h : List (List ℕ)} {a b c : ReportState} → Explores pats x y f g a b → Explores pats y z g h b c → Explores pats x z f h a c
-explores_then {pats = pats} {x = x} {y = y} {z = z} {f = f} {g = g} {h = h} {c = c} k l = record {
+pub explores_then : {scope : Scope} → {x y z : List Call} {f g h : List (List ℕ)} {a b c : ReportState} → Explores scope x y f g a b → Explores scope y z g h b c → Explores scope x z f h a c
+explores_then {scope = scope} {x = x} {y = y} {z = z} {f = f} {g = g} {h = h} {c = c} k l = record {
   kept = λ some. l.kept (k.kept some);
   made = l.made ++ k.made;
   are = parts_are k.made l.made x y z k.are l.are;
@@ -222,26 +228,26 @@ explores_then {pats = pats} {x = x} {y = y} {z = z} {f = f} {g = g} {h = h} {c =
 }
   where
     by_case : (directory : List ℕ) (names : List (List ℕ)) (answer : Bool) → Contains l.made (listed directory names answer) ⊎ Contains k.made (listed directory names answer) →
-        All (Visits pats (l.made ++ k.made) (IsDue (l.made ++ k.made) h) (0 < c.faulty) directory) names
+        All (Visits scope (l.made ++ k.made) (IsDue (l.made ++ k.made) h) (0 < c.faulty) directory) names
     by_case directory names answer (inl now) = visits_all_within names (later_calls k.made l.made) (due_still k.made l.made h) (λ some. some) (l.visits directory names answer now)
     by_case directory names answer (inr before) = visits_all_within names (earlier_calls k.made l.made) (due_later k.made l.made g h l.waits) l.kept (k.visits directory names answer before)
 
 -- Some names of a directory were visited.
-pub record VisitsSome (pats : List (List ℕ)) (directory : List ℕ) (names : List (List ℕ)) (x y : List Call) (f g : List (List ℕ)) (a b : ReportState) : Type 0 where
-  pub explores : Explores pats x y f g a b
-  pub visited : All (Visits pats explores.made (IsDue explores.made g) (0 < b.faulty) directory) names
+pub record VisitsSome (scope : Scope) (directory : List ℕ) (names : List (List ℕ)) (x y : List Call) (f g : List (List ℕ)) (a b : ReportState) : Type 0 where
+  pub explores : Explores scope x y f g a b
+  pub visited : All (Visits scope explores.made (IsDue explores.made g) (0 < b.faulty) directory) names
 
 -- None was yet.
-pub visits_none : {pats : List (List ℕ)} → (directory : List ℕ) (calls : List Call) (directories : List (List ℕ)) (r : ReportState) → VisitsSome pats directory [] calls calls directories directories r r
+pub visits_none : {scope : Scope} → (directory : List ℕ) (calls : List Call) (directories : List (List ℕ)) (r : ReportState) → VisitsSome scope directory [] calls calls directories directories r r
 unfolding explores_none explores_few
-visits_none {pats = pats} directory calls directories r = record { explores = explores_none calls directories r r (λ some. some); visited = All-nil (Visits pats [] (IsDue [] directories) (0 < r.faulty) directory) }
+visits_none {scope = scope} directory calls directories r = record { explores = explores_none calls directories r r (λ some. some); visited = All-nil (Visits scope [] (IsDue [] directories) (0 < r.faulty) directory) }
 
 -- One name more of a directory was visited.
-pub visits_more : {pats : List (List ℕ)} → {directory : List ℕ} {names : List (List ℕ)} {name : List ℕ} {x y z : List Call} {f g h : List (List ℕ)}
-    {a b c : ReportState} → VisitsSome pats directory names x y f g a b → VisitsOne pats directory name y z g h b c →
-    VisitsSome pats directory (names ++ name ∷ []) x z f h a c
+pub visits_more : {scope : Scope} → {directory : List ℕ} {names : List (List ℕ)} {name : List ℕ} {x y z : List Call} {f g h : List (List ℕ)}
+    {a b c : ReportState} → VisitsSome scope directory names x y f g a b → VisitsOne scope directory name y z g h b c →
+    VisitsSome scope directory (names ++ name ∷ []) x z f h a c
 unfolding explores_then
-visits_more {pats = pats} {directory = directory} {names = names} {name = name} {g = g} {h = h} {c = c} k l = record { explores = explores_then k.explores l.explores; visited = All-push here names name earlier now }
+visits_more {scope = scope} {directory = directory} {names = names} {name = name} {g = g} {h = h} {c = c} k l = record { explores = explores_then k.explores l.explores; visited = All-push here names name earlier now }
   where
     xs : List WalkCall
     xs = k.explores.made
@@ -250,7 +256,7 @@ visits_more {pats = pats} {directory = directory} {names = names} {name = name} 
     ys = l.explores.made
 
     here : List ℕ → Type 0
-    here = Visits pats (ys ++ xs) (IsDue (ys ++ xs) h) (0 < c.faulty) directory
+    here = Visits scope (ys ++ xs) (IsDue (ys ++ xs) h) (0 < c.faulty) directory
 
     earlier : All here names
     earlier = visits_all_within names (earlier_calls xs ys) (due_later xs ys g h l.explores.waits) l.explores.kept k.visited
@@ -259,10 +265,10 @@ visits_more {pats = pats} {directory = directory} {names = names} {name = name} 
     now = visits_within name (later_calls xs ys) (due_still xs ys h) (λ some. some) l.visited
 
 -- A directory was listed, and then each of its names was visited.
-pub enters_directory : {pats : List (List ℕ)} → {directory : List ℕ} (names : List (List ℕ)) (answer : Bool) {x y z : List Call} {f g : List (List ℕ)}
+pub enters_directory : {scope : Scope} → {directory : List ℕ} (names : List (List ℕ)) (answer : Bool) {x y z : List Call} {f g : List (List ℕ)}
     {a b c : ReportState} → y ≡ walked (listed directory names answer) ∷ x → (0 < a.faulty → 0 < b.faulty) →
-    VisitsSome pats directory names y z f g b c → Enters pats directory x z f g a c
-enters_directory {pats = pats} {directory = directory} names answer {x = x} {y = y} {z = z} {f = f} {g = g} {c = c} is counted l = record {
+    VisitsSome scope directory names y z f g b c → Enters scope directory x z f g a c
+enters_directory {scope = scope} {directory = directory} names answer {x = x} {y = y} {z = z} {f = f} {g = g} {c = c} is counted l = record {
   explores = record {
     kept = λ some. l.explores.kept (counted some);
     made = ys ++ first ∷ [];
@@ -280,14 +286,14 @@ enters_directory {pats = pats} {directory = directory} names answer {x = x} {y =
     first = listed directory names answer
 
     by_case : (d : List ℕ) (ns : List (List ℕ)) (again : Bool) → Contains ys (listed d ns again) ⊎ Contains (first ∷ []) (listed d ns again) →
-        All (Visits pats (ys ++ first ∷ []) (IsDue (ys ++ first ∷ []) g) (0 < c.faulty) d) ns
+        All (Visits scope (ys ++ first ∷ []) (IsDue (ys ++ first ∷ []) g) (0 < c.faulty) d) ns
     by_case d ns again (inl now) = visits_all_within ns (later_calls (first ∷ []) ys) (due_still (first ∷ []) ys g) (λ some. some) (l.explores.visits d ns again now)
     by_case d ns again (inr at_first) =
         let same : listed directory names answer ≡ listed d ns again = only_one first (listed d ns again) at_first in
         let same_directory : directory ≡ d = cc in
         let same_names : names ≡ ns = cc in
-        subst (λ (e : List ℕ). All (Visits pats (ys ++ first ∷ []) (IsDue (ys ++ first ∷ []) g) (0 < c.faulty) e) ns) same_directory
-        (subst (λ (es : List (List ℕ)). All (Visits pats (ys ++ first ∷ []) (IsDue (ys ++ first ∷ []) g) (0 < c.faulty) directory) es) same_names
+        subst (λ (e : List ℕ). All (Visits scope (ys ++ first ∷ []) (IsDue (ys ++ first ∷ []) g) (0 < c.faulty) e) ns) same_directory
+        (subst (λ (es : List (List ℕ)). All (Visits scope (ys ++ first ∷ []) (IsDue (ys ++ first ∷ []) g) (0 < c.faulty) directory) es) same_names
         (visits_all_within names (later_calls (first ∷ []) ys) (due_still (first ∷ []) ys g) (λ some. some) l.visited))
 
 -- One name more of a list.
@@ -295,19 +301,19 @@ pub one_more : {X : Type 0} (f : X → List ℕ) (xs : List X) (i : ℕ) (v : X)
 one_more f xs i v name within is named = grind (arith, common_steps, take_more, map-append)
 
 -- A directory was listed, and some of its names were visited.
-pub record EntersNames (pats : List (List ℕ)) {X : Type 0} (f : X → List ℕ) (directory : List ℕ) (xs : List X) (i : ℕ) (x y : List Call) (a b : List (List ℕ)) (r s : ReportState) : Type 0 where
+pub record EntersNames (scope : Scope) {X : Type 0} (f : X → List ℕ) (directory : List ℕ) (xs : List X) (i : ℕ) (x y : List Call) (a b : List (List ℕ)) (r s : ReportState) : Type 0 where
   pub answer : Bool
   pub mid : List Call
   pub is : mid ≡ walked (listed directory (map f xs) answer) ∷ x
   pub middle : ReportState
   pub counted : 0 < r.faulty → 0 < middle.faulty
-  pub some : VisitsSome pats directory (map f (take i xs)) mid y a b middle s
+  pub some : VisitsSome scope directory (map f (take i xs)) mid y a b middle s
 
 -- None was yet.
-pub enters_begun : {pats : List (List ℕ)} → {X : Type 0} (f : X → List ℕ) (xs ys : List X) (directory : List ℕ) {x y : List Call}
+pub enters_begun : {scope : Scope} → {X : Type 0} (f : X → List ℕ) (xs ys : List X) (directory : List ℕ) {x y : List Call}
     (directories : List (List ℕ)) (r s : ReportState) → (0 < r.faulty → 0 < s.faulty) → ys ≡ xs →
     (answer : Bool) × (y ≡ walked (listed directory (map f xs) answer) ∷ x) →
-    EntersNames pats f directory ys 0 x y directories directories r s
+    EntersNames scope f directory ys 0 x y directories directories r s
 enters_begun f xs ys directory {x = x} {y = y} directories r s counted same h = record {
   middle = s;
   counted = counted;
@@ -318,45 +324,55 @@ enters_begun f xs ys directory {x = x} {y = y} directories r s counted same h = 
 }
 
 -- One name more was.
-pub enters_name : {pats : List (List ℕ)} → {X : Type 0} (f : X → List ℕ) (xs : List X) (i : ℕ) (v : X) (name : List ℕ) {directory : List ℕ}
+pub enters_name : {scope : Scope} → {X : Type 0} (f : X → List ℕ) (xs : List X) (i : ℕ) (v : X) (name : List ℕ) {directory : List ℕ}
     {x y z : List Call} {a b c : List (List ℕ)} {r s t : ReportState} → i < length xs → v ≡ get_or xs i v → name ≡ f v →
-    EntersNames pats f directory xs i x y a b r s → VisitsOne pats directory name y z b c s t →
-    EntersNames pats f directory xs (i + 1) x z a c r t
-enters_name {pats = pats} f xs i v name {directory = directory} {z = z} {a = a} {c = c} {t = t} within is named h k = record {
+    EntersNames scope f directory xs i x y a b r s → VisitsOne scope directory name y z b c s t →
+    EntersNames scope f directory xs (i + 1) x z a c r t
+enters_name {scope = scope} f xs i v name {directory = directory} {z = z} {a = a} {c = c} {t = t} within is named h k = record {
   middle = h.middle;
   counted = h.counted;
   answer = h.answer;
   mid = h.mid;
   is = h.is;
-  some = subst (λ (ns : List (List ℕ)). VisitsSome pats directory ns h.mid z a c h.middle t) (sym (one_more f xs i v name within is named)) (visits_more h.some k);
+  some = subst (λ (ns : List (List ℕ)). VisitsSome scope directory ns h.mid z a c h.middle t) (sym (one_more f xs i v name within is named)) (visits_more h.some k);
 }
 
 -- All of them were.
-pub enters_all : {pats : List (List ℕ)} → {X : Type 0} (f : X → List ℕ) (xs : List X) (i : ℕ) {directory : List ℕ} {x y : List Call}
-    {a b : List (List ℕ)} {r s : ReportState} → i ≡ length xs → EntersNames pats f directory xs i x y a b r s →
-    Enters pats directory x y a b r s
-enters_all {pats = pats} f xs i {directory = directory} {y = y} {a = a} {b = b} {s = s} all h =
-    enters_directory (map f xs) h.answer h.is h.counted (subst (λ l. VisitsSome pats directory (map f l) h.mid y a b h.middle s) (take_all i xs (omega arith)) h.some)
+pub enters_all : {scope : Scope} → {X : Type 0} (f : X → List ℕ) (xs : List X) (i : ℕ) {directory : List ℕ} {x y : List Call}
+    {a b : List (List ℕ)} {r s : ReportState} → i ≡ length xs → EntersNames scope f directory xs i x y a b r s →
+    Enters scope directory x y a b r s
+enters_all {scope = scope} f xs i {directory = directory} {y = y} {a = a} {b = b} {s = s} all h =
+    enters_directory (map f xs) h.answer h.is h.counted (subst (λ l. VisitsSome scope directory (map f l) h.mid y a b h.middle s) (take_all i xs (omega arith)) h.some)
 
 -- The element that is popped was last.
 pub popped : {X : Type 0} (f : X → List ℕ) (old new : List X) (r : Option X) (x : X) (name : List ℕ) → old ≡ new ++ option_to_list r → r ≡ Some x → name ≡ f x → map f old ≡ map f new ++ name ∷ []
 popped f old new r x name is some named = grind (arith, map-append)
 
+-- Nothing is popped if there is nothing.
+pub popped_none : {X : Type 0} (f : X → List ℕ) (old new : List X) (r : Option X) → old ≡ new ++ option_to_list r → r ≡ None → ¬ (0 < length old) → (map f new ≡ map f old) × (map f new ≡ [])
+popped_none {X = X} f old new r is none empty = (ap (map f) (sym same), ap (map f) nothing)
+  where
+    same : old ≡ new
+    same = is ∙ ap (λ (o : Option X). new ++ option_to_list o) none ∙ append-nil new
+
+    nothing : new ≡ []
+    nothing = grind (arith, common_steps, same, empty)
+
 -- Some directories were entered.
-pub record EntersSome (pats : List (List ℕ)) (count : ℕ) (x y : List Call) (f g : List (List ℕ)) (a b : ReportState) : Type 0 where
-  pub explores : Explores pats x y f g a b
+pub record EntersSome (scope : Scope) (count : ℕ) (x y : List Call) (f g : List (List ℕ)) (a b : ReportState) : Type 0 where
+  pub explores : Explores scope x y f g a b
   pub many : count ≤ length explores.made
 
 -- None was yet.
-pub enters_none : {pats : List (List ℕ)} → (calls : List Call) (directories : List (List ℕ)) (r : ReportState) → EntersSome pats 0 calls calls directories directories r r
+pub enters_none : {scope : Scope} → (calls : List Call) (directories : List (List ℕ)) (r : ReportState) → EntersSome scope 0 calls calls directories directories r r
 enters_none calls directories r = record { explores = explores_none calls directories r r (λ some. some); many = omega arith }
 
 -- One directory more, which waited last, was entered.
-pub enters_more : {pats : List (List ℕ)} → (count : ℕ) {x y z : List Call} {f g h : List (List ℕ)} {a b c : ReportState} (rest : List (List ℕ))
-    (directory : List ℕ) → g ≡ rest ++ directory ∷ [] → EntersSome pats count x y f g a b → Enters pats directory y z rest h b c →
-    EntersSome pats (count + 1) x z f h a c
+pub enters_more : {scope : Scope} → (count : ℕ) {x y z : List Call} {f g h : List (List ℕ)} {a b c : ReportState} (rest : List (List ℕ))
+    (directory : List ℕ) → g ≡ rest ++ directory ∷ [] → EntersSome scope count x y f g a b → Enters scope directory y z rest h b c →
+    EntersSome scope (count + 1) x z f h a c
 unfolding explores_then
-enters_more {pats = pats} count {x = x} {y = y} {z = z} {f = f} {g = g} {h = h} {b = b} {c = c} rest directory is k l = record { explores = explores_then k.explores entered; many = many }
+enters_more {scope = scope} count {x = x} {y = y} {z = z} {f = f} {g = g} {h = h} {b = b} {c = c} rest directory is k l = record { explores = explores_then k.explores entered; many = many }
   where
     passes : Passes l.explores.made g h
     passes d inside = by_case (Contains-push_cases rest directory d (subst (λ (fs : List (List ℕ)). Contains fs d) is inside))
@@ -365,7 +381,7 @@ enters_more {pats = pats} count {x = x} {y = y} {z = z} {f = f} {g = g} {h = h} 
         by_case (inl there) = l.explores.waits d there
         by_case (inr same) = inl (subst (λ (e : List ℕ). WasEntered l.explores.made e) same l.entered)
 
-    entered : Explores pats y z g h b c
+    entered : Explores scope y z g h b c
     entered = record { kept = l.explores.kept; made = l.explores.made; are = l.explores.are; waits = passes; visits = l.explores.visits }
 
     many : count + 1 ≤ length (l.explores.made ++ k.explores.made)
@@ -374,14 +390,14 @@ enters_more {pats = pats} count {x = x} {y = y} {z = z} {f = f} {g = g} {h = h} 
         omega (arith, both, some, k.many)
 
 -- Directories were entered as often as a machine counts.
-pub exhausts_count : {pats : List (List ℕ)} → {count : ℕ} {x y : List Call} {f g : List (List ℕ)} {a b : ReportState} → 2 ^ 64 ≤ count + 1 → EntersSome pats count x y f g a b → Exhausts pats x y f g a b
+pub exhausts_count : {scope : Scope} → {count : ℕ} {x y : List Call} {f g : List (List ℕ)} {a b : ReportState} → 2 ^ 64 ≤ count + 1 → EntersSome scope count x y f g a b → Exhausts scope x y f g a b
 exhausts_count many k = record { explores = k.explores; done = λ few. absurd (omega (arith, many, few, k.many)) }
 
 -- No directory waits any longer.
-pub exhausts_empty : {pats : List (List ℕ)} → {count : ℕ} {x y : List Call} {f g last : List (List ℕ)} {a b : ReportState} → last ≡ g → last ≡ [] → EntersSome pats count x y f g a b →
-    Exhausts pats x y f last a b
-exhausts_empty {pats = pats} {x = x} {y = y} {f = f} {a = a} {b = b} same none k = record {
-  explores = subst (λ (h : List (List ℕ)). Explores pats x y f h a b) (sym same) k.explores;
+pub exhausts_empty : {scope : Scope} → {count : ℕ} {x y : List Call} {f g last : List (List ℕ)} {a b : ReportState} → last ≡ g → last ≡ [] → EntersSome scope count x y f g a b →
+    Exhausts scope x y f last a b
+exhausts_empty {scope = scope} {x = x} {y = y} {f = f} {a = a} {b = b} same none k = record {
+  explores = subst (λ (h : List (List ℕ)). Explores scope x y f h a b) (sym same) k.explores;
   done = λ few. none;
 }
 
@@ -393,25 +409,28 @@ on_ok_both P Q r p q = grind arith
 pub on_ok_always : {T E Q : Type 0} (r : Result T E) → Q → OnOk r Q
 on_ok_always r q = grind arith
 
+pub on_err_always : {T E Q : Type 0} (r : Result T E) → Q → OnErr r Q
+on_err_always r q = grind arith
+
 -- A directory waits after it was pushed.
 pub waits_pushed : {X : Type 0} (f : X → List ℕ) (before after : List X) (x : X) (path : List ℕ) → IsDirectoryPath path (f x) → after ≡ before ++ x ∷ [] → Waits path (map f before) (map f after)
 waits_pushed f before after x path h is = record { directory = f x; is_path = h; grown = ap (map f) is ∙ map-append f before (x ∷ []) }
 
 -- Some paths of the command line can be taken, or have a fault.
-pub record StartsSome (pats : List (List ℕ)) (paths : List (List ℕ)) (x y : List Call) (f g : List (List ℕ)) (found : List Found) (first r : ReportState) : Type 0 where
-  pub explores : Explores pats x y f g first r
+pub record StartsSome (scope : Scope) (paths : List (List ℕ)) (x y : List Call) (f g : List (List ℕ)) (found : List Found) (first r : ReportState) : Type 0 where
+  pub explores : Explores scope x y f g first r
   pub begins : (0 < r.faulty) ⊎ All (Begins explores.made (IsDue explores.made g) (IsIn found)) paths
 
 -- There was none yet.
-pub starts_none : {pats : List (List ℕ)} → (calls : List Call) (directories : List (List ℕ)) (found : List Found) (r : ReportState) → StartsSome pats [] calls calls directories directories found r r
+pub starts_none : {scope : Scope} → (calls : List Call) (directories : List (List ℕ)) (found : List Found) (r : ReportState) → StartsSome scope [] calls calls directories directories found r r
 unfolding explores_none explores_few
 starts_none calls directories found r = record { explores = explores_none calls directories r r (λ some. some); begins = inr (All-nil (Begins [] (IsDue [] directories) (IsIn found))) }
 
 -- One path more can be taken, or has a fault.
-starts_more : {pats : List (List ℕ)} → {paths : List (List ℕ)} {path : List ℕ} {x y z : List Call} {f g h : List (List ℕ)}
+starts_more : {scope : Scope} → {paths : List (List ℕ)} {path : List ℕ} {x y z : List Call} {f g h : List (List ℕ)}
     {found found' : List Found} {first a b : ReportState} → All (Contains found') found →
-    StartsSome pats paths x y f g found first a → Starts pats path y z g h found' a b →
-    StartsSome pats (paths ++ path ∷ []) x z f h found' first b
+    StartsSome scope paths x y f g found first a → Starts scope path y z g h found' a b →
+    StartsSome scope (paths ++ path ∷ []) x z f h found' first b
 unfolding explores_then
 starts_more {paths = paths} {path = path} {g = g} {h = h} {found = found} {found' = found'} {a = a} {b = b} stay k l =
     record { explores = explores_then k.explores l.explores; begins = by_case k.begins l.begins }
@@ -435,12 +454,12 @@ starts_more {paths = paths} {path = path} {g = g} {h = h} {found = found} {found
         (begins_within (later_calls xs ys) (due_still xs ys h) (λ p id there. there) good))
 
 -- The same, by the index of the path.
-pub starts_at : {pats : List (List ℕ)} → {X : Type 0} (f : X → List ℕ) (xs : List X) (i : ℕ) (v : X) (path : List ℕ) {x y z : List Call}
+pub starts_at : {scope : Scope} → {X : Type 0} (f : X → List ℕ) (xs : List X) (i : ℕ) (v : X) (path : List ℕ) {x y z : List Call}
     {a b c : List (List ℕ)} {found found' : List Found} {first r s : ReportState} → i < length xs → v ≡ get_or xs i v →
-    path ≡ f v → All (Contains found') found → StartsSome pats (map f (take i xs)) x y a b found first r →
-    Starts pats path y z b c found' r s → StartsSome pats (map f (take (i + 1) xs)) x z a c found' first s
-starts_at {pats = pats} f xs i v path {x = x} {z = z} {a = a} {c = c} {found' = found'} {first = first} {s = s} within is named stay h k =
-    subst (λ (ps : List (List ℕ)). StartsSome pats ps x z a c found' first s) (sym (one_more f xs i v path within is named)) (starts_more stay h k)
+    path ≡ f v → All (Contains found') found → StartsSome scope (map f (take i xs)) x y a b found first r →
+    Starts scope path y z b c found' r s → StartsSome scope (map f (take (i + 1) xs)) x z a c found' first s
+starts_at {scope = scope} f xs i v path {x = x} {z = z} {a = a} {c = c} {found' = found'} {first = first} {s = s} within is named stay h k =
+    subst (λ (ps : List (List ℕ)). StartsSome scope ps x z a c found' first s) (sym (one_more f xs i v path within is named)) (starts_more stay h k)
 
 -- Calls of a walk are the same ones if they leave the same calls.
 same_walked : (xs ys : List WalkCall) → map walked xs ≡ map walked ys → xs ≡ ys
@@ -454,32 +473,31 @@ same_calls : (xs ys : List WalkCall) (old : List Call) → map walked xs ++ old 
 same_calls xs ys old e = same_walked xs ys (append_cancel_right (map walked xs) (map walked ys) old e)
 
 -- A walk from no files has none but such as it may take.
-only_allowed : (patterns paths : List (List ℕ)) (before found : List Found) → before ≡ [] → All (MayHave patterns paths before) found → All (IsAllowed patterns paths) found
-only_allowed patterns paths before found none h = All-weaker (MayHave patterns paths before) (IsAllowed patterns paths) by_case found h
+only_allowed : (scope : Scope) (paths : List (List ℕ)) (before found : List Found) → before ≡ [] → All (MayHave scope paths before) found → All (IsAllowed scope paths) found
+only_allowed scope paths before found none h = All-weaker (MayHave scope paths before) (IsAllowed scope paths) by_case found h
   where
-    by_case : (f : Found) → MayHave patterns paths before f → IsAllowed patterns paths f
+    by_case : (f : Found) → MayHave scope paths before f → IsAllowed scope paths f
     by_case f (inr may) = may
     by_case f (inl there) = let inside : Contains [] f = subst (λ (fs : List Found). Contains fs f) none there in
         absurd (omega (arith, inside.1))
 
 -- All paths can be taken, and all directories were entered.
-pub covers_paths : {pats : List (List ℕ)} → {X : Type 0} (f : X → List ℕ) (xs : List X) (i : ℕ) {x y z : List Call} {a b c : List (List ℕ)}
-    {found : List Found} {first r last : ReportState} → i ≡ length xs → ¬ (0 < r.faulty) →
-    StartsSome pats (map f (take i xs)) x y a b found first r → Exhausts pats y z b c r last → {w v : Walk} →
-    All (Contains v.found.items) found → w.found.items ≡ [] → Catches (map f xs) x z w v → (patterns : List (List ℕ)) →
-    map string_bytes w.patterns.now ≡ patterns → pats ≡ patterns →
-    CoversPaths (map f xs) patterns x z IsIn v.found.items (0 < last.faulty)
+pub covers_paths : {w v : Walk} (i : ℕ) {x y z : List Call} {a b c : List (List ℕ)}
+    {found : List Found} {first r last : ReportState} → i ≡ length w.paths.now → ¬ (0 < r.faulty) →
+    StartsSome (scope_of w) (map string_bytes (take i w.paths.now)) x y a b found first r → Exhausts (scope_of w) y z b c r last →
+    All (Contains v.found.items) found → w.found.items ≡ [] → Catches (map string_bytes w.paths.now) x z w v →
+    CoversPaths (scope_of w) x z IsIn v.found.items (0 < last.faulty)
 unfolding explores_then
-covers_paths f xs i {x = x} {y = y} {z = z} {b = b} {c = c} {found = found} {r = r} {last = last} all fine h k {w = w} {v = v} stay none caught patterns are same = record {
-  allowed = only_allowed patterns (map f xs) w.found.items v.found.items none (subst (λ (ps : List (List ℕ)). All (MayHave ps (map f xs) w.found.items) v.found.items) are caught.grows.allowed);
+covers_paths {w = w} {v = v} i {x = x} {y = y} {z = z} {b = b} {c = c} {found = found} {r = r} {last = last} all fine h k stay none caught = record {
+  allowed = only_allowed (scope_of w) (map string_bytes w.paths.now) w.found.items v.found.items none caught.grows.allowed;
   calls = ys ++ ws;
   are = (explores_then h.explores k.explores).are;
   waiting = c;
   all_listed = λ few. k.done (fewer few);
-  begins = subst (λ l. All Later (map f l)) (take_all i xs (omega arith)) (by_case h.begins);
-  visits = subst (λ (ps : List (List ℕ)). VisitsAll ps (ys ++ ws) (IsDue (ys ++ ws) c) (0 < last.faulty)) same (explores_then h.explores k.explores).visits;
+  begins = subst (λ l. All Later (map string_bytes l)) (take_all i w.paths.now (omega arith)) (by_case h.begins);
+  visits = (explores_then h.explores k.explores).visits;
   taken = λ path node there kind.
-      subst (λ (ps : List (List ℕ)). IsIn v.found.items path node.id ⊎ IsLeft ps path) (ap (map string_bytes) caught.grows.same ∙ are)
+      subst (λ (s : Scope). IsIn v.found.items path node.id ⊎ IsLeft s path) caught.grows.same
       (caught.taken path node (subst (λ (cs : List WalkCall). Contains cs (met path (Present node)))
       (same_calls (ys ++ ws) caught.calls x (sym (explores_then h.explores k.explores).are ∙ caught.are)) there) kind);
 }
@@ -497,11 +515,11 @@ covers_paths f xs i {x = x} {y = y} {z = z} {b = b} {c = c} {found = found} {r =
     Later : List ℕ → Type 0
     Later p = Begins (ys ++ ws) (IsDue (ys ++ ws) c) (IsIn v.found.items) p
 
-    by_case : (0 < r.faulty) ⊎ All (Begins ws (IsDue ws b) (IsIn found)) (map f (take i xs)) → All Later (map f (take i xs))
+    by_case : (0 < r.faulty) ⊎ All (Begins ws (IsDue ws b) (IsIn found)) (map string_bytes (take i w.paths.now)) → All Later (map string_bytes (take i w.paths.now))
     by_case (inl some) = absurd (fine some)
     by_case (inr each) = All-weaker (Begins ws (IsDue ws b) (IsIn found)) Later
         (λ p start. begins_within (earlier_calls ws ys) (due_later ws ys b c k.explores.waits)
-        (is_in_later found v.found.items stay) start) (map f (take i xs)) each
+        (is_in_later found v.found.items stay) start) (map string_bytes (take i w.paths.now)) each
 
 -- A file was found before, or is at this path.
 abbrev pub AtPath : List ℕ → List Found → Found → Type 0
@@ -626,18 +644,18 @@ stands_in found files kept path id h = by_case (All-contains (IsKept files) foun
         by_same (inr same) = inr (same ∙ h.3)
 
 -- A file that was found is kept, and one that isn't chosen isn't.
-left_kept : {patterns : List (List ℕ)} (found files : List Found) → All (IsKept files) found →
-    (path : List ℕ) (id : FileId) → IsIn found path id ⊎ IsLeft patterns path →
-    StandsIn files path id ⊎ IsLeft patterns path
+left_kept : {scope : Scope} (found files : List Found) → All (IsKept files) found →
+    (path : List ℕ) (id : FileId) → IsIn found path id ⊎ IsLeft scope path →
+    StandsIn files path id ⊎ IsLeft scope path
 left_kept found files kept path id (inl there) = inl (stands_in found files kept path id there)
 left_kept found files kept path id (inr left) = inr left
 
 -- The paths are covered, and the files that were found are kept.
-pub covers_kept : {paths patterns : List (List ℕ)} {x y : List Call} (found files : List Found) (s t : Type 0) →
-    (s → t) → All (IsKept files) found → All (Contains found) files → CoversPaths paths patterns x y IsIn found s →
-    CoversPaths paths patterns x y StandsIn files t
-covers_kept {paths = paths} {patterns = patterns} found files s t e kept from h = record {
-  allowed = All-weaker (Contains found) (IsAllowed patterns paths) (λ f there. All-contains (IsAllowed patterns paths) found f h.allowed there) files from;
+pub covers_kept : {scope : Scope} {x y : List Call} (found files : List Found) (s t : Type 0) →
+    (s → t) → All (IsKept files) found → All (Contains found) files → CoversPaths scope x y IsIn found s →
+    CoversPaths scope x y StandsIn files t
+covers_kept {scope = scope} found files s t e kept from h = record {
+  allowed = All-weaker (Contains found) (IsAllowed scope scope.paths) (λ f there. All-contains (IsAllowed scope scope.paths) found f h.allowed there) files from;
   calls = h.calls;
   are = h.are;
   waiting = h.waiting;
@@ -645,7 +663,7 @@ covers_kept {paths = paths} {patterns = patterns} found files s t e kept from h 
   begins = All-weaker (Begins h.calls (IsDue h.calls h.waiting) (IsIn found))
       (Begins h.calls (IsDue h.calls h.waiting) (StandsIn files))
       (λ p start. begins_within (λ w here. here) (λ path due. due) (stands_in found files kept) start)
-      paths h.begins;
+      scope.paths h.begins;
   visits = λ directory names answer there. visits_all_within names (λ w here. here) (λ path due. due) e (h.visits directory names answer there);
   taken = λ path node there kind. left_kept found files kept path node.id (h.taken path node there kind);
 }

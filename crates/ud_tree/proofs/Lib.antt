@@ -7,9 +7,13 @@ pub mod MessageLemmas
 pub mod WalkLemmas
 pub mod WalkTellLemmas
 pub mod ChoiceLemmas
+pub mod ScopeLemmas
+pub mod UnmatchedLemmas
+pub mod MarkLemmas
 pub mod CoverLemmas
 pub mod CatchLemmas
 pub mod DoneLemmas
+pub mod TruthLemmas
 pub mod TreeLaws
 pub mod StatusLaws
 pub mod OtherLemmas
@@ -23,4 +27,5 @@ mod PatternPartLemmas
 mod PatternPlaceLemmas
 pub mod MeetingLemmas
 pub mod ReadingLemmas
-pub mod NamingLemmas
+pub mod EvidenceLemmas
+pub mod SamplingLemmas

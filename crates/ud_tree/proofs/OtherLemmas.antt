@@ -1,11 +1,12 @@
 -- The files of other names, and which of them name a symbol.
-use Rattle.std.proofs.Common.{◌≡◌, ◌⊎◌, inl, inr, ℕ, ◌<◌, ◌≤◌, ◌+◌, ◌==◌, List, [], ◌∷◌, ◌++◌, length, get_or, map, cond, Bool, true, false, not, ◌&&◌, Option, is_some, Result, Ok, Err, is_ok, refl, sym, ap, ◌∙◌, arith, bytes_eq, is_eq, is_lt}
+use Rattle.std.proofs.Common.{◌≡◌, ◌⊎◌, inl, inr, ℕ, ◌<◌, ◌≤◌, ◌+◌, ◌==◌, List, [], ◌∷◌, ◌++◌, length, get_or, map, cond, Bool, true, false, not, Result, Ok, Err, is_ok, refl, sym, ap, ◌∙◌, subst, true≢false, ◌^◌, arith, bytes_eq, is_eq, is_lt}
 use Rattle.std.proofs.lemmas.Bool.{cases_lt}
 use Rattle.std.proofs.lemmas.Grind.{common_steps}
 use Rattle.std.proofs.lemmas.Cmp.{nat_list_cmp_total}
 use Rattle.std.proofs.lemmas.List.{map-append}
 use Rattle.std.proofs.lemmas.List.Elements.{filter-append}
 use Rattle.std.proofs.lemmas.List.Folds.{list_any_at, list_any_none}
+use Rattle.std.proofs.lemmas.List.Sums.{sum_by_push}
 use Rattle.std.proofs.lemmas.List.Sorted.{searchable_from_sorted}
 use Rattle.std.proofs.lemmas.Map.Text.{is_eq-slice_cmp}
 use Rattle.std.specs.Cmp.Lexicographic.{slice_cmp}
@@ -14,27 +15,29 @@ use Rattle.std.specs.List.Sorted.{IsSearchInRange, IsBinarySearchResult, IsNonDe
 use Rattle.std.specs.Ordering.{nat_cmp, ordering_index, ordering_reverse}
 use Rattle.std.specs.declared.cmp.Ordering.{Ordering}
 use Rattle.std.specs.declared.cmp.Ordering.TheVariants.{Less, Equal, Greater}
-use Rattle.std.specs.Prelude.{string_bytes, filter}
+use Rattle.std.specs.Prelude.{string_bytes, filter, count_by}
 use Rattle.ud_model.specs.conditions.Table.{Argument}
 use Rattle.ud_cond.specs.symbols.SymbolTable.{TableRepresents}
 use Rattle.ud_passes.specs.declared.remaining.listing.Listing.TheVariants.{Texts}
 use Rattle.ud_passes.specs.remaining.Mentions.{Mention}
 use Rattle.ud_passes.specs.remaining.RemainingLists.{lines_for, named_count}
-use Rattle.ud_replace.specs.declared.stat.FileStat.{FileStat}
-use Rattle.ud_replace.specs.Calls.{Call, was_read}
-use Rattle.ud_replace.specs.Moments.{EachCall}
+use Rattle.ud_replace.specs.declared.node.Sample.{Sample}
+use Rattle.ud_replace.specs.Calls.{Call, sampled}
+use Rattle.ud_replace.specs.Moments.{EachCall, then_call}
+use Rattle.ud_tree.specs.declared.other_files.OtherKind.{OtherKind}
+use Rattle.ud_tree.specs.declared.other_files.Others.{Others}
 use Rattle.ud_tree.specs.declared.walk.Found.{Found}
 use Rattle.ud_tree.specs.Covering.{CoversPaths, IsIn}
-use Rattle.ud_tree.specs.Others.{Look, calls_of, is_among, is_named, names_symbol, any_name, ReadsOthers, WalksOthers, AreOthers, no_path}
+use Rattle.ud_tree.specs.Others.{Look, kind_of, names, is_unsearched, calls_of, is_among, is_named, is_left, AreNone, ReadsOthers, WalksOthers, AreOthers, no_path, others_scope}
 use Rattle.ud_tree.specs.Reports.{ReportState}
-use Rattle.ud_tree.specs.Runs.{reads}
 use Rattle.ud_tree.specs.TreeMoments.{TouchesNothing}
 use Rattle.ud_tree.specs.Walks.{IsBefore, IsFileList}
 use Rattle.ud_tree.specs.WalkMessages.{GoesOn}
 use Rattle.ud_tree.specs.declared.arguments.Arguments.{Arguments}
 use Rattle.ud_tree.specs.declared.walk.Walk.{Walk}
 use Rattle.ud_tree.proofs.CoverLemmas.{covers_kept}
-use Rattle.ud_tree.proofs.TreeLaws.{each_then, each_at, read_touches, walk_touches}
+use Rattle.ud_tree.proofs.RunLemmas.{number_push}
+use Rattle.ud_tree.proofs.TreeLaws.{each_at, walk_touches}
 use Rattle.ud_tree.proofs.WalkLemmas.{walk_found}
 use Rattle.ud_tree.proofs.WalkTellLemmas.{some_told}
 
@@ -70,41 +73,49 @@ is_among_searched files f (Err i) ascend within at = sym (list_any_none (λ g. b
 
 -- 2. Files are read in turn.
 
-calls_push : (looks : List Look) (l : Look) (old : List Call) → calls_of (looks ++ l ∷ []) old ≡ was_read (string_bytes l.file.path) l.bytes l.answer ∷ calls_of looks old
+calls_push : (looks : List Look) (l : Look) (old : List Call) → calls_of (looks ++ l ∷ []) old ≡ sampled (string_bytes l.file.path) l.text l.answer ∷ calls_of looks old
 calls_push [] l old = refl
-calls_push (k ∷ looks) l old = calls_push looks l (was_read (string_bytes k.file.path) k.bytes k.answer ∷ old)
+calls_push (k ∷ looks) l old = calls_push looks l (sampled (string_bytes k.file.path) k.text k.answer ∷ old)
 
 -- A call that read a file touches none.
-pub touches_more : {name bytes : List ℕ} {old mid new : List Call} (answer : Option FileStat) → EachCall TouchesNothing old mid → new ≡ was_read name bytes answer ∷ mid →
+pub touches_more : {name text : List ℕ} {old mid new : List Call} (answer : Sample) → EachCall TouchesNothing old mid → new ≡ sampled name text answer ∷ mid →
     EachCall TouchesNothing old new
-touches_more answer h is = each_then h (read_touches (reads answer is))
+touches_more answer h is = each_at is (then_call h (λ n t. true≢false (sym t)))
 
 module _ {args : Arguments} {files : List Found} where
   -- No file was read yet.
-  pub reads_none : (calls : List Call) (others : List Found) → others ≡ [] → ReadsOthers args files [] calls calls others
-  reads_none calls others none = record { looks = []; files_are = refl; calls_are = refl; others_are = λ table r. none }
+  pub reads_none : (calls : List Call) (others : Others) → AreNone others → ReadsOthers args files [] calls calls others
+  reads_none calls others h = record { looks = []; files_are = refl; calls_are = refl; others_are = λ table r. record { named = h.named; unsearched = λ small. h.unsearched } }
 
   -- Another one was read.
-  pub reads_more : {all others after : List Found} {old mid new : List Call} (f : Found) (path bytes : List ℕ) (answer : Option FileStat) (named : Bool) →
+  pub reads_more : {all : List Found} {others after : Others} {old mid new : List Call} (f : Found) (path text : List ℕ) (answer : Sample) (kind : OtherKind) →
       is_among files f ≡ false → path ≡ string_bytes f.path → ReadsOthers args files all old mid others →
-      new ≡ was_read path bytes answer ∷ mid →
-      ((table : List Argument) → TableRepresents args.plan.run.symbols table → named ≡ (is_some answer && names_symbol table bytes)) →
-      after ≡ others ++ cond named (f ∷ []) [] → ReadsOthers args files (all ++ f ∷ []) old new after
-  reads_more {all = all} {others = others} {old = old} {mid = mid} f path bytes answer named is at h call tells grown = record {
+      new ≡ sampled path text answer ∷ mid →
+      ((table : List Argument) → TableRepresents args.plan.run.symbols table → kind ≡ kind_of table text answer) →
+      after.named.items ≡ others.named.items ++ cond (names kind) (f ∷ []) [] →
+      (others.unsearched + cond (is_unsearched kind) 1 0 < 2 ^ 64 → after.unsearched ≡ others.unsearched + cond (is_unsearched kind) 1 0) →
+      ReadsOthers args files (all ++ f ∷ []) old new after
+  reads_more {all = all} {others = others} {after = after} {old = old} {mid = mid} f path text answer kind is at h call tells grown counted = record {
     looks = h.looks ++ look ∷ [];
     files_are = map-append (λ l. l.file) h.looks (look ∷ []) ∙ ap (λ (fs : List Found). fs ++ f ∷ []) h.files_are
         ∙ ap (λ (b : Bool). filter (λ g. not (is_among files g)) all ++ cond (not b) (f ∷ []) []) (sym is)
         ∙ sym (filter-append (λ g. not (is_among files g)) all (f ∷ []));
-    calls_are = call ∙ ap (λ (p : List ℕ). was_read p bytes answer ∷ mid) at ∙ ap (λ (cs : List Call). was_read (string_bytes f.path) bytes answer ∷ cs) h.calls_are
+    calls_are = call ∙ ap (λ (p : List ℕ). sampled p text answer ∷ mid) at ∙ ap (λ (cs : List Call). sampled (string_bytes f.path) text answer ∷ cs) h.calls_are
         ∙ sym (calls_push h.looks look old);
-    others_are = λ table r. grown ∙ ap (λ (fs : List Found). fs ++ cond named (f ∷ []) []) (h.others_are table r) ∙ ap (λ (b : Bool). map (λ l. l.file) (filter (is_named table) h.looks) ++ cond b (f ∷ []) []) (tells table r)
-        ∙ ap (λ (fs : List Found). map (λ l. l.file) (filter (is_named table) h.looks) ++ fs) (one (is_named table look))
-        ∙ sym (map-append (λ l. l.file) (filter (is_named table) h.looks) (filter (is_named table) (look ∷ [])))
-        ∙ ap (map (λ l. l.file)) (sym (filter-append (is_named table) h.looks (look ∷ [])));
+    others_are = λ table r. record {
+      named = grown ∙ ap (λ (fs : List Found). fs ++ cond (names kind) (f ∷ []) []) (h.others_are table r).named
+          ∙ ap (λ (k : OtherKind). map (λ l. l.file) (filter (is_named table) h.looks) ++ cond (names k) (f ∷ []) []) (tells table r)
+          ∙ ap (λ (fs : List Found). map (λ l. l.file) (filter (is_named table) h.looks) ++ fs) (one (is_named table look))
+          ∙ sym (map-append (λ l. l.file) (filter (is_named table) h.looks) (filter (is_named table) (look ∷ [])))
+          ∙ ap (map (λ l. l.file)) (sym (filter-append (is_named table) h.looks (look ∷ [])));
+      unsearched = number_push (count_by (is_left table) h.looks) (count_by (is_left table) (h.looks ++ look ∷ [])) others.unsearched (cond (is_left table look) 1 0) after.unsearched
+          (sum_by_push (λ (l : Look). cond (is_left table l) 1 0) h.looks look) (h.others_are table r).unsearched
+          (subst (λ (k : OtherKind). others.unsearched + cond (is_unsearched k) 1 0 < 2 ^ 64 → after.unsearched ≡ others.unsearched + cond (is_unsearched k) 1 0) (tells table r) counted);
+    };
   }
     where
       look : Look
-      look = record { file = f; bytes = bytes; answer = answer }
+      look = record { file = f; text = text; answer = answer }
 
       one : (b : Bool) → cond b (f ∷ []) [] ≡ map (λ l. l.file) (cond b (look ∷ []) [])
       one true = refl
@@ -124,7 +135,7 @@ walked_touches {calls = calls} h = each_at h.finds.are (walk_touches h.finds.cal
 -- It found all files.
 pub walked_over : {args : Arguments} {calls calls' : List Call} {w w' : Walk} {r r' : ReportState} (files : List Found) → w.found.items ≡ [] → r.faulty ≡ 0 →
     GoesOn calls calls' w w' r r' →
-    CoversPaths (map string_bytes args.paths.items) (any_name (map string_bytes args.patterns.items)) calls calls' IsIn w'.found.items (0 < r'.faulty) →
+    CoversPaths (others_scope args) calls calls' IsIn w'.found.items (0 < r'.faulty) →
     IsFileList w'.found.items files → WalksOthers args calls calls' files
 walked_over {w' = w'} {r = r} {r' = r'} files empty none h covers l = record {
   messages = h.told.messages;
@@ -135,7 +146,7 @@ walked_over {w' = w'} {r = r} {r' = r'} files empty none h covers l = record {
 }
 
 -- A path of the command line can't be taken any more.
-pub none_walked : {args : Arguments} {files : List Found} {calls calls' : List Call} {w w' : Walk} {r r' : ReportState} {others : List Found} → r.faulty ≡ 0 →
-    GoesOn calls calls' w w' r r' → 0 < r'.faulty → others ≡ [] → AreOthers args files calls calls' others
+pub none_walked : {args : Arguments} {files : List Found} {calls calls' : List Call} {w w' : Walk} {r r' : ReportState} {others : Others} → r.faulty ≡ 0 →
+    GoesOn calls calls' w w' r r' → 0 < r'.faulty → AreNone others → AreOthers args files calls calls' others
 none_walked {r = r} {r' = r'} none h bad empty =
     no_path h.told.messages h.told.walk (some_told r.faulty r'.faulty (length h.told.messages) none h.told.counted bad) empty

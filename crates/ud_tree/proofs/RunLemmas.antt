@@ -1,5 +1,5 @@
 -- One file more of a run.
-use Rattle.std.proofs.Common.{◌≡◌, ℕ, ◌+◌, ◌<◌, ◌≤◌, List, [], ◌∷◌, ◌++◌, length, get_or, take, cond, inl, inr, refl, sym, ap, ◌∙◌, subst, append-nil, Bool, true, false, Result, min, ◌-◌, ◌^◌, arith}
+use Rattle.std.proofs.Common.{◌≡◌, ℕ, ◌+◌, ◌<◌, ◌≤◌, List, [], ◌∷◌, ◌++◌, length, get_or, take, cond, inl, inr, refl, sym, ap, ◌∙◌, subst, append-nil, Bool, true, false, ◌||◌, Result, min, ◌-◌, ◌^◌, arith}
 use mir.Val.{bool_byte}
 use Rattle.std.proofs.lemmas.List.{take_more, take_all, map-append}
 use Rattle.std.proofs.lemmas.List.Sums.{sum_by_push}
@@ -11,12 +11,13 @@ use Rattle.ud_replace.specs.Calls.{Call}
 use Rattle.ud_tree.specs.declared.counts.Fate.{Fate}
 use Rattle.ud_tree.specs.declared.counts.Counts.{Counts}
 use Rattle.ud_tree.specs.declared.counts.Edits.{Edits}
+use Rattle.ud_tree.specs.declared.other_files.Others.{Others}
 use Rattle.ud_tree.specs.declared.walk.Found.{Found}
 use Rattle.ud_tree.specs.declared.arguments.Arguments.{Arguments}
 use Rattle.ud_tree.specs.declared.arguments.Task.{Task}
 use Rattle.ud_tree.specs.declared.arguments.Task.TheVariants.{Names}
 use Rattle.ud_tree.specs.Fates.{fate_of, is_changed, is_same, is_faulty, no_edits}
-use Rattle.ud_tree.specs.Runs.{FileResult, Unshown, EachFile, no_file, then_file, changed_in, faulty_in, edited_in, removed_in, told_of, Counted, names_of, nothing_listed, listed_of, outputs_of, texts_of}
+use Rattle.ud_tree.specs.Runs.{FileResult, Unshown, EachFile, no_file, then_file, changed_in, faulty_in, edited_in, removed_in, told_of, Counted, names_of, nothing_listed, listed_of, lost_in, outputs_of, texts_of}
 use Rattle.ud_tree.specs.Remainders.{FindsAll, listing_of, list_of, count_of, defined_of, unnamed_in}
 use Rattle.ud_tree.specs.Unnamed.{Seeks}
 use Rattle.ud_tree.specs.Others.{FindsOthers}
@@ -25,9 +26,10 @@ use Rattle.ud_tree.specs.Statuses.{tree_status}
 use Rattle.ud_tree.specs.Streams.{Source, ends_of}
 use Rattle.ud_io.specs.Streams.{Stream, Sends}
 use Rattle.ud_tree.specs.declared.job.Job.{Job}
-use Rattle.ud_tree.specs.Reports.{ReportState, new_report, IsPlain, KeepsScreen, Writes, Tells, TellsOf}
+use Rattle.ud_tree.specs.Reports.{ReportState, new_report, IsPlain, KeepsScreen, Says, Writes, Tells, TellsOf}
 use Rattle.ud_tree.specs.Messages.{IsTold, TellsIf, list_message, write_message, output_messages}
 use Rattle.ud_tree.specs.Summaries.{last_lines, TellsEnd}
+use Rattle.ud_tree.specs.Unmatched.{LeavesRules, rule_lines}
 use Rattle.ud_tree.proofs.MessageLemmas.{output_told, output_count}
 use Rattle.ud_tree.proofs.ReportLemmas.{tells_none, tells_then, tells_same, writes_kept, writes_then}
 use Rattle.ud_tree.specs.Covering.{StandsIn, MissesNone}
@@ -43,6 +45,7 @@ use Rattle.ud_tree.specs.Writing.{Moment, Stage, WritesOne, ProcessesOne, Writes
 use Rattle.ud_tree.specs.TreeRuns.{Ending, DoesBy, DoesOne, DoesFiles, Ends, EndsWriting, RunsTree}
 use Rattle.ud_tree.proofs.DoneLemmas.{still_failed, done_later}
 use Rattle.ud_io.proofs.StreamLemmas.{sends_none, sends_then, sends_same}
+use Rattle.std.proofs.lemmas.List.Folds.{list_any-append}
 use Rattle.unifdef.proofs.HeadlineLemmas.{false_before}
 
 -- One file more is counted, if its fate passes the test.
@@ -68,9 +71,9 @@ counted_none counts a b c d =
       told_is = refl;
     }
 
--- The edits of one file more are counted.
-edits_push : (s t b n a : ℕ) → t ≡ s + n → (s < 2 ^ 64 → b ≡ s) → (b + n < 2 ^ 64 → a ≡ b + n) → t < 2 ^ 64 → a ≡ t
-edits_push s t b n a e f g small = grind arith
+-- A number of one file more is counted.
+pub number_push : (s t b n a : ℕ) → t ≡ s + n → (s < 2 ^ 64 → b ≡ s) → (b + n < 2 ^ 64 → a ≡ b + n) → t < 2 ^ 64 → a ≡ t
+number_push s t b n a e f g small = grind arith
 
 -- One file more is processed and counted.
 counted_push : {P : List ℕ → List Call → List Call → FileResult → Type 0} {old mid new : List Call} {before : Counts} {shown told : List ℕ}
@@ -95,11 +98,11 @@ counted_push {P = P} {old = old} {mid = mid} {new = new} {before = before} {show
         unchanged = b ∙ ap (λ (n : ℕ). n + cond (is_same (fate_of r.update)) 1 0) k.unchanged ∙ sym (count_push is_same h.results r);
         faulty = c ∙ ap (λ (n : ℕ). n + cond (is_faulty (fate_of r.update)) 1 0) k.faulty ∙ sym (count_push is_faulty h.results r);
         edited =
-            edits_push (edited_in h.results) (edited_in (h.results ++ r ∷ [])) before.edits.conditions
+            number_push (edited_in h.results) (edited_in (h.results ++ r ∷ [])) before.edits.conditions
             r.edits.conditions after.edits.conditions (sum_by_push (λ (s : FileResult). s.edits.conditions) h.results r)
             k.edited d;
         removed =
-            edits_push (removed_in h.results) (removed_in (h.results ++ r ∷ [])) before.edits.lines r.edits.lines
+            number_push (removed_in h.results) (removed_in (h.results ++ r ∷ [])) before.edits.lines r.edits.lines
             after.edits.lines (sum_by_push (λ (s : FileResult). s.edits.lines) h.results r) k.removed e;
       };
       shown_is = ap (λ (x : List ℕ). x ++ r.shown) h.shown_is ∙ sym (grind (arith, common_steps, flat_map-append));
@@ -123,7 +126,12 @@ writes_none {m = m} lists counts a b c d =
       writes = (tells_none m.report).writes;
       adds = adds_none lists;
       finds = finds_none refl (λ lost. lost) refl;
+      loses = λ whole. refl;
     }
+
+-- Nothing was lost of one file more.
+none_lost : (results : List FileResult) (r : FileResult) → lost_in results ≡ false → r.lost ≡ false → lost_in (results ++ r ∷ []) ≡ false
+none_lost results r none whole = list_any-append (λ q. q.lost) results (r ∷ []) ∙ ap (λ b. b || (r.lost || false)) none ∙ ap (λ b. false || (b || false)) whole
 
 finds_push : {args : Arguments} {a b c : ReportState} (results : List FileResult) (r : FileResult) → FindsAll args (texts_of results) (outputs_of results) a b → FindsAll args r.texts r.outputs b c →
     FindsAll args (texts_of (results ++ r ∷ [])) (outputs_of (results ++ r ∷ [])) a c
@@ -147,7 +155,9 @@ pub writes_push : {args : Arguments} {P : List ℕ → List Call → List Call �
 unfolding counted_push
 writes_push files i f name update edits fate after within is named h progress screen p t e a b c d l =
     let w = p.writes in
-    let result : FileResult = record { update = update; shown = w.shown; told = t.message; edits = edits; listed = p.listed; outputs = w.outputs; texts = w.texts } in
+    let result : FileResult = record { update = update; shown = w.shown; told = t.message; edits = edits; listed = p.listed; outputs = w.outputs; texts = w.texts; lost = w.lost } in
+    let later = finds_then [] w.texts [] w.outputs (finds_kept progress.keeps)
+    (finds_same (append-nil w.texts) (append-nil w.outputs) (finds_then w.texts [] w.outputs [] w.finds (finds_kept t.tells.keeps))) in
     record {
       shown = h.shown ++ w.shown;
       told = h.told ++ t.message;
@@ -155,9 +165,8 @@ writes_push files i f name update edits fate after within is named h progress sc
       sent = sends_then h.sent w.sent;
       writes = writes_then h.writes (writes_then (writes_then progress.writes (writes_kept screen)) t.tells.writes);
       adds = grind (arith, common_steps, flat_map-append, sum_by_push, h.adds, p.adds);
-      finds = finds_push h.counted.results result h.finds
-          (finds_then [] w.texts [] w.outputs (finds_kept progress.keeps)
-          (finds_same (append-nil w.texts) (append-nil w.outputs) (finds_then w.texts [] w.outputs [] w.finds (finds_kept t.tells.keeps))));
+      finds = finds_push h.counted.results result h.finds later;
+      loses = λ whole. none_lost h.counted.results result (h.loses (false_before later.kept whole)) (w.loses (sym t.tells.keeps.lost ∙ whole));
     }
 
 -- All files are processed, and what is shown and told of them was written.
@@ -178,6 +187,8 @@ lists_unshown out r none h = record {
         shown = [];
         outputs = [];
         texts = [];
+        lost = false;
+        loses = λ whole. refl;
         does = λ told. record { does = h.does; nothing = refl; unedited = none; no_output = refl; no_text = refl };
         sent = sends_none out;
         finds = finds_none refl (λ lost. lost) refl;
@@ -231,26 +242,36 @@ plain_begun job err is = record { no_terminal = is; unshown = refl }
 sent_begun : (job : Job) {err : Stream} {first r : ReportState} {x : List ℕ} → first ≡ begun job err → Writes first r x → job.is_terminal ≡ false → Sends err r.err x
 sent_begun job {err = err} {r = r} {x = x} is h p = (subst (λ (q : ReportState). Writes q r x) is h).sent (plain_begun job err p)
 
+-- The lines of the arguments of `-g` were written after the others.
+rules_sent : (args : Arguments) (rules : List (List ℕ)) {last after : ReportState} (b : Bool) → args.quiet ≡ b → (args.quiet ≡ false → last.is_shown ≡ false) →
+    (last.is_shown ≡ false → Says last after (rule_lines args rules)) → (args.quiet ≡ true → after ≡ last) → Sends last.err after.err (rule_lines args rules)
+rules_sent args rules {last = last} {after = after} true quiet unshown said same =
+    rw quiet (subst (λ (r : ReportState). Sends last.err r.err []) (sym (same quiet)) (sends_none last.err))
+rules_sent args rules {last = last} {after = after} false loud unshown said same =
+    let h = said (unshown loud) in
+    subst (λ (s : Stream). Sends s after.err (rule_lines args rules)) (h.unshown (unshown loud)) h.sent
+
 -- The run ends with the status of its counts.
-pub ends : (job : Job) (files : List Found) {old new : Moment} {mid : Stage} {listed : Stream}
-    {seek_report sought_report list_report end_report last_report : ReportState} {counts : Counts} {others : List Found} (lost unwritten : Bool)
+pub ends : (job : Job) (files : List Found) (rules : List (List ℕ)) {old new : Moment} {mid : Stage} {listed : Stream}
+    {seek_report sought_report list_report end_report last_report rules_report : ReportState} {counts : Counts} {others : Others} (lost unwritten : Bool)
     (in_walk faults hidden status : ℕ) (start lists : NameLists) → start.list.items ≡ [] → start.hidden ≡ 0 →
     start.hidden_list.items ≡ [] → hidden ≡ lists.hidden → (lost ≡ false → sought_report.has_lost ≡ false) →
     Seeks job.arguments.now (begun job old.err) seek_report →
     DoesFiles job files (record { calls = old.calls; out = old.out; report = seek_report }) mid counts start
-    lists → FindsOthers job.arguments.now files mid.calls new.calls mid.report sought_report others →
+    lists → FindsOthers job.arguments.now mid.out.failed files mid.calls new.calls mid.report sought_report others →
     WritesList job.arguments.now lists sought_report.remaining.list lost mid.out listed →
     TellsIf list_message lost sought_report list_report → Sends listed new.out [] → unwritten ≡ new.out.failed →
     (new.out.failed ≡ false → new.out.unflushed ≡ false) → TellsIf write_message unwritten list_report end_report →
-    TellsEnd job.arguments.now counts faults hidden (names_of others) end_report last_report → new.err ≡ last_report.err →
+    TellsEnd job.arguments.now counts faults hidden (names_of others.named.items) others.unsearched end_report last_report → (job.arguments.now.quiet ≡ false → last_report.is_shown ≡ false) →
+    (last_report.is_shown ≡ false → Says last_report rules_report (rule_lines job.arguments.now rules)) → (job.arguments.now.quiet ≡ true → rules_report ≡ last_report) → new.err ≡ rules_report.err →
     counts.faulty ≤ faults →
     (in_walk + (cond lost 1 0 + cond unwritten 1 0) + counts.faulty < 2 ^ 64 →
     faults ≡ in_walk + (cond lost 1 0 + cond unwritten 1 0) + counts.faulty) → (unheard : Bool) →
     unheard ≡ new.err.failed →
     status ≡ tree_status job.arguments.now.task job.arguments.now.plan.run.settings.exit_mode unheard faults
-    counts.changed → EndsWriting job in_walk old files new status
-ends job files {old = old} {new = new} {mid = mid} {sought_report = sought_report} {end_report = end_report} {counts = counts} {others = others} lost unwritten in_walk faults hidden
-    status start lists no_name none no_condition hidden_now whole_report sought_now d o l t f failed flushed u e stream few all
+    counts.changed → EndsWriting job in_walk old files rules new status
+ends job files rules {old = old} {new = new} {mid = mid} {sought_report = sought_report} {end_report = end_report} {counts = counts} {others = others} lost unwritten in_walk faults hidden
+    status start lists no_name none no_condition hidden_now whole_report sought_now d o l t f failed flushed u e unshown said silent stream few all
     unheard heard is =
     let w = d.does in
     let h = w.counted in
@@ -262,7 +283,8 @@ ends job files {old = old} {new = new} {mid = mid} {sought_report = sought_repor
     let before = writes_then (writes_kept q.screen) w.writes in
     let finds = finds_same (append-nil (texts_of h.results)) (append-nil (outputs_of h.results))
     (finds_then (texts_of h.results) [] (outputs_of h.results) [] w.finds (finds_none {new = sought_report} o.remaining o.kept o.unnamed)) in
-    let last = last_lines args counts.changed counts.unchanged faults hidden counts.edits left.count left.defined end_report.unnamed (names_of others) in
+    let last = last_lines args counts.changed counts.unchanged faults hidden counts.edits left.count left.defined end_report.unnamed (names_of others.named.items) others.unsearched ++ rule_lines args rules in
+    let ruled = rules_sent args rules args.quiet refl unshown said silent in
     let all_names = w.adds.names ∙ ap (λ (x : List ℕ). x ++ (listed_of h.results).names) no_name in
     let all_hidden = w.adds.hidden_list ∙ ap (λ (x : List ℕ). x ++ (listed_of h.results).hidden_list) no_condition in
     record {
@@ -276,8 +298,10 @@ ends job files {old = old} {new = new} {mid = mid} {sought_report = sought_repor
           each = h.each;
         };
         is_lost = lost;
-        tally = record { faults = faults; hidden = hidden; edits = counts.edits; remaining = left.count; defined = left.defined; unnamed = end_report.unnamed; others = others };
-        seeks = record { touches = o.seeks.touches; unwanted = o.seeks.unwanted; found = λ whole. o.seeks.found (whole_report whole) };
+        tally = record { faults = faults; hidden = hidden; edits = counts.edits; remaining = left.count; defined = left.defined; unnamed = end_report.unnamed; others = others; rules = rules };
+        failed = mid.out.failed;
+        stays_failed = λ is. still_failed f (still_failed l.sent is);
+        seeks = record { touches = o.seeks.touches; unsought = o.seeks.unsought; found = λ whole. o.seeks.found (whole_report whole) };
         shows = record {
           listed = l.listed;
           shown_is = ap (λ (x : List ℕ). x ++ l.listed) h.shown_is;
@@ -290,6 +314,7 @@ ends job files {old = old} {new = new} {mid = mid} {sought_report = sought_repor
               ∙ ap (λ (s : RemainingState). s.list ++ list_of calls s.listing args (outputs_of h.results)) q.remaining;
           unsearched = λ other off. by_list args.list_remaining refl (l.is_wanted other)
               (λ on. l.remains other on ∙ ap (λ (s : RemainingState). s.list) (finds.same off ∙ q.remaining));
+          none_lost = λ whole. w.loses (false_before o.kept (whole_report whole));
         };
         totals = record {
           hidden = λ small. let sum = w.adds.hidden (omega (arith, none, small)) in omega (arith, hidden_now, none, sum);
@@ -319,16 +344,17 @@ ends job files {old = old} {new = new} {mid = mid} {sought_report = sought_repor
         };
         tells = record {
           told_is = ap (λ (x : List ℕ). (x ++ of_output) ++ last) h.told_is ∙ ap (λ (b : Bool). (told_of h.results ++ joined (output_messages lost b)) ++ last) failed;
-          last_is = ap (λ (x : ℕ). last_lines args x counts.unchanged faults hidden counts.edits left.count left.defined end_report.unnamed (names_of others)) h.counts_are.changed
-              ∙ ap (λ (x : ℕ). last_lines args (changed_in h.results) x faults hidden counts.edits left.count left.defined end_report.unnamed (names_of others)) h.counts_are.unchanged;
+          last_is = ap (λ (x : List ℕ). x ++ rule_lines args rules) (ap (λ (x : ℕ). last_lines args x counts.unchanged faults hidden counts.edits left.count left.defined end_report.unnamed (names_of others.named.items) others.unsearched) h.counts_are.changed
+              ∙ ap (λ (x : ℕ). last_lines args (changed_in h.results) x faults hidden counts.edits left.count left.defined end_report.unnamed (names_of others.named.items) others.unsearched) h.counts_are.unchanged);
         };
       };
+      rules_are = refl;
       written = record {
         status_is = refl;
         streams_are = refl;
         sent = sends_same (append-nil (w.shown ++ l.listed)) (sends_then (sends_then w.sent l.sent) f);
-        ended = rw stream e.told;
-        tells = λ p. let told = writes_then before (writes_then (writes_kept o.screen) both.writes) in let plain = plain_begun job old.err p in rw stream (sends_then (told.sent plain) (e.alone (told.plain plain).unshown));
+        ended = rw stream (e.told.0, sends_then e.told.1 ruled);
+        tells = λ p. let told = writes_then before (writes_then (writes_kept o.screen) both.writes) in let plain = plain_begun job old.err p in rw stream (sends_then (told.sent plain) (sends_then (e.alone (told.plain plain).unshown) ruled));
       };
     }
 
@@ -356,6 +382,8 @@ ends_counted n m same h = record {
   does = h.does;
   is_lost = h.is_lost;
   tally = h.tally;
+  failed = h.failed;
+  stays_failed = h.stays_failed;
   seeks = h.seeks;
   shows = h.shows;
   totals = h.totals;
@@ -373,9 +401,10 @@ ends_counted n m same h = record {
 
 -- The run processed the files that the walk found.
 pub ran_from : (job : Job) {given left : Source} {old mid new : Moment} {first r : ReportState}
-    {found files : List Found} {status : ℕ} (in_walk : ℕ) → files ≡ found → first ≡ begun job old.err →
-    in_walk ≡ r.faulty → mid.err ≡ r.err → FindsFiles job.arguments.now given left old.calls mid.calls found first r →
-    mid.out ≡ old.out → EndsWriting job in_walk mid files new status → RunsTree job given left old new status
+    {found files : List Found} {rules : List (List ℕ)} {status : ℕ} (in_walk : ℕ) → files ≡ found → first ≡ begun job old.err →
+    in_walk ≡ r.faulty → mid.err ≡ r.err → FindsFiles job.arguments.now given left old.calls mid.calls found rules first r →
+    mid.out ≡ old.out → EndsWriting job in_walk mid files rules new status → RunsTree job given left old new status
+unfolding ends_counted
 ran_from job {old = old} {mid = mid} {new = new} {files = files} in_walk is first_is number stream w same h = record {
   messages = w.reports.messages;
   ending = h.ending;
@@ -391,6 +420,7 @@ ran_from job {old = old} {mid = mid} {new = new} {files = files} in_walk is firs
     ends = ends_counted in_walk (length w.reports.messages) (λ small.
         let none = ap (λ (q : ReportState). q.faulty) first_is in
         let counted = w.reports.counted (omega (arith, none, small)) in omega (arith, none, number, counted)) h.ends;
+    leaves = subst (LeavesRules job.arguments.now old.calls mid.calls (length w.reports.messages)) (sym h.rules_are) w.leaves;
   });
   written = record {
     status_is = h.written.status_is;

@@ -112,6 +112,8 @@ shows_none {into = into} {outputs = outputs} {name = name} {text = text} {calls 
   shown = [];
   outputs = outputs;
   texts = text ∷ [];
+  lost = false;
+  loses = λ whole. refl;
   does = λ told. record { text = text; is_text = refl; reads = read; shows = λ o p. subst (λ (k : Edits). ShowsFile o into name calls calls' update [] k outputs) (sym none) (h o p) };
   sent = sends_none out;
   finds = finds;

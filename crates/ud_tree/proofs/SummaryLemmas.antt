@@ -1,5 +1,5 @@
 -- Lines from their parts.
-use Rattle.std.proofs.Common.{◌≡◌, ℕ, ◌+◌, ◌<◌, List, [], ◌∷◌, ◌++◌, length, get_or, take, map, Bool, true, false, None, Some, refl, sym, ap, ◌∙◌, subst, append_assoc, append-nil, codes, decimal, ◌&&◌, arith}
+use Rattle.std.proofs.Common.{◌≡◌, ℕ, ◌+◌, ◌<◌, ◌≤◌, List, [], ◌∷◌, ◌++◌, length, get_or, take, map, Bool, true, false, None, Some, refl, sym, ap, ◌∙◌, subst, append_assoc, append-nil, codes, decimal, ◌&&◌, arith}
 use Rattle.std.proofs.lemmas.Grind.{common_steps, flat_map-append}
 use Rattle.std.proofs.lemmas.List.{take_more, map-append, length-map}
 use Rattle.std.specs.List.{flat_map, slice_get}
@@ -11,7 +11,7 @@ use Rattle.ud_tree.specs.declared.walk.Found.{Found}
 use Rattle.ud_tree.specs.Runs.{names_of}
 use Rattle.ud_tree.specs.declared.arguments.Task.TheVariants.{Names}
 use Rattle.ud_io.specs.Streams.{Stream, Sends}
-use Rattle.ud_tree.specs.Summaries.{line_of, changes_line, files_text, hidden_text, summary, remaining_text, remaining_line, removed_line, removed_text, edited_line, edited_text, defined_line, unnamed_line, others_line, others_text, TellsEnd}
+use Rattle.ud_tree.specs.Summaries.{line_of, changes_line, files_text, hidden_text, summary, remaining_text, remaining_line, removed_line, removed_text, edited_line, edited_text, defined_line, unnamed_line, unnamed_lines, others_line, others_text, unsearched_line, unsearched_text, TellsEnd}
 use Rattle.ud_tree.specs.Visible.{visible}
 use Rattle.ud_io.proofs.StreamLemmas.{sends_none, sends_same, sends_then}
 
@@ -65,7 +65,7 @@ pub edited_told : (prunes : Bool) (count : ℕ) (text : List ℕ) → prunes ≡
 edited_told prunes count text on q = grind (arith, common_steps)
 
 -- The bytes for one element more follow.
-flat_push : {A : Type 0} (f : A → List ℕ) (g : List ℕ → List ℕ) (xs : List A) (i : ℕ) (x : A) → i < length xs → x ≡ get_or xs i x →
+pub flat_push : {A : Type 0} (f : A → List ℕ) (g : List ℕ → List ℕ) (xs : List A) (i : ℕ) (x : A) → i < length xs → x ≡ get_or xs i x →
     flat_map g (map f (take i xs)) ++ g (f x) ≡ flat_map g (map f (take (i + 1) xs))
 flat_push f g xs i x within is = grind (arith, common_steps, take_more, map-append, flat_map-append)
 
@@ -74,6 +74,14 @@ pub unnamed_sent : {A : Type 0} {a b c : Stream} (f : A → List ℕ) (names : L
     Sends a b (flat_map unnamed_line (map f (take i names))) → Sends b c (line_of (codes "no condition names " ++ (name ++ []))) → Sends a c (flat_map unnamed_line (map f (take (i + 1) names)))
 unnamed_sent f names i x name within is named h k =
     sends_same (ap (λ n. flat_map unnamed_line (map f (take i names)) ++ unnamed_line n) (append-nil name ∙ named) ∙ flat_push f unnamed_line names i x within is) (sends_then h k)
+
+-- After a fault there are no such lines.
+pub unnamed_none : (faults : ℕ) (names : List (List ℕ)) → 0 < faults → unnamed_lines faults names ≡ []
+unnamed_none faults names some = grind (arith, common_steps)
+
+-- Without a fault there is one for each name.
+pub unnamed_told : (faults : ℕ) (names : List (List ℕ)) → faults ≤ 0 → flat_map unnamed_line names ≡ unnamed_lines faults names
+unnamed_told faults names none = grind (arith, common_steps)
 
 -- There is no file of another name.
 pub others_none : (others : List Found) → None ≡ slice_get others 0 → others_line (names_of others) ≡ []
@@ -86,12 +94,18 @@ pub others_told : (others : List Found) (f : Found) (text path : List ℕ) → S
 others_told [] f text path e p q = absurd cc
 others_told (g ∷ fs) f text path e p q = grind (arith, common_steps, length-map)
 
+-- The line with the number of files that couldn't be searched.
+pub unsearched_told : (count : ℕ) (text : List ℕ) → ¬ (count ≡ 0) → text ≡ unsearched_text count → line_of ((decimal count ++ text) ++ []) ≡ unsearched_line count
+unsearched_told count text some q = grind (arith, common_steps)
+
 -- A quiet run ends with nothing.
-pub ends_quiet : (args : Arguments) (counts : Counts) (faults hidden : ℕ) (others : List (List ℕ)) (r : ReportState) → args.quiet ≡ true → TellsEnd args counts faults hidden others r r
-ends_quiet args counts faults hidden others r quiet = rw quiet (record { told = (r.err, sends_none r.err); alone = λ e. sends_none r.err })
+pub ends_quiet : (args : Arguments) (counts : Counts) (faults hidden : ℕ) (others : List (List ℕ)) (unsearched : ℕ) (r : ReportState) → args.quiet ≡ true →
+    TellsEnd args counts faults hidden others unsearched r r
+ends_quiet args counts faults hidden others unsearched r quiet = rw quiet (record { told = (r.err, sends_none r.err); alone = λ e. sends_none r.err })
 
 -- Other runs end with the lines.
-pub ends_told : (args : Arguments) (counts : Counts) (faults hidden : ℕ) (others : List (List ℕ)) {a b : ReportState} → args.quiet ≡ false →
+pub ends_told : (args : Arguments) (counts : Counts) (faults hidden : ℕ) (others : List (List ℕ)) (unsearched : ℕ) {a b : ReportState} → args.quiet ≡ false →
     Says a b (summary args.task args.list_hidden counts.changed counts.unchanged faults hidden ++ removed_line counts.edits.lines ++ edited_line args.plan.prunes counts.edits.conditions ++
-    remaining_line args.list_remaining a.remaining.count ++ defined_line args.list_remaining a.remaining.defined ++ flat_map unnamed_line a.unnamed ++ others_line others) → TellsEnd args counts faults hidden others a b
-ends_told args counts faults hidden others {a = a} {b = b} loud h = rw loud (record { told = (h.cleared, h.sent); alone = λ e. subst (λ (s : Stream). Sends s b.err _) (h.unshown e) h.sent })
+    remaining_line args.list_remaining a.remaining.count ++ defined_line args.list_remaining a.remaining.defined ++ unnamed_lines faults a.unnamed ++ others_line others ++ unsearched_line unsearched) →
+    TellsEnd args counts faults hidden others unsearched a b
+ends_told args counts faults hidden others unsearched {a = a} {b = b} loud h = rw loud (record { told = (h.cleared, h.sent); alone = λ e. subst (λ (s : Stream). Sends s b.err _) (h.unshown e) h.sent })

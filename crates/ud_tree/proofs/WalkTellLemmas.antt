@@ -1,5 +1,5 @@
 -- The messages of parts of a walk, one after another.
-use Rattle.std.proofs.Common.{String, Global, ◌≡◌, ◌==◌, true≢false, ℕ, suc, ◌+◌, ◌<◌, ◌^◌, List, [], ◌∷◌, ◌++◌, length, take, map, get_or, Bool, true, false, refl, sym, ap, ◌∙◌, subst, arith, append_assoc, append-nil, codes, length-append, Result, Ok, Err, IfOk}
+use Rattle.std.proofs.Common.{◌≡◌, ◌==◌, true≢false, ℕ, suc, ◌+◌, ◌<◌, ◌^◌, List, [], ◌∷◌, ◌++◌, length, take, map, get_or, Bool, true, false, refl, sym, ap, ◌∙◌, subst, arith, append_assoc, append-nil, codes, length-append, Result, Ok, Err, IfOk}
 use Rattle.std.proofs.lemmas.List.{map-append, get_or-map, length-map}
 use Rattle.std.proofs.lemmas.Grind.{flat_map-append, common_steps}
 use Rattle.std.proofs.lemmas.List.Elements.{Contains-append_left, Contains-append_right, Contains-get_or}
@@ -16,8 +16,8 @@ use Rattle.ud_tree.specs.declared.walk.Walk.{Walk}
 use Rattle.ud_tree.specs.Paths.{directory_len, fresh_end, fresh_name}
 use Rattle.ud_tree.specs.Messages.{locked_line, fault_line, IsFailureOf, no_reason, with_reason}
 use Rattle.ud_tree.specs.Streams.{Source, takes_all, takes_none}
-use Rattle.std.specs.Prelude.{string_bytes}
 use Rattle.ud_tree.specs.declared.arguments.Arguments.{Arguments}
+use Rattle.ud_tree.specs.Scopes.{Scope, scope_in}
 use Rattle.ud_tree.specs.Covering.{CoversPaths, misses_no_path, misses_no_input, IsIn}
 use Rattle.ud_tree.specs.Summaries.{line_of}
 use Rattle.ud_tree.specs.WalkMessages.{is_refused, is_unread, IsRemark, is_link, is_other, is_no_text, no_input, AreTold, none_told, then_answered, then_refused, then_vanished, then_remark, WasListed, IsRefusal, ReportsWalk, GoesOn, ReportsNames, VisitTells, is_gone, is_told, TellsGiven, is_quiet, is_irregular, input_message, bad_input, Stops, StopsWalk, TakesEach, TakesPaths}
@@ -287,13 +287,13 @@ pub paths_given : (args : Arguments) {given left : Source} {calls calls' : List 
 paths_given args input h = record { text = h.text; takes = takes_all input h.reads; misses = misses_no_input input h.covers }
 
 -- The paths of the command line are covered, and nothing was read.
-pub paths_covered : (args : Arguments) {given : Source} {paths : List (String Global)} {calls calls' : List Call} {found : List Found} {told : Type 0} → args.from_input ≡ false →
-    CoversPaths (map (λ p. string_bytes p) paths) (map (λ p. string_bytes p) args.patterns.items) calls calls' IsIn found told → paths ≡ args.paths.items → TakesPaths args given given calls calls' IsIn found told
+pub paths_covered : (args : Arguments) {given : Source} {scope : Scope} {calls calls' : List Call} {found : List Found} {told : Type 0} → args.from_input ≡ false →
+    CoversPaths scope calls calls' IsIn found told → scope ≡ scope_in args → TakesPaths args given given calls calls' IsIn found told
 paths_covered args {calls = calls} {calls' = calls'} {found = found} {told = told} none h are =
     record {
       text = [];
       takes = takes_none none refl;
-      misses = misses_no_path none (subst (λ ps. CoversPaths (map (λ p. string_bytes p) ps) (map (λ p. string_bytes p) args.patterns.items) calls calls' IsIn found told) are h);
+      misses = misses_no_path none (subst (λ (s : Scope). CoversPaths s calls calls' IsIn found told) are h);
     }
 
 -- Nothing was asked yet.

@@ -2,6 +2,7 @@
 --
 --   in_its_place c           what to use instead of the option `c` of unifdef(1), version 2.12
 --   mode_of word             the exit mode in an argument of `-x`
+--   pattern_advice f text    what to write in place of the argument `text` of `-g`
 --   argument_message f       the message of the fault `f`
 --   bad_argument_line word   the line of an argument that isn't UTF-8
 --   memory_line              the line of a lack of memory
@@ -17,7 +18,7 @@ use Rattle.ud_io.specs.Streams.{Stream, Sends}
 use Rattle.ud_tree.specs.declared.arguments.ArgumentFault.{ArgumentFault}
 use Rattle.ud_tree.specs.declared.arguments.ArgumentFault.TheVariants.{UnknownOption}
 use Rattle.ud_tree.specs.declared.arguments.ArgumentFault.TheVariants.{MissingArgument, BadSymbol}
-use Rattle.ud_tree.specs.declared.arguments.ArgumentFault.TheVariants.{BadMode}
+use Rattle.ud_tree.specs.declared.arguments.ArgumentFault.TheVariants.{BadMode, BadPattern}
 use Rattle.ud_tree.specs.declared.arguments.ArgumentFault.TheVariants.{BesideNames, SymbolsAndNames}
 use Rattle.ud_tree.specs.declared.arguments.ArgumentFault.TheVariants.{PruningAndComplement}
 use Rattle.ud_tree.specs.declared.arguments.ArgumentFault.TheVariants.{PruningAndPlain}
@@ -25,8 +26,13 @@ use Rattle.ud_tree.specs.declared.arguments.ArgumentFault.TheVariants.{Squeezing
 use Rattle.ud_tree.specs.declared.arguments.ArgumentFault.TheVariants.{OptionAfterPath, NoPath}
 use Rattle.ud_tree.specs.declared.arguments.ArgumentFault.TheVariants.{PathsAndInput, NoSymbol}
 use Rattle.ud_tree.specs.declared.arguments.ArgumentFault.TheVariants.{OutOfMemory}
+use Rattle.ud_tree.specs.declared.patterns.faults.PatternFault.{PatternFault}
+use Rattle.ud_tree.specs.declared.patterns.faults.PatternFault.TheVariants.{Empty, Anchored}
+use Rattle.ud_tree.specs.declared.patterns.faults.PatternFault.TheVariants.{DoubleStar, SlashAtEnd}
 use Rattle.ud_tree.specs.declared.report.TheConstants.{USAGE}
+use Rattle.ud_tree.specs.Choices.{after_sign}
 use Rattle.ud_tree.specs.Paths.{escaped}
+use Rattle.ud_tree.specs.PatternFaults.{bare, sign_of}
 use Rattle.ud_tree.specs.Summaries.{line_of}
 
 -- `in_its_place c`: what to use instead of the option with the letter `c` of unifdef(1), version
@@ -47,6 +53,16 @@ in_its_place c =
 abbrev pub mode_of : List ℕ → List ℕ
 mode_of word = if starts_with nat_eq word (codes "-x") then drop 2 word else word
 
+-- `pattern_advice fault text`: what follows the argument `text` of `-g` in the message that it has
+-- this fault: what to write in its place.
+abbrev pub pattern_advice : PatternFault → List ℕ → List ℕ
+pattern_advice Empty text = codes "; no name is empty: write * for all names"
+pattern_advice Anchored text = codes "; patterns are matched below each path: write " ++
+    sign_of text ++ bare (after_sign text)
+pattern_advice DoubleStar text = codes "; write * for **, or a name alone for any directory"
+pattern_advice SlashAtEnd text =
+    codes "; only ! takes a slash at the end: write " ++ text ++ codes "*"
+
 -- `argument_message f`: the message of the fault `f`. The usage follows where it helps.
 abbrev pub argument_message : ArgumentFault → List ℕ
 argument_message (UnknownOption c) =
@@ -56,6 +72,8 @@ argument_message (MissingArgument c) =
 argument_message (BadSymbol word) = line_of (codes "Bad symbol: " ++ string_bytes word)
 argument_message (BadMode word) =
     line_of (codes "Bad exit mode: " ++ mode_of (string_bytes word))
+argument_message (BadPattern word f) = line_of (codes "Bad pattern: " ++ string_bytes word ++
+    pattern_advice f (string_bytes word))
 argument_message (BesideNames c) =
     line_of (codes "-" ++ encode_utf8 c ++ codes " and -s don't go together")
 argument_message SymbolsAndNames =

@@ -9,6 +9,7 @@ use Rattle.std.specs.declared.io.ErrorKind.TheVariants.{PermissionDenied, Invali
 use Rattle.std.specs.declared.io.ErrorKind.TheVariants.{Unsupported}
 use Rattle.ud_replace.specs.declared.stat.FileStat.{FileStat}
 use Rattle.ud_tree.specs.declared.disk.facts.Facts.{Facts}
+use Rattle.ud_tree.specs.Evidence.{Changing}
 
 -- `has_owner like now`: the facts `now` have the owner and the group of `like`.
 abbrev pub has_owner : FileStat → Facts → Bool
@@ -36,34 +37,35 @@ IsExcused (Err e) = is_excused (error_kind e) ≡ true
 abbrev pub IsTried : Result Unit Error → Type 0
 IsTried answer = IsOk answer ⊎ IsExcused answer
 
--- `GivesOwner .. like old new`: the file `old` has the owner and the group of `like`; or they were
--- set; or only the group was tried, since the owner is excused.
-pub data GivesOwner {F : Type 0} (shows : F → Facts → Type 0)
-    (set : F → Option ℕ → ℕ → Result Unit Error → Type 0) (like : FileStat) (old new : F) :
+-- `GivesOwner C like old new`: the new file `old` has the owner and the group of `like`; or they
+-- were set; or only the group was tried, since the owner is excused.
+pub data GivesOwner {O W : Type 0} (C : Changing O W) (like : FileStat) (old new : W) :
     Type 0 where
-  has_both : (facts : Facts) → shows old facts → has_owner like facts ≡ true →
-      GivesOwner shows set like old new
-  gives_both : (answer : Result Unit Error) → set new (Some like.owner) like.group answer →
-      IsOk answer → GivesOwner shows set like old new
-  gives_group : (middle : F) (answer answer' : Result Unit Error) →
-      set middle (Some like.owner) like.group answer → IsExcused answer →
-      set new None like.group answer' → IsTried answer' → GivesOwner shows set like old new
+  has_both : (facts : Facts) → C.shows_new old facts → has_owner like facts ≡ true →
+      GivesOwner C like old new
+  gives_both : (answer : Result Unit Error) →
+      C.sets_owner new (Some like.owner) like.group answer → IsOk answer →
+      GivesOwner C like old new
+  gives_group : (middle : W) (answer answer' : Result Unit Error) →
+      C.sets_owner middle (Some like.owner) like.group answer → IsExcused answer →
+      C.sets_owner new None like.group answer' → IsTried answer' → GivesOwner C like old new
 
--- `GivesMode .. like file`: by these facts about it, the file has the mode for them, or was given
--- it.
-pub record GivesMode {F : Type 0} (shows : F → Facts → Type 0) (set : F → ℕ → Type 0)
-    (like : FileStat) (file : F) : Type 0 where
+-- `GivesMode C like file`: by these facts about it, the new file has the mode for them, or was
+-- given it.
+pub record GivesMode {O W : Type 0} (C : Changing O W) (like : FileStat) (file : W) :
+    Type 0 where
   pub now : Facts
-  pub show : shows file now
-  pub given : (now.stat.mode ≡ mode_for like now) ⊎ set file (mode_for like now)
+  pub show : C.shows_new file now
+  pub given : (now.stat.mode ≡ mode_for like now) ⊎ C.sets_mode file (mode_for like now)
 
--- `HasBytes .. text file`: from the start of the file on, `text` was written, what came after it
--- was cut off, and that is on the disk.
-pub record HasBytes {F : Type 0} (starts : F → F → Type 0) (contents : F → Option (List ℕ))
-    (cut : F → ℕ → Type 0) (synced : F → Type 0) (text : List ℕ) (file : F) : Type 0 where
-  pub before : F
-  pub start : F
-  pub starts_at : starts start before
-  pub written : Appends (contents start) (contents file) text
-  pub ends : cut file (length text)
-  pub on_disk : synced file
+-- `HasBytes C contents text file`: from the start of the file on, `text` was written. Then what
+-- came after it was cut off, and the rest is on the disk. `contents` is what a file has so far.
+pub record HasBytes {O W : Type 0} (C : Changing O W) (contents : O → Option (List ℕ))
+    (text : List ℕ) (file : O) : Type 0 where
+  pub before : O
+  pub start : O
+  pub whole : O
+  pub starts_at : C.starts start before
+  pub written : Appends (contents start) (contents whole) text
+  pub ends : C.cuts whole (length text) file
+  pub on_disk : C.syncs file

@@ -6,20 +6,22 @@ use Rattle.std.specs.declared.io.ErrorKind.TheVariants.{ReadOnlyFilesystem, Alre
 use Rattle.ud_replace.specs.declared.directory.CreateError.{CreateError}
 use Rattle.ud_replace.specs.declared.directory.CreateError.TheVariants.{Denied, Taken, Failed}
 use Rattle.ud_tree.specs.declared.disk.facts.Facts.{Facts}
-use Rattle.ud_tree.specs.Evidence.{LeadsTo}
+use Rattle.ud_tree.specs.Evidence.{Changing}
+use Rattle.ud_tree.specs.Opening.{Shows}
 
--- `IsNew .. path file`: `file` was created at `path`, where there was nothing. This run has locked
+-- `IsNew C path file`: `file` was created at `path`, where there was nothing. This run has locked
 -- it, unless its file system has no locks.
-pub record IsNew {F : Type 0} (created : F → List ℕ → Type 0) (locked lockless : F → Type 0)
-    (path : List ℕ) (file : F) : Type 0 where
-  pub made : created file path
-  pub held : locked file ⊎ lockless file
+pub record IsNew {O W : Type 0} (C : Changing O W) (path : List ℕ) (file : W) : Type 0 where
+  pub made : C.creates file path
+  pub held : C.locks_new file ⊎ C.is_lockless file
 
--- `IsLeftOver .. path file`: this run has locked `file`, and a look at `path` found it after that.
-pub record IsLeftOver {F : Type 0} (looked : List ℕ → Facts → Type 0)
-    (shows : F → Facts → Type 0) (locked : F → Type 0) (path : List ℕ) (file : F) : Type 0 where
-  pub held : locked file
-  pub leads : LeadsTo looked shows path file
+-- `IsLeftOver C path file`: this run has locked `file`, and a look at `path` found it after that.
+pub record IsLeftOver {O W : Type 0} (C : Changing O W) (path : List ℕ) (file : O) :
+    Type 0 where
+  pub held : C.locks file
+  pub found : Facts
+  pub look : C.looks_beside file path found
+  pub shown : Shows C.shows found file
 
 -- `create_error kind`: why no file was created, by the kind of the system's error.
 abbrev pub create_error : ErrorKind → CreateError

@@ -6,6 +6,8 @@ pub mod Runs
 pub mod Patterns
 pub mod PatternPlaces
 pub mod Choices
+pub mod PatternFaults
+pub mod Scopes
 pub mod Remainders
 pub mod Unnamed
 pub mod Requests
@@ -16,6 +18,7 @@ pub mod CoverParts
 pub mod Catching
 pub mod TreeMoments
 pub mod Others
+pub mod Unmatched
 pub mod TreeRuns
 pub mod TreeDiffs
 pub mod Summaries
@@ -29,8 +32,10 @@ pub mod Writing
 pub mod Visible
 pub mod Evidence
 pub mod Reading
+pub mod Sampling
 pub mod Opening
 pub mod Creating
 pub mod Changing
 pub mod Meeting
 pub mod Naming
+pub mod EvidentCalls

@@ -44,7 +44,7 @@ locked_line name = fault_line name (codes "Another run is at it; if none is, rem
     fresh_name name)
 
 -- `IsTextMessage name f message`: `message` is unifdef's message for the fault `f` of the file
--- `name`, with control bytes of the name made visible, unless memory ran out for that.
+-- `name`, with control characters of the name shown, unless memory ran out for that.
 pub data IsTextMessage (name : List ℕ) (f : RunFault) (message : List ℕ) : Type 0 where
   is_visible : message ≡ fault_message (visible name) f → IsTextMessage name f message
   is_raw : message ≡ fault_message name f → IsTextMessage name f message

@@ -2,14 +2,15 @@
 --
 --   directory_len path       the index after the last slash of a path
 --   last_name path        the bytes after its last slash
+--   slashed path          a directory's path, with a slash at its end
 --   fresh_end path        the end of the name of a new file
 --   fresh_name path       the name of a new file in the same directory
 --   escaped name          a name in ASCII, with each other byte shown
 --
 -- Example: beside `src/a.c` a run makes the file `src/.unifdef-tree.a.c`.
 use Rattle.std.specs.Prelude.{ℕ, suc, List, [], ◌∷◌, ◌++◌, take, drop, ◌==◌, ◌||◌, codes}
-use Rattle.std.specs.Prelude.{if◌then◌else◌, length, nat_lt, ◌/◌, ◌%◌}
-use Rattle.std.specs.List.{flat_map}
+use Rattle.std.specs.Prelude.{if◌then◌else◌, length, nat_eq, nat_lt, ◌/◌, ◌%◌}
+use Rattle.std.specs.List.{ends_with, flat_map}
 use Rattle.ud_tree.specs.Visible.{hex_digit}
 
 -- `slash`: the byte between the names of a path.
@@ -25,6 +26,10 @@ directory_len (b ∷ rest) = if b == slash || nat_lt 0 (directory_len rest)
 -- `last_name path`: the bytes after the last slash.
 abbrev pub last_name : List ℕ → List ℕ
 last_name path = drop (directory_len path) path
+
+-- `slashed path`: `path` with a slash at its end, which it may have already.
+abbrev pub slashed : List ℕ → List ℕ
+slashed path = if ends_with nat_eq path (codes "/") then path else path ++ codes "/"
 
 -- `fresh_end path`: the last name of `path`, or `long` if it is too long for the end of a new name.
 abbrev pub fresh_end : List ℕ → List ℕ

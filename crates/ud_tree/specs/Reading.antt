@@ -32,9 +32,13 @@ abbrev pub begins_section : List ℕ → Bool
 begins_section text = starts_with nat_eq (skip_white text) (35 ∷ []) &&
     starts_with nat_eq (skip_white (drop 1 (skip_white text))) (105 ∷ 102 ∷ [])
 
+-- `is_utf16 text`: `text` begins with a byte order mark of UTF-16.
+abbrev pub is_utf16 : List ℕ → Bool
+is_utf16 text = starts_with nat_eq text (255 ∷ 254 ∷ []) ||
+    starts_with nat_eq text (254 ∷ 255 ∷ [])
+
 -- `has_bad_mark text`: `text` begins with a byte order mark of UTF-16, or with the one of UTF-8
 -- before a section.
 abbrev pub has_bad_mark : List ℕ → Bool
-has_bad_mark text = starts_with nat_eq text (255 ∷ 254 ∷ []) ||
-    starts_with nat_eq text (254 ∷ 255 ∷ []) ||
+has_bad_mark text = is_utf16 text ||
     (starts_with nat_eq text (239 ∷ 187 ∷ 191 ∷ []) && begins_section (drop 3 text))

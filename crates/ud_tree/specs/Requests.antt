@@ -20,6 +20,7 @@ use Rattle.ud_args.specs.Plans.{PlanRepresents}
 use Rattle.ud_args.specs.CommandLines.{Parsed, unknown, lacking, late}
 use Rattle.ud_args.specs.TreeWords.{first_fault, has_flag, has_symbols, unifdef_args, word_at}
 use Rattle.ud_args.specs.TreeWords.{patterns_in, paths_in, symbol_names}
+use Rattle.ud_tree.specs.PatternFaults.{first_bad}
 use Rattle.ud_tree.specs.declared.arguments.Task.{Task}
 use Rattle.ud_tree.specs.declared.arguments.Task.TheVariants.{Replace, Diff, Names}
 use Rattle.ud_tree.specs.declared.arguments.Arguments.{Arguments}
@@ -28,7 +29,7 @@ use Rattle.ud_tree.specs.declared.arguments.Request.TheVariants.{Help, Version, 
 use Rattle.ud_tree.specs.declared.arguments.ArgumentFault.{ArgumentFault}
 use Rattle.ud_tree.specs.declared.arguments.ArgumentFault.TheVariants.{UnknownOption}
 use Rattle.ud_tree.specs.declared.arguments.ArgumentFault.TheVariants.{MissingArgument, BadSymbol}
-use Rattle.ud_tree.specs.declared.arguments.ArgumentFault.TheVariants.{BadMode}
+use Rattle.ud_tree.specs.declared.arguments.ArgumentFault.TheVariants.{BadMode, BadPattern}
 use Rattle.ud_tree.specs.declared.arguments.ArgumentFault.TheVariants.{BesideNames, SymbolsAndNames}
 use Rattle.ud_tree.specs.declared.arguments.ArgumentFault.TheVariants.{PruningAndComplement}
 use Rattle.ud_tree.specs.declared.arguments.ArgumentFault.TheVariants.{PruningAndPlain}
@@ -79,14 +80,15 @@ decides gs = has_symbols gs || has_flag (codes "k") gs || has_flag (codes "s") g
 
 -- `IsArgumentsOf gs args`: `args` has what is given: the options of unifdef(1), each other option,
 -- the patterns and the paths. `-r` asks for the conditions that still name a symbol or, with `-s`,
--- for those whose names can't be listed. The options are compatible, and ask for something. Either
--- paths are given, or `-0`.
+-- for those whose names can't be listed. The options are compatible, and ask for something. No
+-- pattern has a fault. Either paths are given, or `-0`.
 pub record IsArgumentsOf (gs : List Parsed) (args : Arguments) : Type 0 where
   pub fitting : AreFitting gs
   pub plan : PlanRepresents args.plan.run (unifdef_args gs)
   pub prunes : args.plan.prunes ≡ has_flag (codes "p") gs
   pub squeezes : args.plan.squeezes ≡ has_flag (codes "B") gs
   pub patterns : map string_bytes args.patterns.items ≡ patterns_in gs
+  pub right_patterns : first_bad (patterns_in gs) ≡ None
   pub paths : map string_bytes args.paths.items ≡ paths_in gs
   pub task : args.task ≡ task_of gs
   pub write_into : args.write_into ≡ has_flag (codes "w") gs
@@ -128,8 +130,8 @@ abbrev pub IsBadWord : (ℕ → UsageFault) → List Parsed → List ℕ → Typ
 IsBadWord fault gs w = (n : ℕ) × HasUsage gs (fault n) × (w ≡ word_at n gs)
 
 -- `IsFaultIn gs f`: `f` is the first fault of the words. Or it is a fault of two incompatible
--- options, of the options of unifdef(1), or of the paths. Or nothing is asked for,
--- or memory ran out.
+-- options, of the options of unifdef(1), of the first pattern that has one, or of the paths. Or
+-- nothing is asked for, or memory ran out.
 abbrev pub IsFaultIn : List Parsed → ArgumentFault → Type 0
 IsFaultIn gs (UnknownOption c) = (first_fault gs ≡ Some (unknown c)) ⊎
     HasUsage gs (unknown_option c)
@@ -137,6 +139,8 @@ IsFaultIn gs (MissingArgument c) = (first_fault gs ≡ Some (lacking c)) ⊎
     HasUsage gs (missing_argument c)
 IsFaultIn gs (BadSymbol w) = IsBadWord bad_symbol_in gs (string_bytes w)
 IsFaultIn gs (BadMode w) = IsBadWord bad_mode_in gs (string_bytes w)
+IsFaultIn gs (BadPattern w f) =
+    first_bad (patterns_in gs) ≡ Some (record { text = string_bytes w; fault = f })
 IsFaultIn gs (BesideNames c) = (is_one_of (codes "ndpBwbcKkl") c ≡ true) ×
     AreGiven (c ∷ []) (codes "s") gs
 IsFaultIn gs SymbolsAndNames = (has_symbols gs ≡ true) × (has_flag (codes "s") gs ≡ true)

@@ -15,13 +15,14 @@
 --   listed_of results       what is listed for the files
 --   outputs_of results      the outputs for the files
 --   texts_of results        the texts of the files
+--   lost_in results         memory ran out for something to be shown or listed of a file
 --   Counted P old names new counts shown told   each file in turn, with the numbers of each fate
 --   names_of files          the paths of the files that the walk found
 --
 -- `old` and `new` are the calls before and after, the newest first.
 use Rattle.std.specs.Prelude.{◌≡◌, ℕ, List, [], ◌∷◌, ◌++◌, Bool, Option, Result, Err, map}
 use Rattle.std.specs.Prelude.{count_by, string_bytes, sum_by, ◌<◌, ◌^◌}
-use Rattle.std.specs.List.{flat_map}
+use Rattle.std.specs.List.{flat_map, list_any}
 use Rattle.ud_replace.specs.declared.error.Update.{Update}
 use Rattle.ud_replace.specs.declared.error.ReplaceError.{ReplaceError}
 use Rattle.ud_replace.specs.declared.error.ReplaceError.TheVariants.{OutOfMemory}
@@ -77,7 +78,8 @@ made name bytes = record { name = name; bytes = bytes } ∷ []
 
 -- `FileResult`: the result of a file, the bytes written for it to the output and to the error
 -- stream, the edits of its text, made or only shown, what is listed for it, the output for it (none
--- after an error), and the text that was read (none if names are listed).
+-- after an error), the text that was read (none if names are listed), and whether memory ran out by
+-- then for something to be shown or listed.
 pub record FileResult : Type 0 where
   pub update : Result Update ReplaceError
   pub shown : List ℕ
@@ -86,6 +88,7 @@ pub record FileResult : Type 0 where
   pub listed : Listed
   pub outputs : List Output
   pub texts : List (List ℕ)
+  pub lost : Bool
 
 -- `Unshown P name old new result`: `P` holds for the file, its result, and what is listed for it.
 -- Nothing is written for it to the output. It has no output of its own, no edits, and no text.
@@ -161,6 +164,10 @@ outputs_of results = flat_map (λ r. r.outputs) results
 -- `texts_of results`: the texts of the files, in order.
 abbrev pub texts_of : List FileResult → List (List ℕ)
 texts_of results = flat_map (λ r. r.texts) results
+
+-- `lost_in results`: memory ran out for something to be shown or listed of one of the files.
+abbrev pub lost_in : List FileResult → Bool
+lost_in results = list_any (λ r. r.lost) results
 
 -- `Counted P old names new counts shown told`: `P` holds for each file in turn, and `counts` has
 -- the numbers of their fates. `shown` and `told` are written for them.

@@ -11,10 +11,12 @@
 --   removed_line count        how many lines were removed
 --   edited_line prunes count   how many conditions were edited
 --   unnamed_line name         no condition names this symbol
+--   unnamed_lines faults names   no condition names these, if every file was read
 --   others_line names         how many files of other names name a symbol
---   last_lines args changed unchanged faults hidden edits remaining defined unnamed others   these
---                             lines, unless quiet
---   TellsEnd args counts faults hidden others old new   they were written last
+--   unsearched_line count     how many files of other names couldn't be searched
+--   last_lines args changed unchanged faults hidden edits remaining defined unnamed others
+--       unsearched            these lines, unless quiet
+--   TellsEnd args counts faults hidden others unsearched old new   they were written last
 --   EndsWith s bytes          the last bytes that were written to `s`
 use Rattle.std.specs.Prelude.{◌≡◌, ℕ, List, [], ◌∷◌, ◌++◌, Bool, false, not, ◌&&◌, ◌||◌, ◌==◌}
 use Rattle.std.specs.Prelude.{if◌then◌else◌, codes, decimal, length}
@@ -28,7 +30,7 @@ use Rattle.ud_tree.specs.Reports.{ReportState}
 use Rattle.ud_io.specs.Streams.{Stream, Sends}
 use Rattle.ud_tree.specs.Visible.{visible}
 
--- `line_of text`: the program's name, `text` with its control bytes made visible, and a newline.
+-- `line_of text`: the program's name, `text` with its control characters shown, and a newline.
 abbrev pub line_of : List ℕ → List ℕ
 line_of text = codes "unifdef-tree: " ++ visible text ++ codes "\n"
 
@@ -114,6 +116,11 @@ edited_line prunes count = if prunes then line_of (decimal count ++ edited_text 
 abbrev pub unnamed_line : List ℕ → List ℕ
 unnamed_line name = line_of (codes "no condition names " ++ name)
 
+-- `unnamed_lines faults names`: the lines of such symbols, left out if there are faults: a file
+-- that wasn't read may name them.
+abbrev pub unnamed_lines : ℕ → List (List ℕ) → List ℕ
+unnamed_lines faults names = if faults == 0 then flat_map unnamed_line names else []
+
 -- `others_text count`: what follows the number of files of other names that name a symbol.
 abbrev pub others_text : ℕ → List ℕ
 others_text count = plural count (codes " file of other names names a symbol, as ")
@@ -126,30 +133,42 @@ others_line [] = []
 others_line (name ∷ names) = line_of (decimal (length (name ∷ names)) ++
     others_text (length (name ∷ names)) ++ name)
 
+-- `unsearched_text count`: what follows the number of files of other names that couldn't be
+-- searched.
+abbrev pub unsearched_text : ℕ → List ℕ
+unsearched_text count = plural count (codes " file of other names could not be searched")
+    (codes " files of other names could not be searched")
+
+-- `unsearched_line count`: the line with this number, left out if there are none.
+abbrev pub unsearched_line : ℕ → List ℕ
+unsearched_line count =
+    if count == 0 then [] else line_of (decimal count ++ unsearched_text count)
+
 -- `EndsWith s bytes`: the last bytes written to `s` are `bytes`, up to its first failure.
 abbrev pub EndsWith : Stream → List ℕ → Type 0
 EndsWith s bytes = (mid : Stream) × Sends mid s bytes
 
--- `last_lines args changed unchanged faults hidden edits remaining defined unnamed others`: the
--- summary, the lines with the numbers of removed lines, of edited conditions, of those that still
--- name a symbol, and of lines that define one, the line of each symbol that no condition names, and
--- the line of the files of other names; nothing if the run is quiet.
+-- `last_lines args changed unchanged faults hidden edits remaining defined unnamed others
+-- unsearched`: the summary, the lines with the numbers of removed lines, of edited conditions, of
+-- those that still name a symbol, and of lines that define one, the line of each symbol that no
+-- condition names if there is no fault, and the lines of the files of other names: of those that
+-- name a symbol, and of those that couldn't be searched. Nothing if the run is quiet.
 abbrev pub last_lines : Arguments → ℕ → ℕ → ℕ → ℕ → Edits → ℕ → ℕ → List (List ℕ) →
-    List (List ℕ) → List ℕ
-last_lines args changed unchanged faults hidden edits remaining defined unnamed others =
+    List (List ℕ) → ℕ → List ℕ
+last_lines args changed unchanged faults hidden edits remaining defined unnamed others unsearched =
     if args.quiet then []
     else summary args.task args.list_hidden changed unchanged faults hidden ++
     removed_line edits.lines ++ edited_line args.plan.prunes edits.conditions ++
     remaining_line args.list_remaining remaining ++ defined_line args.list_remaining defined ++
-    flat_map unnamed_line unnamed ++ others_line others
+    unnamed_lines faults unnamed ++ others_line others ++ unsearched_line unsearched
 
--- `TellsEnd args counts faults hidden others old new`: the last lines were written, with these
--- numbers and files, those of conditions and definitions, and the names that the report has.
+-- `TellsEnd args counts faults hidden others unsearched old new`: the last lines were written, with
+-- these numbers and files, those of conditions and definitions, and the names that the report has.
 -- Nothing else was, unless a terminal showed the number of files.
 pub record TellsEnd (args : Arguments) (counts : Counts) (faults hidden : ℕ)
-    (others : List (List ℕ)) (old new : ReportState) : Type 0 where
+    (others : List (List ℕ)) (unsearched : ℕ) (old new : ReportState) : Type 0 where
   pub told : EndsWith new.err (last_lines args counts.changed counts.unchanged faults hidden
-      counts.edits old.remaining.count old.remaining.defined old.unnamed others)
+      counts.edits old.remaining.count old.remaining.defined old.unnamed others unsearched)
   pub alone : old.is_shown ≡ false → Sends old.err new.err (last_lines args counts.changed
       counts.unchanged faults hidden counts.edits old.remaining.count old.remaining.defined
-      old.unnamed others)
+      old.unnamed others unsearched)

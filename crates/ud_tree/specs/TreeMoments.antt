@@ -4,9 +4,11 @@
 --   TouchesFreshOrNone o c earlier  a call touches no file, except in a replacement
 --   OldOrOutput o first old calls       each file has its old bytes, or the output for them
 --   LeavesOldOrOutput o first old c earlier   the same after the call `c`
-use Rattle.std.specs.Prelude.{◌≡◌, ◌⊎◌, ℕ, List, ◌∷◌, true, Some}
+--   AnswersAreTrue evident first calls  what the system answered is true
+use Rattle.std.specs.Prelude.{◌≡◌, ◌⊎◌, ℕ, List, [], ◌∷◌, true, Some}
 use Rattle.ud_replace.specs.Calls.{Call}
-use Rattle.ud_replace.specs.Moments.{Files, content, HasOutput, touches, TouchesFreshOnly}
+use Rattle.ud_replace.specs.Moments.{Files, content, HasOutput, IsTrueOf, touches}
+use Rattle.ud_replace.specs.Moments.{TouchesFreshOnly}
 use Rattle.ud_replace.specs.TextOutcomes.{TextOptions}
 use Rattle.ud_tree.specs.Paths.{fresh_name}
 
@@ -32,3 +34,10 @@ OldOrOutput o first old calls = (n bytes : List ℕ) → content first old n ≡
 -- has its old bytes, or the output for them.
 abbrev pub LeavesOldOrOutput : TextOptions → Files → List Call → Call → List Call → Type 0
 LeavesOldOrOutput o first old c earlier = OldOrOutput o first old (c ∷ earlier)
+
+-- `AnswersAreTrue evident first calls`: what the system answered is true. If there is evidence for
+-- the answer of one of these calls, the answer is true of the files before the call.
+abbrev pub AnswersAreTrue : (Call → Type 0) → Files → List Call → Type 0
+AnswersAreTrue evident first [] = Unit {0}
+AnswersAreTrue evident first (c ∷ earlier) =
+    (evident c → IsTrueOf c (content first earlier)) × AnswersAreTrue evident first earlier

@@ -16,7 +16,7 @@
 --   TellsAll args results is_lost tally ending   which messages there are, and which last lines
 --   Ends args in_walk old files new ending  all of this: the files are processed
 --   HasEnding is_terminal before after messages ending status   a run ends so at a moment
---   EndsWriting job in_walk before files after status   the same, and all of it was written
+--   EndsWriting job in_walk before files rules after status   the same, and all was written
 --   Run                                     the arguments of a run, its calls, and its ending
 --   StopsEarly run                          no file follows the walk
 --   ProcessesFiles run                      the files that the walk found are processed
@@ -40,6 +40,7 @@ use Rattle.ud_tree.specs.declared.arguments.Arguments.{Arguments}
 use Rattle.ud_tree.specs.declared.counts.Counts.{Counts}
 use Rattle.ud_tree.specs.declared.counts.Edits.{Edits}
 use Rattle.ud_tree.specs.declared.job.Job.{Job}
+use Rattle.ud_tree.specs.declared.other_files.Others.{Others}
 use Rattle.ud_tree.specs.declared.walk.Found.{Found}
 use Rattle.ud_tree.specs.Changes.{ReplacesShowing}
 use Rattle.ud_passes.specs.declared.names.Names.{Names as NameLists}
@@ -48,7 +49,7 @@ use Rattle.ud_tree.specs.Remainders.{is_searched, listing_of, count_of}
 use Rattle.ud_tree.specs.Remainders.{defined_of, list_of, unnamed_in}
 use Rattle.ud_tree.specs.Unnamed.{sought}
 use Rattle.ud_tree.specs.Runs.{FileResult, Unshown, EachFile, shown_of, told_of, listed_of}
-use Rattle.ud_tree.specs.Runs.{outputs_of, texts_of, nothing_listed}
+use Rattle.ud_tree.specs.Runs.{lost_in, outputs_of, texts_of, nothing_listed}
 use Rattle.ud_tree.specs.Runs.{changed_in, same_in, faulty_in, edited_in, removed_in, names_of}
 use Rattle.ud_tree.specs.Shown.{ShowsOne, ListsOne}
 use Rattle.ud_tree.specs.Messages.{output_messages}
@@ -61,6 +62,7 @@ use Rattle.ud_tree.specs.Others.{SeeksOthers}
 use Rattle.ud_tree.specs.Walks.{IsWalk}
 use Rattle.ud_tree.specs.WalkMessages.{WalkTells, joined, Stops}
 use Rattle.ud_tree.specs.Statuses.{tree_status}
+use Rattle.ud_tree.specs.Unmatched.{LeavesRules, rule_lines}
 
 -- `DoesBy task args name old new result`: the file `name` is replaced, shown or listed, by the
 -- task.
@@ -134,7 +136,8 @@ pub record Ending : Type 0 where
 
 -- `Tally`: the numbers of faults, of conditions whose names can't be listed, of edits, of
 -- conditions that still name a symbol, and of lines that define one, the symbols that no condition
--- names, and the files of other names that name one.
+-- names, what was found among the files of other names, and the arguments of `-g` that matched
+-- nothing.
 pub record Tally : Type 0 where
   pub faults : ℕ
   pub hidden : ℕ
@@ -142,7 +145,8 @@ pub record Tally : Type 0 where
   pub remaining : ℕ
   pub defined : ℕ
   pub unnamed : List (List ℕ)
-  pub others : List Found
+  pub others : Others
+  pub rules : List (List ℕ)
 
 -- `DoesAll args failed old files new`: what the arguments ask for is done with each file in turn,
 -- and nothing else. If the output has `failed`, these may be only the first files (`IsDone`).
@@ -156,7 +160,8 @@ pub record DoesAll (args : Arguments) (failed : Bool) (old : List Call) (files :
 -- `ShowsAll args results is_lost shown`: what is shown for each file comes first, and then a list.
 -- If names are listed, it is the table of the names of all files, after their conditions whose
 -- names can't be listed. Else, if mentions are listed, it is the list of the mentions in all
--- outputs. This list is empty if no option names a symbol.
+-- outputs. This list is empty if no option names a symbol. Unless `is_lost`, nothing is lost of any
+-- file.
 pub record ShowsAll (args : Arguments) (results : List FileResult) (is_lost : Bool)
     (shown : List ℕ) : Type 0 where
   pub listed : List ℕ
@@ -169,6 +174,7 @@ pub record ShowsAll (args : Arguments) (results : List FileResult) (is_lost : Bo
       TableRepresents args.plan.run.symbols calls →
       listed ≡ list_of calls (listing_of args) args (outputs_of results)
   pub unsearched : ¬ (args.task ≡ Names) → is_searched args ≡ false → listed ≡ []
+  pub none_lost : is_lost ≡ false → lost_in results ≡ false
 
 -- `Totals args results is_lost tally`: the tally has the totals over all files, if a machine can
 -- count them: of conditions whose names can't be listed, of edited conditions, of removed lines,
@@ -211,24 +217,27 @@ pub record HasStatus (args : Arguments) (in_walk : ℕ) (results : List FileResu
 
 -- `TellsAll args results is_lost tally ending`: the messages of the faulty files come first, then
 -- the messages about the output, which has one if it has failed. Then come the last lines, with the
--- numbers of changed and unchanged files, and the tally.
+-- numbers of changed and unchanged files, and the tally, and those of the arguments of `-g`.
 pub record TellsAll (args : Arguments) (results : List FileResult) (is_lost : Bool)
     (tally : Tally) (ending : Ending) : Type 0 where
   pub told_is : ending.told ≡
       told_of results ++ joined (output_messages is_lost ending.streams.failed) ++ ending.last
   pub last_is : ending.last ≡ last_lines args (changed_in results) (same_in results)
       tally.faults tally.hidden tally.edits tally.remaining tally.defined tally.unnamed
-      (names_of tally.others)
+      (names_of tally.others.named.items) tally.others.unsearched ++ rule_lines args tally.rules
 
 -- `Ends args in_walk old files new ending`: the files are processed, and then those of other names
--- are sought. The output, the last lines, the status and the messages come from their results.
+-- are sought, unless the output had `failed` by then. The output, the last lines, the status and
+-- the messages come from their results.
 pub record Ends (args : Arguments) (in_walk : ℕ) (old : List Call) (files : List Found)
     (new : List Call) (ending : Ending) : Type 0 where
   pub mid : List Call
   pub does : DoesAll args ending.streams.failed old files mid
   pub is_lost : Bool
   pub tally : Tally
-  pub seeks : SeeksOthers args files mid new is_lost tally.others
+  pub failed : Bool
+  pub stays_failed : failed ≡ true → ending.streams.failed ≡ true
+  pub seeks : SeeksOthers args failed files mid new is_lost tally.others
   pub shows : ShowsAll args does.results is_lost ending.shown
   pub totals : Totals args does.results is_lost tally
   pub has_status : HasStatus args in_walk does.results is_lost tally.faults ending
@@ -246,12 +255,13 @@ pub record HasEnding (is_terminal : Bool) (before after : Moment) (messages : Li
   pub tells : is_terminal ≡ false →
       Sends before.err after.err (joined messages ++ ending.told)
 
--- `EndsWriting job in_walk before files after status`: the files are processed, and everything to
--- be written for them was written.
+-- `EndsWriting job in_walk before files rules after status`: the files are processed, and all that
+-- is to be written for them was written, with the lines of these arguments of `-g`.
 pub record EndsWriting (job : Job) (in_walk : ℕ) (before : Moment) (files : List Found)
-    (after : Moment) (status : ℕ) : Type 0 where
+    (rules : List (List ℕ)) (after : Moment) (status : ℕ) : Type 0 where
   pub ending : Ending
   pub ends : Ends job.arguments.now in_walk before.calls files after.calls ending
+  pub rules_are : ends.tally.rules ≡ rules
   pub written : HasEnding job.is_terminal before after [] ending status
 
 -- `Run`: the arguments of a run, what the input has before and after it, the calls before and after
@@ -276,7 +286,8 @@ pub record StopsEarly (run : Run) : Type 0 where
 
 -- `ProcessesFiles run`: the input was read whole, if paths come from it. The walk missed none of
 -- the paths, nor of the names below them. It found some files, at least one if the paths come from
--- the command line, and the run ends after them.
+-- the command line, and the run ends after them. Its last lines have the arguments of `-g` that
+-- matched nothing.
 pub record ProcessesFiles (run : Run) : Type 0 where
   pub text : List ℕ
   pub mid : List Call
@@ -287,6 +298,7 @@ pub record ProcessesFiles (run : Run) : Type 0 where
   pub walk : WalkTells run.old mid run.messages
   pub some : run.args.from_input ≡ false → 0 < length files
   pub ends : Ends run.args (length run.messages) mid files run.new run.ending
+  pub leaves : LeavesRules run.args run.old mid (length run.messages) ends.tally.rules
 
 -- `IsRun run`: `run` is a whole run, with files or without.
 abbrev pub IsRun : Run → Type 0

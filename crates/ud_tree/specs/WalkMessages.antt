@@ -18,14 +18,13 @@
 --   TakesEach given left calls calls' found told   the input was read, and each path was given
 --   TakesPaths args given left calls calls' has found told   all paths are taken
 --   WalksAll args given left calls calls' found old new all   a walk over all paths, or not
---   FindsFiles args given left calls calls' files old new   a walk that found files
+--   FindsFiles args given left calls calls' files rules old new   a walk that found files
 --   EndsWalk args given left calls calls' old new found   a walk that found files, or none
 --
 -- `old` and `new` are the report before and after, or the calls, the newest first. `given` and
 -- `left` are what the input has before and after.
 use Rattle.std.specs.Prelude.{◌≡◌, ℕ, ◌+◌, ◌<◌, ◌^◌, List, [], ◌∷◌, ◌++◌, length, map, Bool, true}
-use Rattle.std.specs.Prelude.{false, not, codes, nat_eq, Option, IfSome, IfNone, Vec}
-use Rattle.std.specs.declared.alloc.Global.{Global}
+use Rattle.std.specs.Prelude.{false, not, codes, nat_eq, Option, IfSome, IfNone}
 use Rattle.std.specs.List.{flat_map, list_any, Contains}
 use Rattle.ud_replace.specs.declared.node.Lookup.{Lookup}
 use Rattle.ud_replace.specs.declared.node.Lookup.TheVariants.{Present, Absent, Unknown}
@@ -33,6 +32,7 @@ use Rattle.ud_replace.specs.declared.node.Node.{Node}
 use Rattle.ud_replace.specs.declared.node.NodeKind.TheVariants.{File, Link, Other}
 use Rattle.ud_replace.specs.Calls.{Call, walked, WalkCall, met, followed, listed}
 use Rattle.ud_tree.specs.Reports.{ReportState, Tells, ReportsOne}
+use Rattle.ud_tree.specs.declared.find_files.Walked.{Walked}
 use Rattle.ud_tree.specs.declared.walk.Found.{Found}
 use Rattle.ud_tree.specs.declared.walk.Walk.{Walk}
 use Rattle.ud_tree.specs.Messages.{fault_line, IsFailureOf}
@@ -41,6 +41,7 @@ use Rattle.ud_tree.specs.declared.arguments.Arguments.{Arguments}
 use Rattle.ud_replace.specs.declared.node.FileId.{FileId}
 use Rattle.ud_tree.specs.Covering.{CoversInput, paths_of, IsIn, StandsIn, MissesNone}
 use Rattle.ud_tree.specs.Summaries.{line_of}
+use Rattle.ud_tree.specs.Unmatched.{LeavesRules}
 use Rattle.ud_tree.specs.Walks.{Finds, IsWalk}
 
 -- `is_refused w`: nothing is at the path that was looked at, or a call failed.
@@ -209,19 +210,21 @@ pub record WalksAll (args : Arguments) (given left : Source) (calls calls' : Lis
   pub takes : all ≡ true → TakesPaths args given left calls calls' IsIn found (0 < new.faulty)
   pub stops : all ≡ false → old.faulty ≡ 0 → StopsWalk args.from_input left calls calls' old new
 
--- `FindsFiles args given left calls calls' files old new`: the paths are taken. Since `calls`, a
--- whole walk found `files`, at least one if the paths are those of the command line. Its messages
--- were written and counted.
+-- `FindsFiles args given left calls calls' files rules old new`: the paths are taken. Since
+-- `calls`, a whole walk found `files`, at least one if the paths are those of the command line. Its
+-- messages were written and counted. `rules` are the arguments of `-g` that the last lines have.
 pub record FindsFiles (args : Arguments) (given left : Source) (calls calls' : List Call)
-    (files : List Found) (old new : ReportState) : Type 0 where
+    (files : List Found) (rules : List (List ℕ)) (old new : ReportState) : Type 0 where
   pub is_walk : IsWalk calls calls' files
   pub some : args.from_input ≡ false → 0 < length files
   pub reports : ReportsWalk calls calls' old new
   pub paths : TakesPaths args given left calls calls' StandsIn files (0 < length reports.messages)
+  pub leaves : LeavesRules args calls calls' (length reports.messages) rules
 
 -- `EndsWalk args given left calls calls' old new found`: the walk found these files, or no file
 -- follows it.
 pub record EndsWalk (args : Arguments) (given left : Source) (calls calls' : List Call)
-    (old new : ReportState) (found : Option (Vec Found Global)) : Type 0 where
-  pub files : IfSome found (λ files. FindsFiles args given left calls calls' files.items old new)
+    (old new : ReportState) (found : Option Walked) : Type 0 where
+  pub files : IfSome found (λ w. FindsFiles args given left calls calls' w.files.items
+      (map (λ r. r.items) w.rules.items) old new)
   pub stops : IfNone found (StopsWalk args.from_input left calls calls' old new)

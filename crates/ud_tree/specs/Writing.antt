@@ -22,7 +22,8 @@ use Rattle.ud_tree.specs.declared.counts.Edits.{Edits}
 use Rattle.ud_tree.specs.Reports.{ReportState, Writes}
 use Rattle.ud_tree.specs.Lists.{Adds}
 use Rattle.ud_tree.specs.Remainders.{FindsAll}
-use Rattle.ud_tree.specs.Runs.{FileResult, Counted, Listed, listed_of, Output, outputs_of, texts_of}
+use Rattle.ud_tree.specs.Runs.{FileResult, Counted, Listed, listed_of, lost_in, Output, outputs_of}
+use Rattle.ud_tree.specs.Runs.{texts_of}
 use Rattle.ud_io.specs.Streams.{Stream, stream_of, Sends}
 
 -- `Moment`: the calls so far, the newest first, the output and the error stream.
@@ -56,7 +57,8 @@ stage history contents tree out report =
 
 -- `WritesOne args P name before after update edits listed`: `P` holds of a file with this result,
 -- these edits, and what is listed of it. What is shown of it was written. The conditions of its
--- output that still name a symbol were added to the report, and it looked for names in its text.
+-- output that still name a symbol were added to the report, and it looked for names in its text. If
+-- memory ran out for some of that (`lost`), the report records it.
 pub record WritesOne (args : Arguments)
     (P : List ℕ → List Call → List Call → FileResult → Type 0) (name : List ℕ)
     (before after : Stage) (update : Result Update ReplaceError) (edits : Edits)
@@ -64,6 +66,7 @@ pub record WritesOne (args : Arguments)
   pub shown : List ℕ
   pub outputs : List Output
   pub texts : List (List ℕ)
+  pub lost : Bool
   pub does : (told : List ℕ) →
       P name before.calls after.calls (record {
         update = update;
@@ -73,9 +76,11 @@ pub record WritesOne (args : Arguments)
         listed = listed;
         outputs = outputs;
         texts = texts;
+        lost = lost;
       })
   pub sent : Sends before.out after.out shown
   pub finds : FindsAll args texts outputs before.report after.report
+  pub loses : after.report.has_lost ≡ false → lost ≡ false
 
 -- `ProcessesOne args P name before after update edits lists lists'`: the same, and what is listed
 -- of the file was added to `lists`.
@@ -103,6 +108,7 @@ pub record WritesAll (args : Arguments)
   pub adds : Adds lists lists' (listed_of counted.results)
   pub finds : FindsAll args (texts_of counted.results) (outputs_of counted.results)
       before.report after.report
+  pub loses : after.report.has_lost ≡ false → lost_in counted.results ≡ false
 
 -- `WritesList args names rest lost out out'`: a list was written, empty unless names or the
 -- conditions that still name a symbol are to be listed. Names are listed in a table, after the

@@ -4,11 +4,14 @@ ghost use Rattle.std.specs.Prelude.{◌≡◌, None, IfOk, IfErr, IfSome, IfNone
 ghost use Rattle.std.specs.Prelude.{◌∷◌, [], codes, true};
 ghost use Rattle.ud_args.specs.ParsedArgs.{parsed};
 ghost use Rattle.ud_args.specs.ParsedSettings.{IsUsageOf};
-ghost use Rattle.ud_args.specs.TreeWords.{given_in, first_fault, has_flag, unifdef_args};
+ghost use Rattle.ud_args.specs.TreeWords.{given_in, first_fault, has_flag, patterns_in};
+ghost use Rattle.ud_args.specs.TreeWords.{unifdef_args};
+ghost use Rattle.ud_tree.specs.PatternFaults.{first_bad};
 ghost use Rattle.ud_tree.specs.Requests.{IsRequestOf, IsArgumentsOf, IsFaultIn};
 ghost use Rattle.ud_tree.specs.Requests.{AreFitting, HasNoChange, LeavesLines, decides, is_one_of};
 ghost use Rattle.ud_tree.specs.Requests.{task_of};
 
+use crate::patterns::faults::{PatternFault, first_bad};
 use std::alloc::Global;
 use ud_args::{
     ParsedArg, Usage, given_by, has_flag, has_symbols, paths, patterns, plan_among, symbol_names,
@@ -98,6 +101,8 @@ pub enum ArgumentFault {
     BadSymbol(String),
     /// An argument of `-x` that is no exit mode.
     BadMode(String),
+    /// An argument of `-g` that isn't taken, and why.
+    BadPattern(String, PatternFault),
     /// `-s` together with this flag, which it would ignore.
     BesideNames(char),
     /// `-s` together with an option that names a symbol.
@@ -124,8 +129,8 @@ pub enum ArgumentFault {
 ///
 /// # Errors
 /// The first fault of the words from left to right. Else incompatible options, the first fault of
-/// the options of unifdef, or a fault of the paths. `OutOfMemory` if memory can't be
-/// allocated. Nothing was done.
+/// the options of unifdef, the first fault of a pattern, or a fault of the paths. `OutOfMemory` if
+/// memory can't be allocated. Nothing was done.
 pub fn parse_arguments(alloc: Global, words: &[String]) -> Result<Request, ArgumentFault>
     ensures request { IfOk result (IsRequestOf (given_in (map string_bytes words.now))) }
     ensures fault { IfErr result (IsFaultIn (given_in (map string_bytes words.now))) }
@@ -264,8 +269,8 @@ fn beside_squeezing(given: &[ParsedArg<'_>]) -> Option<char>
 /// Returns the arguments of a run, whose options are compatible.
 ///
 /// # Errors
-/// The first fault of the options of unifdef, or a fault of the paths. `OutOfMemory` if
-/// memory can't be allocated.
+/// The first fault of the options of unifdef, the first fault of a pattern, or a fault of the
+/// paths. `OutOfMemory` if memory can't be allocated.
 fn run_of(alloc: Global, given: &[ParsedArg<'_>]) -> Result<Arguments, ArgumentFault>
     requires { AreFitting (parsed given.now) }
     ensures run { IfOk result (IsArgumentsOf (parsed given.now)) }
@@ -275,9 +280,7 @@ fn run_of(alloc: Global, given: &[ParsedArg<'_>]) -> Result<Arguments, ArgumentF
         Ok(run) => run,
         Err(usage) => return Err(option_fault(alloc, given, usage)),
     };
-    let Ok(patterns) = patterns(alloc, given) else {
-        return Err(ArgumentFault::OutOfMemory);
-    };
+    let patterns = patterns_of(alloc, given)?;
     let Ok(paths) = paths(alloc, given) else {
         return Err(ArgumentFault::OutOfMemory);
     };
@@ -316,6 +319,28 @@ fn run_of(alloc: Global, given: &[ParsedArg<'_>]) -> Result<Arguments, ArgumentF
         has_symbols: has_symbols(given),
         names: symbols,
     })
+}
+
+/// Returns the patterns.
+///
+/// # Errors
+/// `BadPattern` for the first one that has a fault. `OutOfMemory` if memory can't be allocated.
+fn patterns_of(alloc: Global, given: &[ParsedArg<'_>]) -> Result<Vec<String>, ArgumentFault>
+    ensures patterns { IfOk result (λ words.
+        map string_bytes words.items ≡ patterns_in (parsed given.now)) }
+    ensures right { IfOk result (λ words. first_bad (patterns_in (parsed given.now)) ≡ None) }
+    ensures fault { IfErr result (IsFaultIn (parsed given.now)) }
+{
+    let Ok(patterns) = patterns(alloc, given) else {
+        return Err(ArgumentFault::OutOfMemory);
+    };
+    match first_bad(patterns.as_slice()) {
+        None => Ok(patterns),
+        Some((text, fault)) => match text.clone() {
+            Ok(word) => Err(ArgumentFault::BadPattern(word, fault)),
+            Err(_) => Err(ArgumentFault::OutOfMemory),
+        },
+    }
 }
 
 /// Returns whether conditions are to be decided, or their names listed.

@@ -1,19 +1,21 @@
 //! The real tree: files of the system.
 //!
 //! Each method of `Directory` and `Tree` makes the call that it records, on a name in the directory
-//! that was met there (`Directories`). Paths are UTF-8: the library opens no others, so no other
-//! name can be read. `System` has the calls of the system, and the files beside it say what they
-//! are used for.
+//! that was met there (`Directories`), and records it with the evidence for its answer (`Notes`).
+//! Paths are UTF-8: the library opens no others, so no other name can be read. `Looks` and
+//! `Changes` have the calls of the system, and the files beside them say what they are used for.
 
-ghost use Rattle.std.specs.Prelude.{◌≡◌, ◌↔◌, ◌∷◌, [], IfOk, IfSome, MatchResult, OnOk};
-ghost use Rattle.std.specs.Prelude.{None, Some, false, true};
+ghost use Rattle.std.specs.Prelude.{◌≡◌, ◌↔◌, ◌≤◌, [], IfOk, IfSome, OnOk, Some, false, length, true};
+ghost use Rattle.std.specs.Prelude.{◌∷◌, MatchResult, None};
+ghost use Rattle.std.specs.Option.{ForSome};
 ghost use Rattle.std.specs.IoError.{error_kind};
-ghost use Rattle.std.specs.Io.{WritesAtMost};
 ghost use Rattle.ud_replace.specs.Calls.{walked};
 ghost use Rattle.ud_replace.specs.CallRecords.{walk_call_of};
-ghost use Rattle.ud_tree.specs.Changing.{HasBytes};
+ghost use Rattle.ud_tree.specs.Changing.{GivesMode, GivesOwner, HasBytes};
 ghost use Rattle.ud_tree.specs.Creating.{IsNew};
-ghost use Rattle.ud_tree.specs.Naming.{At};
+ghost use Rattle.ud_tree.specs.EvidentCalls.{IsEvident, IsEvidentWalk};
+ghost use Rattle.ud_tree.specs.Meeting.{At};
+ghost use Rattle.ud_tree.specs.Naming.{IsMet, IsRenamed};
 ghost use Rattle.ud_tree.specs.Opening.{HasRead, IsFound, OpensToWrite};
 
 mod calls;
@@ -22,50 +24,53 @@ mod creating;
 mod directories;
 mod facts;
 mod naming;
+mod notes;
 mod opening;
 mod reading;
+mod sampling;
 mod system;
 
 use crate::disk::changing::{overwrite, set_mode_and_owner};
 use crate::disk::creating::{create_error, create_file};
 use crate::disk::directories::Directories;
 use crate::disk::naming::{leads_to_directory, list_directory, node_at, remove_file, rename_file};
+use crate::disk::notes::Notes;
 use crate::disk::opening::{look_at, open_to_write, read_again, read_file};
 use crate::tree::Tree;
 pub(crate) use directories::is_other_file;
 pub use facts::Facts;
 use std::alloc::Global;
-use std::io::{self, ErrorKind, Write};
-pub use system::{System, SystemFile};
-use ud_replace::{CreateError, Directory, DirectoryCall, DirectoryWalk, FileStat, History, Lookup};
+use std::io::{self, ErrorKind};
+pub use system::{Changes, Looks};
+use ud_replace::{CreateError, Directory, DirectoryCall, DirectoryWalk, FileStat, Lookup, Sample};
 
-/// A file that is open for reading and writing.
+/// An open file, and the name that it was opened or created under.
 #[derive(Drop)]
-struct Opened<S: System> {
+struct Named<F> {
     name: Vec<u8>,
-    file: S::File,
+    file: F,
 }
 
 /// The files of a system.
 #[derive(Drop)]
-pub struct Disk<'s, S: System> {
+pub struct Disk<'s, S: Changes> {
     system: &'s S,
     alloc: Global,
     /// The file that `create` made, until it is renamed or removed.
-    fresh: Option<S::File>,
+    fresh: Option<Named<S::New>>,
     /// The file that `may_write` opened. It is read again, and written into, without looking at its
     /// path again.
-    opened: Option<Opened<S>>,
+    opened: Option<Named<S::Old>>,
     /// The error of the last failed call.
     reason: Option<io::Error>,
     directories: Directories<S>,
-    history: History,
+    notes: Notes<S>,
 }
 
-impl<'s, S: System> Disk<'s, S> {
+impl<'s, S: Changes> Disk<'s, S> {
     /// Returns the files of a system, before any call.
     pub fn new(system: &'s S, alloc: Global) -> Disk<'s, S>
-        ensures { result.history.calls ≡ [] }
+        ensures { result.notes.history.calls ≡ [] }
     {
         Disk {
             system,
@@ -74,7 +79,7 @@ impl<'s, S: System> Disk<'s, S> {
             opened: None,
             reason: None,
             directories: Directories::new(alloc),
-            history: History::new(),
+            notes: Notes::new(),
         }
     }
 
@@ -88,7 +93,7 @@ impl<'s, S: System> Disk<'s, S> {
     /// Keeps the error of a call. Returns its value, if any.
     fn kept<T>(&mut self, answer: io::Result<T>) -> Option<T>
         ensures value { MatchResult answer (λ x. result ≡ Some x) (λ e. result ≡ None) }
-        ensures calls { self.new.history.calls ≡ self.old.history.calls }
+        ensures calls { self.new.notes.history.calls ≡ self.old.notes.history.calls }
     {
         match answer {
             Ok(value) => Some(value),
@@ -99,126 +104,70 @@ impl<'s, S: System> Disk<'s, S> {
         }
     }
 
-    /// Records a call of a walk.
-    fn note(&mut self, walk: DirectoryWalk<'_>)
-        ensures { self.new.history.calls ≡
-            walked (walk_call_of walk.entry) ∷ self.old.history.calls }
-    {
-        self.history = self.history.with(&DirectoryCall::Walk(walk));
-    }
-
     /// Reads a file: the one that `may_write` opened under that name, else the one that is there.
     fn read_at(&mut self, name: &[u8], text: &mut Vec<u8>) -> io::Result<FileStat>
         requires empty { text.old.items ≡ [] }
-        ensures read { IfOk result (λ stat. At name.now self.new.directories.entered (λ place.
-            HasRead S.File.opened S.looked S.File.shows S.File.is_start_of S.File.remaining place
-            text.new.items stat)) }
-        ensures calls { self.new.history.calls ≡ self.old.history.calls }
+        ensures read { IfOk result (λ stat. At S.looking name.now (λ place. HasRead S.looking
+            S.changing S.File.remaining S.Old.remaining place text.new.items stat)) }
+        ensures calls { self.new.notes.history.calls ≡ self.old.notes.history.calls }
     {
         let place = self.directories.place(self.system, name)?;
         match &mut self.opened {
             Some(opened) if opened.name.as_slice() == name => {
-                let stat = read_again(self.system, place.as_str(), &mut opened.file, text)?;
-                Ok(stat)
+                read_again(self.system, place.as_str(), &mut opened.file, text)
             }
             _ => {
                 self.opened = None;
-                let stat = read_file(self.system, place.as_str(), text)?;
-                Ok(stat)
+                read_file(self.system, place.as_str(), text)
             }
         }
     }
 
     /// Opens a file to write into it.
-    fn opened_at(&mut self, name: &[u8]) -> io::Result<Opened<S>>
+    fn opened_at(&mut self, name: &[u8]) -> io::Result<Named<S::Old>>
         ensures name { IfOk result (λ opened. opened.name.items ≡ name.now) }
-        ensures open { IfOk result (λ opened. At name.now self.new.directories.entered (λ place.
-            OpensToWrite S.looked S.File.shows S.File.updates place opened.file)) }
-        ensures calls { self.new.history.calls ≡ self.old.history.calls }
+        ensures open { IfOk result (λ opened. At S.looking name.now
+            (λ place. OpensToWrite S.looking S.changing place opened.file)) }
+        ensures calls { self.new.notes.history.calls ≡ self.old.notes.history.calls }
     {
-        let place = self.directories.place(self.system, name)?;
-        let file = open_to_write(self.system, place.as_str())?;
         let mut owned = Vec::new(self.alloc);
         owned.extend_from_slice(name)?;
-        Ok(Opened { name: owned, file })
+        let place = self.directories.place(self.system, name)?;
+        let file = open_to_write(self.system, place.as_str())?;
+        Ok(Named { name: owned, file })
     }
 
     /// Creates a file.
-    fn created_at(&mut self, name: &[u8]) -> io::Result<S::File>
-        ensures new { IfOk result (λ file. At name.now self.new.directories.entered (λ place.
-            IsNew S.File.created S.File.is_locked S.File.is_lockless place file)) }
-        ensures calls { self.new.history.calls ≡ self.old.history.calls }
+    fn created_at(&mut self, name: &[u8]) -> io::Result<Named<S::New>>
+        ensures name { IfOk result (λ made. made.name.items ≡ name.now) }
+        ensures new { IfOk result (λ made. At S.looking name.now
+            (λ place. IsNew S.changing place made.file)) }
+        ensures calls { self.new.notes.history.calls ≡ self.old.notes.history.calls }
     {
+        let mut owned = Vec::new(self.alloc);
+        owned.extend_from_slice(name)?;
         let place = self.directories.place(self.system, name)?;
         let file = create_file(self.system, place.as_str())?;
-        Ok(file)
+        Ok(Named { name: owned, file })
     }
 
     /// Returns the facts about a file.
     fn found_at(&mut self, name: &[u8]) -> io::Result<FileStat>
-        ensures found { IfOk result (λ stat. At name.now self.new.directories.entered (λ place.
-            IsFound S.looked place stat)) }
-        ensures calls { self.new.history.calls ≡ self.old.history.calls }
+        ensures found { IfOk result
+            (λ stat. At S.looking name.now (λ place. IsFound S.looking place stat)) }
+        ensures calls { self.new.notes.history.calls ≡ self.old.notes.history.calls }
     {
         let place = self.directories.place(self.system, name)?;
-        let stat = look_at(self.system, place.as_str())?;
-        Ok(stat)
+        look_at(self.system, place.as_str())
     }
 
-    /// Writes over the bytes of the file that `may_write` opened under that name.
-    fn overwrite_at(&mut self, name: &[u8], text: &[u8]) -> io::Result<()>
-        ensures written { OnOk result (IfSome self.new.opened (λ opened.
-            (opened.name.items ≡ name.now) × HasBytes S.File.is_start_of S.File.contents
-            S.File.cut_at S.File.is_synced text.now opened.file)) }
-        ensures calls { self.new.history.calls ≡ self.old.history.calls }
+    /// Creates a file, and keeps it as the new one.
+    fn create_fresh(&mut self, name: &[u8]) -> Result<(), CreateError>
+        ensures new { OnOk result (At S.looking name.now
+            (λ place. (file : _) × IsNew S.changing place file)) }
+        ensures calls { self.new.notes.history.calls ≡ self.old.notes.history.calls }
     {
-        match &mut self.opened {
-            Some(opened) if opened.name.as_slice() == name => overwrite(&mut opened.file, text),
-            _ => Err(not_open()),
-        }
-    }
-}
-
-/// Returns the error of a call on a file that isn't open.
-fn not_open() -> io::Error
-    ensures { error_kind result ≡ ErrorKind.NotFound }
-{
-    io::Error::from(ErrorKind::NotFound)
-}
-
-/// Writes a prefix of `bytes`. Returns its length.
-fn write_some<W: Write>(file: &mut Option<W>, bytes: &[u8]) -> io::Result<usize>
-    ensures { WritesAtMost result bytes.now }
-{
-    match file {
-        None => Err(not_open()),
-        Some(file) => file.write(bytes),
-    }
-}
-
-impl<S: System> Directory for Disk<'_, S> {
-    ghost history = { λ d. d.history.calls };
-
-    fn read(&mut self, name: &[u8], text: &mut Vec<u8>) -> Option<FileStat> {
-        let read = self.read_at(name, text);
-        let answer = self.kept(read);
-        let text = text.as_slice();
-        self.history = self
-            .history
-            .with(&DirectoryCall::Read { name, text, answer });
-        answer
-    }
-
-    fn may_write(&mut self, name: &[u8]) -> bool {
-        let opened = self.opened_at(name);
-        self.opened = self.kept(opened);
-        let answer = self.opened.is_some();
-        self.history = self.history.with(&DirectoryCall::MayWrite { name, answer });
-        answer
-    }
-
-    fn create(&mut self, name: &[u8]) -> Result<(), CreateError> {
-        let answer = match self.created_at(name) {
+        match self.created_at(name) {
             Ok(file) => {
                 self.fresh = Some(file);
                 Ok(())
@@ -227,15 +176,105 @@ impl<S: System> Directory for Disk<'_, S> {
                 self.reason = Some(error);
                 Err(create_error(&error))
             }
+        }
+    }
+
+    /// Renames the new file.
+    fn renamed_at(&mut self, from: &[u8], to: &[u8]) -> io::Result<()>
+        ensures renamed { OnOk result (IsRenamed S.looking S.changing from.now to.now) }
+        ensures closed { OnOk result ((self.new.fresh ≡ None) × (self.new.opened ≡ None)) }
+        ensures calls { self.new.notes.history.calls ≡ self.old.notes.history.calls }
+    {
+        let file = new_file(&self.fresh, from)?;
+        rename_file(self.system, &mut self.directories, file, from, to)?;
+        self.fresh = None;
+        self.opened = None;
+        Ok(())
+    }
+
+    /// Removes the new file, and closes it.
+    fn removed_at(&mut self, name: &[u8]) -> io::Result<()>
+        ensures removed { OnOk result (At S.looking name.now S.changing.removes) }
+        ensures closed { self.new.fresh ≡ None }
+        ensures calls { self.new.notes.history.calls ≡ self.old.notes.history.calls }
+    {
+        let removed = match new_file(&self.fresh, name) {
+            Ok(file) => remove_file(self.system, &mut self.directories, file, name),
+            Err(error) => Err(error),
         };
-        self.history = self.history.with(&DirectoryCall::Create { name, answer });
+        self.fresh = None;
+        removed
+    }
+
+    /// Returns what is at a path. Keeps the error if that can't be known.
+    fn met_at(&mut self, path: &str) -> Lookup
+        ensures met { IsMet S.looking path.now result }
+        ensures calls { self.new.notes.history.calls ≡ self.old.notes.history.calls }
+    {
+        match node_at(self.system, &mut self.directories, path) {
+            Ok(answer) => answer,
+            Err(error) => {
+                self.reason = Some(error);
+                Lookup::Unknown
+            }
+        }
+    }
+
+    /// Records a call of a walk.
+    fn note(&mut self, walk: DirectoryWalk<'_>)
+        requires { IsEvidentWalk S.looking (walk_call_of walk) }
+        ensures { self.new.notes.history.calls ≡
+            walked (walk_call_of walk.entry) ∷ self.old.notes.history.calls }
+    {
+        self.notes.add(&DirectoryCall::Walk(walk));
+    }
+
+    /// Writes over the bytes of the file that `may_write` opened under that name.
+    fn overwrite_at(&mut self, name: &[u8], text: &[u8]) -> io::Result<()>
+        ensures written { OnOk result ((file : _) × HasBytes S.changing S.Old.contents text.now file) }
+        ensures calls { self.new.notes.history.calls ≡ self.old.notes.history.calls }
+    {
+        match &mut self.opened {
+            Some(opened) if opened.name.as_slice() == name => {
+                overwrite(self.system, &mut opened.file, text)
+            }
+            _ => Err(not_open()),
+        }
+    }
+}
+
+impl<S: Changes> Directory for Disk<'_, S> {
+    ghost history = { λ d. d.notes.history.calls };
+
+    ghost is_evident = { IsEvident S.looking S.changing S.File.remaining S.Old.remaining
+        S.Old.contents };
+
+    fn read(&mut self, name: &[u8], text: &mut Vec<u8>) -> Option<FileStat> {
+        let read = self.read_at(name, text);
+        let answer = self.kept(read);
+        let text = text.as_slice();
+        self.notes.add(&DirectoryCall::Read { name, text, answer });
+        answer
+    }
+
+    fn may_write(&mut self, name: &[u8]) -> bool {
+        let opened = self.opened_at(name);
+        self.opened = self.kept(opened);
+        let answer = self.opened.is_some();
+        self.notes.add(&DirectoryCall::MayWrite { name, answer });
+        answer
+    }
+
+    fn create(&mut self, name: &[u8]) -> Result<(), CreateError> {
+        let answer = self.create_fresh(name);
+        self.notes.add(&DirectoryCall::Create { name, answer });
         answer
     }
 
     fn append(&mut self, name: &[u8], bytes: &[u8]) -> Option<usize> {
-        let written = write_some(&mut self.fresh, bytes);
+        let written = append_to(self.system, &mut self.fresh, name, bytes);
         let answer = self.kept(written);
-        self.history = self.history.with(&DirectoryCall::Append {
+        self.notes.add(&DirectoryCall::Append {
             name,
             bytes,
             answer,
@@ -244,76 +283,56 @@ impl<S: System> Directory for Disk<'_, S> {
     }
 
     fn set_mode_and_owner(&mut self, name: &[u8], like: &FileStat) -> bool {
-        let set = match &mut self.fresh {
-            None => Err(not_open()),
-            Some(file) => set_mode_and_owner(file, like),
-        };
+        let set = make_like(self.system, &mut self.fresh, name, like);
         let answer = self.kept(set).is_some();
         let like = *like;
-        self.history = self
-            .history
-            .with(&DirectoryCall::SetModeAndOwner { name, like, answer });
+        self.notes
+            .add(&DirectoryCall::SetModeAndOwner { name, like, answer });
         answer
     }
 
     fn sync(&mut self, name: &[u8]) -> bool {
-        let synced = match &self.fresh {
-            None => Err(not_open()),
-            Some(file) => file.sync(),
-        };
+        let synced = sync(self.system, &self.fresh, name);
         let answer = self.kept(synced).is_some();
-        self.history = self.history.with(&DirectoryCall::Sync { name, answer });
+        self.notes.add(&DirectoryCall::Sync { name, answer });
         answer
     }
 
     fn look(&mut self, name: &[u8]) -> Option<FileStat> {
         let found = self.found_at(name);
         let answer = self.kept(found);
-        self.history = self.history.with(&DirectoryCall::Look { name, answer });
+        self.notes.add(&DirectoryCall::Look { name, answer });
         answer
     }
 
     fn rename(&mut self, from: &[u8], to: &[u8]) -> bool {
-        let renamed = rename_file(self.system, &mut self.directories, &self.fresh, from, to);
+        let renamed = self.renamed_at(from, to);
         let answer = self.kept(renamed).is_some();
-        if answer {
-            self.fresh = None;
-            self.opened = None;
-        }
-        self.history = self
-            .history
-            .with(&DirectoryCall::Rename { from, to, answer });
+        self.notes.add(&DirectoryCall::Rename { from, to, answer });
         answer
     }
 
     fn overwrite(&mut self, name: &[u8], text: &[u8]) -> bool {
         let written = self.overwrite_at(name, text);
         let answer = self.kept(written).is_some();
-        self.history = self
-            .history
-            .with(&DirectoryCall::Overwrite { name, text, answer });
+        self.notes
+            .add(&DirectoryCall::Overwrite { name, text, answer });
         answer
     }
 
     fn remove(&mut self, name: &[u8]) -> bool {
-        let removed = remove_file(self.system, &mut self.directories, &self.fresh, name);
+        let removed = self.removed_at(name);
         let answer = removed.is_ok();
-        self.fresh = None;
-        self.history = self.history.with(&DirectoryCall::Remove { name, answer });
+        self.notes.add(&DirectoryCall::Remove { name, answer });
         answer
     }
+
+    ghost evident = { λ d. d.notes.evident };
 }
 
-impl<S: System> Tree for Disk<'_, S> {
+impl<S: Changes> Tree for Disk<'_, S> {
     fn node(&mut self, path: &str) -> Lookup {
-        let answer = match node_at(self.system, &mut self.directories, path) {
-            Ok(node) => Lookup::Present(node),
-            Err(error) if error.kind() == ErrorKind::NotFound => Lookup::Absent,
-            Err(error) => {
-                self.reason = Some(error);
-                Lookup::Unknown
-            }
-        };
+        let answer = self.met_at(path);
         let path = path.as_bytes();
         self.note(DirectoryWalk::Met { path, answer });
         answer
@@ -349,4 +368,72 @@ impl<S: System> Tree for Disk<'_, S> {
     fn reason(&self) -> Option<io::Error> {
         self.reason
     }
+
+    fn sample(&mut self, name: &[u8], text: &mut Vec<u8>) -> Sample {
+        let answer = self.sampled(name, text);
+        let text = text.as_slice();
+        self.notes
+            .add(&DirectoryCall::Sample { name, text, answer });
+        answer
+    }
+}
+
+/// Returns the error of a call on a file that isn't open.
+fn not_open() -> io::Error
+    ensures { error_kind result ≡ ErrorKind.NotFound }
+{
+    io::Error::from(ErrorKind::NotFound)
+}
+
+/// Returns the new file, if it was created under this name.
+fn new_file<'f, F>(fresh: &'f Option<Named<F>>, name: &[u8]) -> io::Result<&'f F>
+    ensures { IfOk result (λ file. ForSome fresh.now
+        (λ f. (f.name.items ≡ name.now) × (f.file ≡ file.now))) }
+{
+    match fresh {
+        Some(fresh) if fresh.name.as_slice() == name => Ok(&fresh.file),
+        _ => Err(not_open()),
+    }
+}
+
+/// Appends a prefix of `bytes` to the new file with this name. Returns its length.
+fn append_to<S: Changes>(
+    system: &S,
+    fresh: &mut Option<Named<S::New>>,
+    name: &[u8],
+    bytes: &[u8],
+) -> io::Result<usize>
+    ensures count { IfOk result (λ n. n ≤ length bytes.now) }
+    ensures appended { IfOk result (λ n. (old : _) × (new : _) ×
+        S.changing.appends old bytes.now n new) }
+{
+    match fresh {
+        Some(fresh) if fresh.name.as_slice() == name => system.append(&mut fresh.file, bytes),
+        _ => Err(not_open()),
+    }
+}
+
+/// Gives the new file with this name the mode, owner and group of another one.
+fn make_like<S: Changes>(
+    system: &S,
+    fresh: &mut Option<Named<S::New>>,
+    name: &[u8],
+    like: &FileStat,
+) -> io::Result<()>
+    ensures { OnOk result ((old : _) × (new : _) × GivesOwner S.changing like.now old new ×
+        GivesMode S.changing like.now new) }
+{
+    match fresh {
+        Some(fresh) if fresh.name.as_slice() == name => {
+            set_mode_and_owner(system, &mut fresh.file, like)
+        }
+        _ => Err(not_open()),
+    }
+}
+
+/// Waits until the bytes of the new file with this name are on the disk.
+fn sync<S: Changes>(system: &S, fresh: &Option<Named<S::New>>, name: &[u8]) -> io::Result<()>
+    ensures { OnOk result ((file : _) × S.changing.syncs_new file) }
+{
+    system.sync_new(new_file(fresh, name)?)
 }

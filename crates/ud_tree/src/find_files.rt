@@ -2,12 +2,16 @@
 
 ghost use Rattle.std.specs.Prelude.{◌≡◌, ◌<◌, ◌++◌, [], map, true, false, IfOk};
 ghost use Rattle.std.specs.Prelude.{OnErr, OnOk, string_bytes};
+ghost use Rattle.ud_tree.specs.Catching.{scope_of};
 ghost use Rattle.ud_tree.specs.Covering.{CoversPaths, IsIn, own_path, paths_of};
+ghost use Rattle.ud_tree.specs.Scopes.{scope_in};
+ghost use Rattle.ud_tree.specs.Unmatched.{MarksWalk, quoted, unmarked_in};
 ghost use Rattle.ud_tree.specs.Streams.{source_of, ReadsWhole};
 ghost use Rattle.ud_tree.specs.WalkMessages.{EndsWalk, GoesOn, ReportsWalk, StopsWalk};
 ghost use Rattle.ud_tree.specs.WalkMessages.{TakesEach, WalksAll};
 
 use crate::job::Job;
+use crate::patterns::marks::unmarked;
 use crate::report::Report;
 use crate::tree::Tree;
 use crate::walk::{Found, Walk};
@@ -18,6 +22,16 @@ use ud_engine::Watched;
 /// The most bytes of one read of the input.
 const INPUT_BYTES: usize = 8_192;
 
+/// The result of a walk.
+#[derive(Drop)]
+pub(crate) struct Walked {
+    /// The files, each once.
+    pub files: Vec<Found>,
+    /// The arguments of `-g` that matched nothing, each between quotes. There are none after a
+    /// fault, or if the paths come from the input.
+    pub rules: Vec<Vec<u8>>,
+}
+
 /// Returns the files of the run; `None` if the input can't be read, if a path of the command line
 /// has a fault, or if no file matches. That has a message, unless the walk has one.
 pub(crate) fn find_files<T: Tree, R: Read, E: Write>(
@@ -25,18 +39,20 @@ pub(crate) fn find_files<T: Tree, R: Read, E: Write>(
     tree: &mut T,
     input: &mut Watched<R>,
     report: &mut Report<E>,
-) -> Result<Option<Vec<Found>>, AllocError>
+) -> Result<Option<Walked>, AllocError>
     ensures ends { report.old.faulty ≡ 0 → IfOk result (EndsWalk job.now.arguments.now
         (source_of R.remaining input.old) (source_of R.remaining input.new)
         (T.history tree.old) (T.history tree.new) report.old report.new) }
     ensures no_memory { OnErr result
         (ReportsWalk (T.history tree.old) (T.history tree.new) report.old report.new) }
 {
-    let mut walk = Walk::new(job.alloc, job.arguments.patterns.as_slice());
+    let paths = job.arguments.paths.as_slice();
+    let mut walk = Walk::new(job.alloc, paths, job.arguments.patterns.as_slice())?;
     let all = walk_all(job, &mut walk, tree, input, report)?;
     if !all {
         return Ok(None);
     }
+    let rules = unmatched_rules(job, &walk, report.faulty())?;
     let files = walk.finish()?;
     if files.is_empty() && !job.arguments.from_input {
         if 0 < report.faulty() {
@@ -45,7 +61,30 @@ pub(crate) fn find_files<T: Tree, R: Read, E: Write>(
         report.line(&[b"No file matches"]);
         return Ok(None);
     }
-    Ok(Some(files))
+    Ok(Some(Walked { files, rules }))
+}
+
+/// Returns the arguments of `-g` that matched nothing, each between quotes; none after a fault, or
+/// if the paths come from the input.
+///
+/// # Errors
+/// Fails if memory runs out.
+fn unmatched_rules(
+    job: &Job<'_>,
+    walk: &Walk<'_>,
+    faults: usize,
+) -> Result<Vec<Vec<u8>>, AllocError>
+    ensures faulty { IfOk result (λ rules. 0 < faults → rules.items ≡ []) }
+    ensures input { IfOk result (λ rules.
+        job.now.arguments.now.from_input ≡ true → rules.items ≡ []) }
+    ensures each { IfOk result (λ rules. faults ≡ 0 → job.now.arguments.now.from_input ≡ false →
+        map (λ r. r.items) rules.items ≡ map quoted
+        (unmarked_in (scope_in job.now.arguments.now).patterns walk.now.marks.items)) }
+{
+    if job.arguments.from_input || faults > 0 {
+        return Ok(Vec::new(job.alloc));
+    }
+    unmarked(job.alloc, job.arguments.patterns.as_slice(), walk.marks())
 }
 
 /// Walks over all paths that the arguments name. Returns false if the input can't be read, or if a
@@ -57,40 +96,46 @@ fn walk_all<T: Tree, R: Read, E: Write>(
     input: &mut Watched<R>,
     report: &mut Report<E>,
 ) -> Result<bool, AllocError>
-    requires patterns { walk.old.patterns.now ≡ job.now.arguments.now.patterns.items }
+    requires scope { scope_of walk.old ≡ scope_in job.now.arguments.now }
     requires found { walk.old.found.items ≡ [] }
+    requires directories { walk.old.directories.items ≡ [] }
     ensures goes_on { GoesOn (T.history tree.old) (T.history tree.new) walk.old walk.new
         report.old report.new }
     ensures walks { IfOk result (WalksAll job.now.arguments.now
         (source_of R.remaining input.old) (source_of R.remaining input.new)
         (T.history tree.old) (T.history tree.new) walk.new.found.items report.old report.new) }
+    ensures marks { IfOk result (λ all. all ≡ true → job.now.arguments.now.from_input ≡ false →
+        MarksWalk (scope_of walk.old) (T.history tree.old) (T.history tree.new)
+        walk.old.marks.items walk.new.marks.items) }
 {
     if job.arguments.from_input {
         return add_input(job.alloc, walk, tree, input, report);
     }
-    walk_paths(job.arguments.paths.as_slice(), walk, tree, report)
+    walk_paths(walk, tree, report)
 }
 
-/// Walks over paths of the command line. Returns false if one of them has a fault. Then nothing
+/// Walks over the paths of the command line. Returns false if one of them has a fault. Then nothing
 /// below the paths was looked at.
 ///
 /// # Errors
 /// Fails if memory runs out.
 pub(crate) fn walk_paths<T: Tree, E: Write>(
-    paths: &[String],
     walk: &mut Walk<'_>,
     tree: &mut T,
     report: &mut Report<E>,
 ) -> Result<bool, AllocError>
-    requires { walk.old.found.items ≡ [] }
+    requires found { walk.old.found.items ≡ [] }
+    requires directories { walk.old.directories.items ≡ [] }
     ensures goes_on { GoesOn (T.history tree.old) (T.history tree.new) walk.old walk.new
         report.old report.new }
-    ensures covers { IfOk result (λ all. all ≡ true → CoversPaths (map string_bytes paths.now)
-        (map string_bytes walk.old.patterns.now) (T.history tree.old) (T.history tree.new)
-        IsIn walk.new.found.items (0 < report.new.faulty)) }
+    ensures covers { IfOk result (λ all. all ≡ true → CoversPaths (scope_of walk.old)
+        (T.history tree.old) (T.history tree.new) IsIn walk.new.found.items
+        (0 < report.new.faulty)) }
     ensures refused { IfOk result (λ all. all ≡ false → 0 < report.new.faulty) }
+    ensures marks { IfOk result (λ all. all ≡ true → MarksWalk (scope_of walk.old)
+        (T.history tree.old) (T.history tree.new) walk.old.marks.items walk.new.marks.items) }
 {
-    for path in paths {
+    for path in walk.paths() {
         walk.start(tree, report, path.as_str())?;
     }
     if report.faulty() > 0 {

@@ -8,7 +8,7 @@ use std::io::Write;
 use ud_io::{Watched, send, send_parts};
 
 /// A line for each option.
-const OPTIONS: [&[u8]; 25] = [
+const OPTIONS: [&[u8]; 26] = [
     b"  -0            read the paths from standard input, each ended by a null byte",
     b"  -B            leave out blank lines that only stood there because of removed lines",
     b"  -b            leave removed lines blank",
@@ -16,7 +16,8 @@ const OPTIONS: [&[u8]; 25] = [
     b"  -Dsym[=val]   take a symbol as defined, as 1 or as val",
     b"  -d            print a diff of what is changed, with which patch -R undoes it",
     b"  -g pattern    select files by name, in place of the usual sources and headers; +pattern",
-    b"                selects others too, and !pattern leaves out files or directories",
+    b"                selects others too, !pattern leaves out files or directories, and",
+    b"                !pattern/ directories alone",
     b"  -h, --help    print this help",
     b"  -iDsym[=val]  as -D, and read text in sections of the symbol as plain text",
     b"  -iUsym        as -U, and read text in sections of the symbol as plain text",

@@ -1,6 +1,7 @@
 //! The last lines of a run: how many files there were of each kind, how many lines were removed,
 //! how many conditions were edited, how many still name a symbol, how many lines define one, which
-//! symbols no condition names, and how many files of other names name one.
+//! symbols no condition names, how many files of other names name one, and how many of those
+//! couldn't be searched.
 
 ghost use Rattle.std.specs.Prelude.{◌≡◌, ◌++◌, false, decimal};
 ghost use Rattle.ud_tree.specs.Reports.{Says};
@@ -8,11 +9,12 @@ ghost use Rattle.ud_tree.specs.Summaries.{TellsEnd, changes_line, summary};
 ghost use Rattle.ud_tree.specs.Summaries.{edited_line, hidden_text, plural, remaining_line};
 ghost use Rattle.ud_tree.specs.Runs.{names_of};
 ghost use Rattle.ud_tree.specs.Summaries.{removed_line, defined_line, defined_text, line_of};
-ghost use Rattle.ud_tree.specs.Summaries.{others_line};
+ghost use Rattle.ud_tree.specs.Summaries.{others_line, unnamed_lines, unsearched_line};
 
 use crate::arguments::{Arguments, Task};
 use crate::counts::Counts;
 use crate::job::Job;
+use crate::other_files::Others;
 use crate::report::Report;
 use crate::walk::Found;
 use itoa::Buffer;
@@ -20,17 +22,19 @@ use std::io::Write;
 
 /// Writes the last lines, unless the run is quiet: the counts, how many lines were removed, how
 /// many conditions were edited, how many still name a symbol, how many lines define one, which
-/// symbols no condition names, and how many of the files `others` there are.
+/// symbols no condition names, how many of the files `others` there are, and how many files of
+/// other names couldn't be searched.
 pub(crate) fn report_end<E: Write>(
     job: &Job<'_>,
     report: &mut Report<E>,
     hidden: usize,
     counts: Counts,
     faults: usize,
-    others: &[Found],
+    others: &Others,
 )
-    ensures { TellsEnd job.now.arguments.now counts faults hidden (names_of others.now)
-        report.old report.new }
+    ensures tells { TellsEnd job.now.arguments.now counts faults hidden
+        (names_of others.now.named.items) others.now.unsearched report.old report.new }
+    ensures unshown { job.now.arguments.now.quiet ≡ false → report.new.is_shown ≡ false }
 {
     if job.arguments.quiet {
         return;
@@ -40,8 +44,9 @@ pub(crate) fn report_end<E: Write>(
     report_edited(job.arguments.plan.prunes, report, counts.edits.conditions);
     report_remaining(job.arguments, report);
     report_defined(job.arguments, report);
-    report.report_unnamed();
-    report_others(report, others);
+    report_unnamed(report, faults);
+    report_others(report, others.named.as_slice());
+    report_unsearched(report, others.unsearched);
 }
 
 /// Writes the counts.
@@ -224,6 +229,18 @@ fn defined_text(listed: bool, count: usize) -> &'static [u8]
     }
 }
 
+/// Writes a line for each symbol that no condition names, unless there are faults: a file that
+/// wasn't read may name it.
+fn report_unnamed<E: Write>(report: &mut Report<E>, faults: usize)
+    ensures { report.old.is_shown ≡ false →
+        Says report.old report.new (unnamed_lines faults report.old.unnamed) }
+{
+    if faults > 0 {
+        return;
+    }
+    report.report_unnamed();
+}
+
 /// Writes how many files of other names name a symbol, if any, and the path of the first.
 fn report_others<E: Write>(report: &mut Report<E>, others: &[Found])
     ensures { report.old.is_shown ≡ false → Says report.old report.new
@@ -239,4 +256,20 @@ fn report_others<E: Write>(report: &mut Report<E>, others: &[Found])
         b" files of other names name a symbol, as ",
     );
     report_number(report, count, text, first.path.as_bytes());
+}
+
+/// Writes how many files of other names couldn't be searched, if any.
+fn report_unsearched<E: Write>(report: &mut Report<E>, count: usize)
+    ensures { report.old.is_shown ≡ false →
+        Says report.old report.new (unsearched_line count) }
+{
+    if count == 0 {
+        return;
+    }
+    let text = plural(
+        count,
+        b" file of other names could not be searched",
+        b" files of other names could not be searched",
+    );
+    report_number(report, count, text, b"");
 }

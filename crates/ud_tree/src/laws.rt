@@ -1,13 +1,17 @@
 //! What the calls of a whole run amount to: functions without a body whose contracts are theorems.
 
-ghost use Rattle.std.specs.Prelude.{◌≡◌, ◌+◌, ◌<◌, ◌^◌, false, length};
-ghost use Rattle.ud_replace.specs.Moments.{Files, AreTrue, EachCall};
+ghost use Rattle.std.specs.Prelude.{◌≡◌, ◌+◌, ◌<◌, ◌^◌, List, false, length};
+ghost use Rattle.std.specs.List.{All};
+ghost use Rattle.ud_replace.specs.Calls.{Call};
+ghost use Rattle.ud_replace.specs.Moments.{AreTrue, Files, EachCall};
 ghost use Rattle.ud_replace.specs.TextOutcomes.{TextOptions, IsPlanned};
 ghost use Rattle.ud_tree.specs.declared.arguments.Task.TheVariants.{Replace, Diff};
 ghost use Rattle.ud_tree.specs.TreeDiffs.{ShowsDiffs};
 ghost use Rattle.ud_tree.specs.TreeRuns.{Run, IsRun, IsClean};
 ghost use Rattle.ud_tree.specs.TreeMoments.{TouchesNothing, TouchesFreshOrNone};
-ghost use Rattle.ud_tree.specs.TreeMoments.{LeavesOldOrOutput};
+ghost use Rattle.ud_tree.specs.TreeMoments.{AnswersAreTrue, LeavesOldOrOutput};
+
+use crate::tree::Tree;
 
 /// If the status isn't 2, the input of `-0` was read whole, the walk has no message, and no file
 /// has an error. The output hasn't failed and is flushed, and the error stream hasn't failed. This
@@ -41,10 +45,13 @@ pub fn law_run_renames()
 {}
 
 /// If all answers are true, each file has its old bytes or the whole output for them after each
-/// call of a run. So a process killed between two calls leaves such a state. Writing into files
-/// isn't allowed here.
-pub fn law_run_old_or_new()
-    ensures { (o : TextOptions) (first : Files) (run : Run) → IsRun run →
+/// call of a run (`files`). So a process killed between two calls leaves such a state. Writing into
+/// files isn't allowed here. The answers are true if what the system answered is true (`answers`):
+/// that there is evidence for each call is a clause of `run_tree`.
+pub fn law_run_old_or_new<T: Tree>()
+    ensures files { (o : TextOptions) (first : Files) (run : Run) → IsRun run →
         IsPlanned run.args.plan o → run.args.write_into ≡ false → AreTrue first run.new →
         EachCall (LeavesOldOrOutput o first run.old) run.old run.new }
+    ensures answers { (first : Files) (calls : List Call) → ∥ All T.is_evident calls ∥₁ →
+        AnswersAreTrue T.is_evident first calls → AreTrue first calls }
 {}

@@ -30,10 +30,11 @@ mod tree;
 mod walk;
 
 pub use arguments::{ArgumentFault, Arguments, Request, Task, parse_arguments};
-pub use disk::{Disk, Facts, System, SystemFile};
+pub use disk::{Changes, Disk, Facts, Looks};
 pub use help::print_help;
 pub use job::Job;
 pub use laws::{law_run_old_or_new, law_run_reads, law_run_renames, law_run_shows, law_run_status};
+pub use patterns::faults::PatternFault;
 pub use report::{report_argument_fault, report_bad_argument, report_line};
 pub use run::run_tree;
 pub use tree::Tree;

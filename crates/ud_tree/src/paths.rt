@@ -1,10 +1,10 @@
 //! Paths: their last names, and names for new files.
 
-ghost use Rattle.std.specs.Prelude.{◌≡◌, ◌≤◌, ◌++◌, length, take, IfOk, OnOk, string_bytes};
-ghost use Rattle.ud_tree.specs.Choices.{IsBelow, is_fresh};
-ghost use Rattle.ud_tree.specs.Covering.{IsDirectoryPath};
+ghost use Rattle.std.specs.Prelude.{◌≡◌, ◌≤◌, ◌++◌, drop, length, take, IfOk, OnOk, string_bytes};
+ghost use Rattle.ud_tree.specs.Choices.{is_fresh};
 ghost use Rattle.ud_tree.specs.Paths.{escaped, escaped_byte, directory_len, fresh_end, fresh_name};
 ghost use Rattle.ud_tree.specs.Paths.{last_name};
+ghost use Rattle.ud_tree.specs.Scopes.{IsDirectoryPath};
 
 use crate::send::hex_digit;
 use std::alloc::{AllocError, Global};
@@ -64,15 +64,12 @@ pub(crate) fn directory(path: &[u8]) -> &[u8]
     &path[..directory_len(path)]
 }
 
-/// Returns what follows the first `len` bytes of a path if these end in a slash, else the path.
+/// Returns what follows the first `len` bytes of a path.
 pub(crate) fn below(path: &[u8], len: usize) -> &[u8]
-    ensures { IsBelow path.now result.now }
+    ensures { result.now ≡ drop len path.now }
 {
-    if len == 0 || len > path.len() {
-        return path;
-    }
-    if path[len - 1] != b'/' {
-        return path;
+    if len > path.len() {
+        return b"";
     }
     &path[len..]
 }
@@ -85,7 +82,7 @@ pub(crate) fn directory_path(alloc: Global, path: &str) -> Result<String, AllocE
     ensures { IfOk result (λ directory. IsDirectoryPath path.now (string_bytes directory)) }
 {
     let mut directory = String::from_str(alloc, path)?;
-    if path.ends_with('/') {
+    if path.as_bytes().ends_with(b"/") {
         return Ok(directory);
     }
     directory.push('/')?;

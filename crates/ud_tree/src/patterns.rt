@@ -8,9 +8,12 @@
 
 ghost use Rattle.std.specs.Prelude.{◌≡◌, ◌↔◌, true, false, map, string_bytes};
 ghost use Rattle.std.specs.List.{list_any};
-ghost use Rattle.ud_tree.specs.Choices.{Chooses, Decides, Fits, LeavesDirectory, as_rule, is_only};
-ghost use Rattle.ud_tree.specs.Choices.{IsVersioned, rule_of, subject};
+ghost use Rattle.ud_tree.specs.Choices.{Chooses, Decides, Fits, FitsFile, IsVersioned};
+ghost use Rattle.ud_tree.specs.Choices.{LeavesDirectory, after_sign, as_rule, effect_of, is_only};
+ghost use Rattle.ud_tree.specs.Choices.{IsUsual, MatchesOne, rule_of, subject, without_slash};
 
+pub(crate) mod faults;
+pub(crate) mod marks;
 mod matching;
 mod parts;
 
@@ -60,7 +63,7 @@ impl Effect {
     ghost use Rattle.ud_tree.specs.Choices.{chosen_by};
 
     /// Returns whether it chooses the files.
-    fn chooses(self) -> bool
+    pub(crate) fn chooses(self) -> bool
         ensures { result ≡ chosen_by self }
     {
         match self {
@@ -76,27 +79,53 @@ impl Effect {
 pub(crate) struct Rule<'a> {
     /// Its effect.
     pub effect: Effect,
+    /// True if it is one of directories alone.
+    pub directories: bool,
     /// Its pattern.
     pub pattern: &'a [u8],
+}
+
+/// Returns the effect of the rule that an argument of `-g` gives.
+pub(crate) fn effect_of(text: &[u8]) -> Effect
+    ensures { result ≡ effect_of text.now }
+{
+    match text.first() {
+        Some(b'!') => Effect::Leave,
+        Some(b'+') => Effect::Also,
+        _ => Effect::Only,
+    }
+}
+
+/// Returns an argument of `-g` without its sign, if it has one.
+pub(crate) fn after_sign(text: &[u8]) -> &[u8]
+    ensures { result.now ≡ after_sign text.now }
+{
+    match text.split_first() {
+        Some((b'!' | b'+', pattern)) => pattern,
+        _ => text,
+    }
+}
+
+/// Returns a pattern without the slash at its end, if it has one.
+fn without_slash(pattern: &[u8]) -> &[u8]
+    ensures { result.now ≡ without_slash pattern.now }
+{
+    if pattern.ends_with(b"/") {
+        &pattern[..pattern.len() - 1]
+    } else {
+        pattern
+    }
 }
 
 /// Returns the rule that an argument of `-g` gives.
 fn rule_of(text: &[u8]) -> Rule<'_>
     ensures { as_rule result ≡ rule_of text.now }
 {
-    match text.split_first() {
-        Some((b'!', pattern)) => Rule {
-            effect: Effect::Leave,
-            pattern,
-        },
-        Some((b'+', pattern)) => Rule {
-            effect: Effect::Also,
-            pattern,
-        },
-        _ => Rule {
-            effect: Effect::Only,
-            pattern: text,
-        },
+    let pattern = after_sign(text);
+    Rule {
+        effect: effect_of(text),
+        directories: pattern.ends_with(b"/"),
+        pattern: without_slash(pattern),
     }
 }
 
@@ -112,14 +141,21 @@ fn subject<'a>(pattern: &[u8], below: &'a [u8]) -> &'a [u8]
     }
 }
 
-/// Returns whether a file or a directory matches a rule.
+/// Returns whether a file or a directory matches the pattern of a rule.
 fn fits(rule: Rule<'_>, below: &[u8]) -> bool
     ensures { (result ≡ true) ↔ Fits (as_rule rule.entry) below.now }
 {
     matches(rule.pattern, subject(rule.pattern, below))
 }
 
-/// Returns whether a rule leaves out a file or a directory.
+/// Returns whether a file matches a rule. It matches none of directories alone.
+fn fits_file(rule: Rule<'_>, below: &[u8]) -> bool
+    ensures { (result ≡ true) ↔ FitsFile (as_rule rule.entry) below.now }
+{
+    !rule.directories && fits(rule, below)
+}
+
+/// Returns whether a rule leaves out a directory.
 fn leaves(rule: Rule<'_>, below: &[u8]) -> bool
     ensures { (result ≡ true) ↔
         (((as_rule rule.entry).effect ≡ Effect.Leave) × Fits (as_rule rule.entry) below.now) }
@@ -138,7 +174,7 @@ fn last_effect(patterns: &[String], below: &[u8]) -> Option<Effect>
     let mut last = None;
     for text in patterns {
         let rule = rule_of(text.as_bytes());
-        if fits(rule, below) {
+        if fits_file(rule, below) {
             last = Some(rule.effect);
         }
     }
@@ -173,14 +209,23 @@ pub(crate) fn chooses(patterns: &[String], below: &[u8]) -> bool
     }
 }
 
+/// Returns whether one of some patterns matches a name.
+fn matches_one(patterns: &[&[u8]], name: &[u8]) -> bool
+    ensures { (result ≡ true) ↔ MatchesOne (map (λ p. p.now) patterns.now) name.now }
+{
+    for pattern in patterns {
+        if matches(pattern, name) {
+            return true;
+        }
+    }
+    false
+}
+
 /// Returns whether a usual pattern chooses a file of this name, and no rule takes their place.
 fn is_usual(patterns: &[String], name: &[u8]) -> bool
-    ensures { list_any is_only (map string_bytes patterns.now) ≡ true → result ≡ false }
+    ensures { (result ≡ true) ↔ IsUsual (map string_bytes patterns.now) name.now }
 {
-    if has_only(patterns) {
-        return false;
-    }
-    USUAL.iter().any(|pattern| matches(pattern, name))
+    !has_only(patterns) && matches_one(&USUAL, name)
 }
 
 /// Returns whether a rule leaves out a directory, by its path below the path that the command line

@@ -76,7 +76,7 @@ fn change_of<E: Write>(
     report: &mut Report<E>,
 ) -> Vec<u8>
     ensures change { ShowsChange job.now.arguments.now.show_changes name.now update text.now
-        output.now result.items }
+        output.now report.new.has_lost result.items }
     ensures remaining { report.new.remaining ≡ report.old.remaining }
     ensures lost { report.old.has_lost ≡ true → report.new.has_lost ≡ true }
     ensures unnamed { report.new.unnamed ≡ report.old.unnamed }

@@ -5,12 +5,12 @@
 //! shown during the run, and removed before each message.
 
 ghost use Rattle.std.specs.Prelude.{◌≡◌, List, [], ◌++◌, true};
-ghost use Rattle.std.specs.Prelude.{encode_utf8, if◌then◌else◌, OnOk};
+ghost use Rattle.std.specs.Prelude.{codes, encode_utf8, if◌then◌else◌, OnOk};
 ghost use Rattle.std.specs.List.{flat_map};
 ghost use Rattle.unifdef.specs.RunMessages.{fault_message};
 ghost use Rattle.ud_replace.specs.Calls.{met};
 ghost use Rattle.ud_tree.specs.ArgumentMessages.{IsCut, RefusesArgument, argument_message};
-ghost use Rattle.ud_tree.specs.ArgumentMessages.{in_its_place, mode_of};
+ghost use Rattle.ud_tree.specs.ArgumentMessages.{in_its_place, mode_of, pattern_advice};
 ghost use Rattle.ud_tree.specs.Messages.{IsFailureOf, IsTextMessage, fault_line, locked_line};
 ghost use Rattle.ud_tree.specs.Reports.{KeepsScreen, ReportsOf, ReportsOne, Says, Tells, TellsOf};
 ghost use Rattle.ud_tree.specs.Reports.{counted, new_report};
@@ -19,11 +19,14 @@ ghost use Rattle.ud_io.specs.Streams.{Sends, stream_of};
 ghost use Rattle.ud_tree.specs.Summaries.{line_of};
 ghost use Rattle.ud_tree.specs.WalkMessages.{IsRefusal};
 
+mod rules;
 mod unnamed;
 
 use crate::arguments::{ArgumentFault, Arguments};
 use crate::job::Job;
 use crate::paths::{FRESH, directory, escaped, fresh_end};
+use crate::patterns::after_sign;
+use crate::patterns::faults::{PatternFault, bare, sign_of};
 use crate::send::{send_visible, send_visible_parts};
 use itoa::Buffer;
 use std::alloc::{AllocError, Global};
@@ -40,6 +43,9 @@ use unifdef::report_result;
 /// The number of files after which the line on the terminal is shown again.
 const STEP: usize = 64;
 
+/// The fault of an argument of `-g`, which follows.
+const BAD_PATTERN: &[u8] = b"Bad pattern: ";
+
 /// The fault of a file with another run's file beside it, whose path follows.
 const LOCKED: &[u8] = b"Another run is at it; if none is, remove ";
 
@@ -47,8 +53,8 @@ const LOCKED: &[u8] = b"Another run is at it; if none is, remove ";
 const SEVERAL_LINES: &[u8] =
     b"Nothing is at a path of several lines; -0 wants a NUL after each path (git ls-files -z)";
 
-/// Writes a message that isn't a fault: the program's name, the parts, and a newline. Control bytes
-/// are shown as `\x` and two hexadecimal digits.
+/// Writes a message that isn't a fault: the program's name, the parts, and a newline. Each
+/// byte of a control character is shown as `\x` and two hexadecimal digits.
 ///
 /// Makes one write, so messages of concurrent runs don't mix, unless memory runs out.
 pub fn report_line<E: Write>(alloc: Global, err: &mut Watched<E>, parts: &[&[u8]])
@@ -370,8 +376,8 @@ impl<E: Write> Report<E> {
         self.failure(path, b"Cannot be found", reason);
     }
 
-    /// Writes the fault of a file's text, as unifdef does. Unless memory runs out, control bytes of
-    /// the path are shown as `\x` and two hexadecimal digits.
+    /// Writes the fault of a file's text, as unifdef does. Unless memory runs out, the bytes
+    /// of control characters in the path are shown as `\x` and two hexadecimal digits.
     pub(crate) fn text_fault(&mut self, path: &[u8], settings: Settings, fault: RunFault)
         ensures { TellsOf (IsTextMessage path.now fault) self.old self.new }
     {
@@ -441,6 +447,9 @@ pub fn report_argument_fault<E: Write>(alloc: Global, err: &mut Watched<E>, faul
         ArgumentFault::BadMode(word) => {
             report_line(alloc, err, &[b"Bad exit mode: ", mode_of(word.as_bytes())]);
         }
+        ArgumentFault::BadPattern(word, fault) => {
+            report_bad_pattern(alloc, err, word.as_bytes(), *fault);
+        }
         ArgumentFault::BesideNames(letter) => {
             report_letter(alloc, err, b"-", *letter, b" and -s don't go together");
         }
@@ -479,6 +488,60 @@ pub fn report_argument_fault<E: Write>(alloc: Global, err: &mut Watched<E>, faul
             send_parts(err, &[USAGE]);
         }
         ArgumentFault::OutOfMemory => report_line(alloc, err, &[b"Out of memory"]),
+    }
+}
+
+/// Writes the message of a fault of an argument of `-g`.
+fn report_bad_pattern<E: Write>(
+    alloc: Global,
+    err: &mut Watched<E>,
+    text: &[u8],
+    fault: PatternFault,
+)
+    ensures { Sends (stream_of E.contents err.old) (stream_of E.contents err.new)
+        (line_of (codes "Bad pattern: " ++ text.now ++ pattern_advice fault text.now)) }
+{
+    match fault {
+        PatternFault::Empty => report_line(
+            alloc,
+            err,
+            &[
+                BAD_PATTERN,
+                text,
+                b"; no name is empty: write * for all names",
+            ],
+        ),
+        PatternFault::Anchored => report_line(
+            alloc,
+            err,
+            &[
+                BAD_PATTERN,
+                text,
+                b"; patterns are matched below each path: write ",
+                sign_of(text),
+                bare(after_sign(text)),
+            ],
+        ),
+        PatternFault::DoubleStar => report_line(
+            alloc,
+            err,
+            &[
+                BAD_PATTERN,
+                text,
+                b"; write * for **, or a name alone for any directory",
+            ],
+        ),
+        PatternFault::SlashAtEnd => report_line(
+            alloc,
+            err,
+            &[
+                BAD_PATTERN,
+                text,
+                b"; only ! takes a slash at the end: write ",
+                text,
+                b"*",
+            ],
+        ),
     }
 }
 

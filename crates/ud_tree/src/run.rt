@@ -1,7 +1,7 @@
 //! The run over all files of a tree.
 
-ghost use Rattle.std.specs.Prelude.{◌≡◌, ◌++◌, [], true, false, OnOk};
-ghost use Rattle.std.specs.List.{AllPairs};
+ghost use Rattle.std.specs.Prelude.{◌≡◌, ◌++◌, [], map, true, false, OnOk};
+ghost use Rattle.std.specs.List.{All, AllPairs};
 ghost use Rattle.ud_passes.specs.names.NameTables.{names_in, Tabulates};
 ghost use Rattle.ud_tree.specs.Messages.{TellsIf, list_message, write_message};
 ghost use Rattle.ud_tree.specs.Statuses.{tree_status};
@@ -12,7 +12,7 @@ ghost use Rattle.ud_tree.specs.Walks.{IsBefore};
 ghost use Rattle.ud_tree.specs.Writing.{WritesList, moment};
 
 use crate::arguments::{Arguments, Task};
-use crate::find_files::find_files;
+use crate::find_files::{Walked, find_files};
 use crate::job::Job;
 use crate::last_lines::report_end;
 use crate::other_files::find_others;
@@ -20,7 +20,6 @@ use crate::process_files::process_files;
 use crate::report::Report;
 use crate::send::flush;
 use crate::tree::Tree;
-use crate::walk::Found;
 use std::alloc::AllocError;
 use std::io::{Read, Write};
 use ud_engine::Watched;
@@ -50,10 +49,11 @@ pub fn run_tree<T: Tree, R: Read, W: Write, E: Write>(
     out: &mut Watched<W>,
     err: Watched<E>,
 ) -> (Watched<E>, u8)
-    ensures { RunsTree job.now
+    ensures runs { RunsTree job.now
         (source_of R.remaining input.old) (source_of R.remaining input.new)
         (moment T.history W.contents E.contents tree.old out.old err)
         (moment T.history W.contents E.contents tree.new out.new result.0) result.1 }
+    ensures evident { ∥ All T.is_evident (T.history tree.new) ∥₁ }
 {
     let mut report = Report::new(job, err);
     match find_files(job, tree, input, &mut report) {
@@ -62,48 +62,43 @@ pub fn run_tree<T: Tree, R: Read, W: Write, E: Write>(
             (report.into_stream(), EXIT_TROUBLE)
         }
         Ok(None) => (report.into_stream(), EXIT_TROUBLE),
-        Ok(Some(files)) => {
+        Ok(Some(walked)) => {
             let faults = report.faulty();
-            process_all(
-                job,
-                tree,
-                files.as_slice(),
-                faults,
-                out,
-                report.into_stream(),
-            )
+            process_all(job, tree, &walked, faults, out, report.into_stream())
         }
     }
 }
 
 /// Processes the files in order, and writes the counts. Returns the error stream after that, and
-/// the exit status. `walk_faults` is the number of faults that were reported before.
+/// the exit status. `walk_faults` is the number of faults that the walk has reported.
 fn process_all<T: Tree, W: Write, E: Write>(
     job: &Job<'_>,
     tree: &mut T,
-    files: &[Found],
+    walked: &Walked,
     walk_faults: usize,
     out: &mut Watched<W>,
     err: Watched<E>,
 ) -> (Watched<E>, u8)
-    requires { AllPairs IsBefore files.now }
+    requires { AllPairs IsBefore walked.now.files.items }
     ensures { EndsWriting job.now walk_faults
-        (moment T.history W.contents E.contents tree.old out.old err) files.now
+        (moment T.history W.contents E.contents tree.old out.old err) walked.now.files.items
+        (map (λ r. r.items) walked.now.rules.items)
         (moment T.history W.contents E.contents tree.new out.new result.0) result.1 }
 {
     let mut report = Report::new(job, err);
     report.seek_names(job);
+    let files = walked.files.as_slice();
     let mut names = Names::new(job.alloc, job.arguments.list_hidden);
     let counts = process_files(job, tree, files, out, &mut names, &mut report);
-    let others = find_others(job, tree, files, &mut report);
+    let others = find_others(job, tree, files, out, &mut report);
     let list_fault = write_lists(job, out, &mut report, &names);
     let out_fault = finish_output(out, &mut report);
     let faults = walk_faults
         .saturating_add(usize::from(list_fault))
         .saturating_add(usize::from(out_fault))
         .saturating_add(counts.faulty);
-    let others = others.as_slice();
-    report_end(job, &mut report, names.hidden(), counts, faults, others);
+    report_end(job, &mut report, names.hidden(), counts, faults, &others);
+    report.report_rules(job, walked.rules.as_slice());
     let err = report.into_stream();
     let status = status(job.arguments, err.failed(), faults, counts.changed);
     (err, status)

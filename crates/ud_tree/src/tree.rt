@@ -1,10 +1,10 @@
-//! A tree of files, as far as a walk uses it.
+//! A tree of files, as far as a walk and a search use it.
 
 ghost use Rattle.std.specs.Prelude.{◌≡◌, [], ◌∷◌, map};
-ghost use Rattle.ud_replace.specs.Calls.{walked, met, followed, listed};
+ghost use Rattle.ud_replace.specs.Calls.{walked, met, followed, listed, sampled};
 
 use std::io;
-use ud_replace::{Directory, Lookup};
+use ud_replace::{Directory, Lookup, Sample};
 
 /// A tree of files and directories, each with a path.
 ///
@@ -32,4 +32,11 @@ pub trait Tree: Directory {
 
     /// Returns why the last failed call failed.
     fn reason(&self) -> Option<io::Error>;
+
+    /// Reads a file to search it: all bytes of a text into `text`, and no more than the first ones
+    /// of any other file. Returns what was read.
+    fn sample(&mut self, name: &[u8], text: &mut Vec<u8>) -> Sample
+        requires empty { text.old.items ≡ [] }
+        ensures noted { Self.history self.new ≡
+            sampled name.now text.new.items result ∷ Self.history self.old };
 }

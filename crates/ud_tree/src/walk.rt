@@ -3,20 +3,23 @@
 //! A name that vanishes from its directory during the walk is no fault, since nothing is lost. A
 //! missing path of the command line is one.
 
-ghost use Rattle.std.specs.Prelude.{◌≡◌, ◌⊎◌, ◌<◌, ◌++◌, ◌∷◌, [], IfOk, OnOk, Bool, map};
-ghost use Rattle.std.specs.Prelude.{true, false, string_bytes, option_to_list, IfNone};
+ghost use Rattle.std.specs.Prelude.{◌≡◌, ◌↔◌, ◌⊎◌, ◌<◌, ◌++◌, ◌∷◌, [], IfOk, OnOk, Bool, map};
+ghost use Rattle.std.specs.Prelude.{true, false, length, replicate, string_bytes};
 ghost use Rattle.ud_replace.specs.Calls.{walked, listed};
 ghost use Rattle.std.specs.List.{All, AllPairs, Contains};
-ghost use Rattle.ud_tree.specs.Catching.{Catches, Grows, IsTaken};
-ghost use Rattle.ud_tree.specs.Choices.{IsSkipped};
+ghost use Rattle.ud_tree.specs.Catching.{AreRooted, Catches, Grows, IsTaken, scope_of};
+ghost use Rattle.ud_tree.specs.Choices.{LeavesOut};
 ghost use Rattle.ud_tree.specs.Covering.{IsIn};
 ghost use Rattle.ud_tree.specs.CoverParts.{AddsDirectory, Enters, Exhausts, Starts, TakesOne};
 ghost use Rattle.ud_tree.specs.CoverParts.{VisitsOne, Waits, waiting};
 ghost use Rattle.ud_tree.specs.WalkMessages.{GoesOn, ReportsNames, TellsGiven, VisitTells};
 ghost use Rattle.ud_tree.specs.Walks.{Adds, AddsNode, ArePicked, Finds, IsBefore, IsFileList};
+ghost use Rattle.ud_tree.specs.Scopes.{IsBelow, IsRooted};
+ghost use Rattle.ud_tree.specs.Unmatched.{MarksNode};
 ghost use Rattle.ud_tree.specs.Walks.{IsKept};
 
 use crate::paths::{below, directory_path, escaped};
+use crate::patterns::marks::mark;
 use crate::patterns::{chooses, is_versioned, leaves_directory};
 use crate::report::Report;
 use crate::tree::Tree;
@@ -46,35 +49,61 @@ pub(crate) struct FileAt<'a> {
     pub id: FileId,
 }
 
+/// A directory that waits to be listed.
+#[derive(Drop)]
+pub(crate) struct Waiting {
+    /// Its path, which ends in a slash.
+    path: String,
+    /// The length of the path of the command line, with its slash, with which that begins.
+    root: usize,
+}
+
 /// A walk: the files found, and the directories not listed yet.
 #[derive(Drop)]
 pub(crate) struct Walk<'w> {
     alloc: Global,
+    /// The paths of the command line.
+    paths: &'w [String],
     patterns: &'w [String],
     found: Vec<Found>,
-    /// The paths of directories, each ending in a slash.
-    directories: Vec<String>,
-    /// The number of the directories of the command line among them, which come first.
-    starts: usize,
-    /// The length of the path of such a directory, below which the walk is.
-    root: usize,
+    directories: Vec<Waiting>,
+    /// For each pattern, true if its rule applies to something that the walk met.
+    marks: Vec<bool>,
 }
 
 impl<'w> Walk<'w> {
     /// Returns a walk before its first path.
-    pub(crate) fn new(alloc: Global, patterns: &'w [String]) -> Walk<'w>
-        ensures found { result.found.items ≡ [] }
-        ensures directories { result.directories.items ≡ [] }
-        ensures patterns { result.patterns.now ≡ patterns.now }
+    ///
+    /// # Errors
+    /// Fails if memory runs out.
+    pub(crate) fn new(
+        alloc: Global,
+        paths: &'w [String],
+        patterns: &'w [String],
+    ) -> Result<Walk<'w>, AllocError>
+        ensures found { IfOk result (λ w. w.found.items ≡ []) }
+        ensures directories { IfOk result (λ w. w.directories.items ≡ []) }
+        ensures paths { IfOk result (λ w. w.paths.now ≡ paths.now) }
+        ensures patterns { IfOk result (λ w. w.patterns.now ≡ patterns.now) }
+        ensures marks { IfOk result (λ w. w.marks.items ≡ replicate (length patterns.now) false) }
     {
-        Walk {
+        let mut marks = Vec::new(alloc);
+        marks.resize(patterns.len(), false)?;
+        Ok(Walk {
             alloc,
+            paths,
             patterns,
             found: Vec::new(alloc),
             directories: Vec::new(alloc),
-            starts: 0,
-            root: 0,
-        }
+            marks,
+        })
+    }
+
+    /// Returns the paths of the command line.
+    pub(crate) fn paths(&self) -> &'w [String]
+        ensures { result.now ≡ self.now.paths.now }
+    {
+        self.paths
     }
 
     /// Begins at a path of the command line. A file is taken whatever its name. A link may name a
@@ -88,9 +117,10 @@ impl<'w> Walk<'w> {
         report: &mut Report<E>,
         path: &str,
     ) -> Result<(), AllocError>
+        requires { Contains (map string_bytes self.old.paths.now) path.now }
         ensures goes_on { GoesOn (T.history tree.old) (T.history tree.new) self.old self.new
             report.old report.new }
-        ensures starts { OnOk result (Starts (map string_bytes self.old.patterns.now)
+        ensures starts { OnOk result (Starts (scope_of self.old)
             path.now (T.history tree.old) (T.history tree.new)
             (waiting self.old) (waiting self.new) self.new.found.items report.old report.new) }
         ensures catches { OnOk result
@@ -108,8 +138,8 @@ impl<'w> Walk<'w> {
             }
         };
         match node.kind {
-            NodeKind::Directory => self.add_directory(path),
-            NodeKind::Link if tree.leads_to_directory(path) => self.add_directory(path),
+            NodeKind::Directory => self.start_directory(path),
+            NodeKind::Link if tree.leads_to_directory(path) => self.start_directory(path),
             NodeKind::Link => {
                 report.fault(path.as_bytes(), b"Is a symbolic link");
                 Ok(())
@@ -178,25 +208,43 @@ impl<'w> Walk<'w> {
         }
     }
 
-    /// Adds a directory.
-    fn add_directory(&mut self, path: &str) -> Result<(), AllocError>
+    /// Adds a directory of the command line.
+    fn start_directory(&mut self, path: &str) -> Result<(), AllocError>
+        requires { Contains (map string_bytes self.old.paths.now) path.now }
         ensures found { self.new.found.items ≡ self.old.found.items }
+        ensures marks { self.new.marks.items ≡ self.old.marks.items }
         ensures waits { OnOk result (Waits path.now (waiting self.old) (waiting self.new)) }
         ensures grows { OnOk result (Grows [] self.old self.new) }
     {
-        let directory = directory_path(self.alloc, path)?;
-        self.directories.push(directory)?;
+        let path = directory_path(self.alloc, path)?;
+        let root = path.len();
+        self.directories.push(Waiting { path, root })?;
         Ok(())
     }
 
-    /// Adds a file, if its name is chosen.
-    fn add_file(&mut self, path: &str, id: FileId) -> Result<(), AllocError>
+    /// Adds a directory below one of the command line, whose path has `root` bytes.
+    fn add_directory(&mut self, path: &str, root: usize) -> Result<(), AllocError>
+        requires { IsRooted (map string_bytes self.old.paths.now) path.now root }
+        ensures found { self.new.found.items ≡ self.old.found.items }
+        ensures marks { self.new.marks.items ≡ self.old.marks.items }
+        ensures waits { OnOk result (Waits path.now (waiting self.old) (waiting self.new)) }
+        ensures grows { OnOk result (Grows [] self.old self.new) }
+    {
+        let path = directory_path(self.alloc, path)?;
+        self.directories.push(Waiting { path, root })?;
+        Ok(())
+    }
+
+    /// Adds a file, if its path below one of the command line is chosen.
+    fn add_file(&mut self, path: &str, below: &[u8], id: FileId) -> Result<(), AllocError>
+        requires { IsBelow (map string_bytes self.old.paths.now) path.now below.now }
         ensures adds { Adds self.old.found.items path.now id self.new.found.items }
         ensures directories { self.new.directories.items ≡ self.old.directories.items }
+        ensures marks { self.new.marks.items ≡ self.old.marks.items }
         ensures grows { OnOk result (Grows [] self.old self.new) }
         ensures taken { OnOk result (IsTaken self.new path.now id) }
     {
-        if chooses(self.patterns, below(path.as_bytes(), self.root)) {
+        if chooses(self.patterns, below) {
             self.push_file(path, id)
         } else {
             Ok(())
@@ -207,6 +255,7 @@ impl<'w> Walk<'w> {
     fn push_file(&mut self, path: &str, id: FileId) -> Result<(), AllocError>
         ensures adds { Adds self.old.found.items path.now id self.new.found.items }
         ensures directories { self.new.directories.items ≡ self.old.directories.items }
+        ensures marks { self.new.marks.items ≡ self.old.marks.items }
         ensures is_in { OnOk result (IsIn self.new.found.items path.now id) }
         ensures grows { OnOk result (Grows (path.now ∷ []) self.old self.new) }
     {
@@ -221,20 +270,22 @@ impl<'w> Walk<'w> {
         &mut self,
         tree: &mut T,
         report: &mut Report<E>,
-        directory: &str,
+        directory: &Waiting,
         name: &[u8],
     ) -> Result<(), AllocError>
+        requires { IsRooted (map string_bytes self.old.paths.now)
+            (string_bytes directory.now.path) directory.now.root }
         ensures finds { Finds (T.history tree.old) (T.history tree.new) self.old.found.items
             self.new.found.items }
-        ensures told { VisitTells (directory.now ++ name.now) (T.history tree.old)
+        ensures told { VisitTells (string_bytes directory.now.path ++ name.now) (T.history tree.old)
             (T.history tree.new) report.old report.new }
-        ensures visits { OnOk result (VisitsOne (map string_bytes self.old.patterns.now)
-            directory.now name.now (T.history tree.old) (T.history tree.new)
+        ensures visits { OnOk result (VisitsOne (scope_of self.old)
+            (string_bytes directory.now.path) name.now (T.history tree.old) (T.history tree.new)
             (waiting self.old) (waiting self.new) report.old report.new) }
         ensures catches { OnOk result
             (Catches [] (T.history tree.old) (T.history tree.new) self.old self.new) }
     {
-        let mut path = String::from_str(self.alloc, directory)?;
+        let mut path = String::from_str(self.alloc, directory.path.as_str())?;
         let Ok(text) = std::str::from_utf8(name) else {
             let name = escaped(self.alloc, name)?;
             report.fault_in(path.as_bytes(), name.as_slice(), NOT_UTF8);
@@ -243,7 +294,7 @@ impl<'w> Walk<'w> {
         path.push_str(text)?;
         let whole = path.as_str();
         match tree.node(whole) {
-            Lookup::Present(node) => self.add_node(whole, name, node),
+            Lookup::Present(node) => self.add_node(whole, directory.root, name, node),
             Lookup::Absent => Ok(()),
             Lookup::Unknown => {
                 report.unknown(whole.as_bytes(), tree.reason());
@@ -252,30 +303,39 @@ impl<'w> Walk<'w> {
         }
     }
 
-    /// Returns whether to leave out a directory, with all below.
-    fn skips(&self, path: &str, name: &[u8]) -> bool
-        ensures { result ≡ true →
-            IsSkipped (map string_bytes self.now.patterns.now) path.now name.now }
+    /// Returns whether to leave out a directory, with all below, by its path below one of the
+    /// command line.
+    fn skips(&self, below: &[u8], name: &[u8]) -> bool
+        ensures { (result ≡ true) ↔
+            LeavesOut (map string_bytes self.now.patterns.now) below.now name.now }
     {
-        if is_versioned(name) {
-            return true;
-        }
-        leaves_directory(self.patterns, below(path.as_bytes(), self.root))
+        is_versioned(name) || leaves_directory(self.patterns, below)
     }
 
-    /// Adds a file or a directory. Others are left out.
-    fn add_node(&mut self, path: &str, name: &[u8], node: Node) -> Result<(), AllocError>
+    /// Adds a file or a directory below one of the command line, whose path has `root` bytes.
+    /// Others are left out.
+    fn add_node(
+        &mut self,
+        path: &str,
+        root: usize,
+        name: &[u8],
+        node: Node,
+    ) -> Result<(), AllocError>
+        requires { IsRooted (map string_bytes self.old.paths.now) path.now root }
         ensures adds { AddsNode self.old.found.items path.now node self.new.found.items }
-        ensures waits { OnOk result (AddsDirectory (map string_bytes self.old.patterns.now)
-            path.now name.now node (waiting self.old)
-            (waiting self.new)) }
+        ensures waits { OnOk result (AddsDirectory (scope_of self.old) path.now name.now node
+            (waiting self.old) (waiting self.new)) }
         ensures grows { OnOk result (Grows [] self.old self.new) }
         ensures taken { OnOk result (node.kind ≡ NodeKind.File →
             IsTaken self.new path.now node.id) }
+        ensures marks { MarksNode (scope_of self.old) path.now node.kind self.old.marks.items
+            self.new.marks.items }
     {
+        let below = below(path.as_bytes(), root);
+        mark(&mut self.marks, self.patterns, node.kind, below);
         match node.kind {
-            NodeKind::File => self.add_file(path, node.id),
-            NodeKind::Directory if !self.skips(path, name) => self.add_directory(path),
+            NodeKind::File => self.add_file(path, below, node.id),
+            NodeKind::Directory if !self.skips(below, name) => self.add_directory(path, root),
             NodeKind::Directory | NodeKind::Link | NodeKind::Other => Ok(()),
         }
     }
@@ -285,17 +345,19 @@ impl<'w> Walk<'w> {
         &mut self,
         tree: &mut T,
         report: &mut Report<E>,
-        directory: &str,
+        directory: &Waiting,
     ) -> Result<(), AllocError>
+        requires { IsRooted (map string_bytes self.old.paths.now)
+            (string_bytes directory.now.path) directory.now.root }
         ensures goes_on { GoesOn (T.history tree.old) (T.history tree.new) self.old self.new
             report.old report.new }
-        ensures enters { OnOk result (Enters (map string_bytes self.old.patterns.now)
-            directory.now (T.history tree.old) (T.history tree.new)
+        ensures enters { OnOk result (Enters (scope_of self.old)
+            (string_bytes directory.now.path) (T.history tree.old) (T.history tree.new)
             (waiting self.old) (waiting self.new) report.old report.new) }
         ensures catches { OnOk result
             (Catches [] (T.history tree.old) (T.history tree.new) self.old self.new) }
     {
-        let names = self.list_directory(tree, report, directory);
+        let names = self.list_directory(tree, report, directory.path.as_str());
         for name in names.as_slice() {
             self.visit(tree, report, directory, name.as_slice())?;
         }
@@ -325,24 +387,6 @@ impl<'w> Walk<'w> {
         names
     }
 
-    /// Takes the last directory that waits. If the command line names it, the walk goes on below
-    /// it: the directories below it come after it.
-    fn next_directory(&mut self) -> Option<String>
-        ensures items { self.old.directories.items ≡
-            self.new.directories.items ++ option_to_list result }
-        ensures none { IfNone result
-            ((self.old.directories.items ≡ []) × (self.new.directories.items ≡ [])) }
-        ensures patterns { self.new.patterns.now ≡ self.old.patterns.now }
-        ensures found { self.new.found.items ≡ self.old.found.items }
-    {
-        let directory = self.directories.pop()?;
-        if self.directories.len() < self.starts {
-            self.starts = self.directories.len();
-            self.root = directory.len();
-        }
-        Some(directory)
-    }
-
     /// Lists all directories, and the directories in them.
     ///
     /// # Errors
@@ -352,22 +396,29 @@ impl<'w> Walk<'w> {
         tree: &mut T,
         report: &mut Report<E>,
     ) -> Result<(), AllocError>
+        requires { AreRooted self.old }
         ensures goes_on { GoesOn (T.history tree.old) (T.history tree.new) self.old self.new
             report.old report.new }
-        ensures exhausts { OnOk result (Exhausts (map string_bytes self.old.patterns.now)
+        ensures exhausts { OnOk result (Exhausts (scope_of self.old)
             (T.history tree.old) (T.history tree.new)
             (waiting self.old) (waiting self.new) report.old report.new) }
         ensures catches { OnOk result
             (Catches [] (T.history tree.old) (T.history tree.new) self.old self.new) }
     {
-        self.starts = self.directories.len();
         'directories: for _entered in 0..u64::MAX {
-            let Some(directory) = self.next_directory() else {
+            let Some(directory) = self.directories.pop() else {
                 break;
             };
-            self.enter(tree, report, directory.as_str())?;
+            self.enter(tree, report, &directory)?;
         }
         Ok(())
+    }
+
+    /// Returns for each pattern whether its rule applies to something that the walk met.
+    pub(crate) fn marks(&self) -> &[bool]
+        ensures { result.now ≡ self.now.marks.items }
+    {
+        self.marks.as_slice()
     }
 
     /// Returns the files found, each once, by the first of its paths.

@@ -1,16 +1,18 @@
 //! The calls of the operating system. Each method of the two traits makes one.
 //!
-//! Contracts can't say what the operating system does, so nothing is known of the evidence here.
+//! Contracts can't say what the operating system does, so nothing is known of the evidence here,
+//! but for the number of a file that is open for writing.
 
-ghost use Rattle.std.specs.Prelude.{◌≡◌, bit_and};
+ghost use Rattle.std.specs.Prelude.{◌≡◌, ◌<ℤ◌, None, bit_and, option_map, pos};
+ghost use Rattle.std.specs.Fd.{file_raw_fd};
 ghost use Rattle.std.specs.Fs.{file_type, metadata_len, metadata_mode};
 ghost use Rattle.ud_tree.specs.Evidence.{KindOf};
 
 use crate::disk::facts::Facts;
-use crate::disk::system::{System, SystemFile};
+use crate::disk::system::{Changes, Looks};
 use std::alloc::{AllocError, Global};
 use std::fs::{self, File, Metadata, OpenFile, OpenOptions, Permissions, TryLockError};
-use std::io::{self, Read, Seek, SeekFrom, Write};
+use std::io::{self, ErrorKind, Read, Seek, SeekFrom, Write};
 use std::os::fd::{AsFd, AsRawFd};
 use std::os::unix::fs::{MetadataExt, OpenOptionsExt, PermissionsExt, fchown};
 use std::rt::Files;
@@ -20,103 +22,34 @@ use ud_replace::{FileId, FileStat, FileTime, FileVersion, Node, NodeKind};
 /// The bits of a mode that `chmod` sets.
 const MODE: u32 = 0o7777;
 
-/// A file that is open in the operating system.
+/// The number of the last standard stream.
+const STDERR: i32 = 2;
+
+/// A file that is open for writing in the operating system, too. It isn't a standard stream.
 #[derive(Drop)]
-pub struct Handle {
+pub struct Writer {
     file: File,
+    ghost apart: { pos 2 <ℤ file_raw_fd file },
 }
 
-impl Read for Handle {
-    fn read(&mut self, buf: &mut [u8]) -> io::Result<usize> {
-        self.file.read(buf)
-    }
-}
-
-impl Write for Handle {
-    fn write(&mut self, buf: &[u8]) -> io::Result<usize> {
-        self.file.write(buf)
-    }
-
-    fn flush(&mut self) -> io::Result<()> {
-        self.file.flush()
-    }
-}
-
-impl SystemFile for Handle {
-    ghost opened = { λ _ _ _. Unit {0} };
-
-    ghost updates = { λ _ _ _. Unit {0} };
-
-    ghost created = { λ _ _. Unit {0} };
-
-    ghost entered = { λ _ _. Unit {0} };
-
-    ghost shows = { λ _ _. Unit {0} };
-
-    ghost is_locked = { λ _. Unit {0} };
-
-    ghost is_lockless = { λ _. Unit {0} };
-
-    ghost is_start_of = { λ _ _. Unit {0} };
-
-    ghost owner_set = { λ _ _ _ _. Unit {0} };
-
-    ghost mode_set = { λ _ _. Unit {0} };
-
-    ghost cut_at = { λ _ _. Unit {0} };
-
-    ghost is_synced = { λ _. Unit {0} };
-
-    fn facts(&self) -> io::Result<Facts> {
-        Ok(facts_of(&self.file.metadata()?))
-    }
-
-    fn lock(&mut self) -> io::Result<bool> {
-        match self.file.try_lock() {
-            Ok(()) => Ok(true),
-            Err(TryLockError::WouldBlock) => Ok(false),
-            Err(TryLockError::Error(error)) => Err(error),
-        }
-    }
-
-    fn rewind(&mut self) -> io::Result<()> {
-        let _start = self.file.seek(SeekFrom::Start(0))?;
-        Ok(())
-    }
-
-    fn set_owner(&mut self, owner: Option<u32>, group: u32) -> io::Result<()> {
-        fchown(&self.file, owner, Some(group))
-    }
-
-    fn set_mode(&self, mode: u32) -> io::Result<()> {
-        self.file.set_permissions(Permissions::from_mode(mode))
-    }
-
-    fn cut(&self, len: u64) -> io::Result<()> {
-        self.file.set_len(len)
-    }
-
-    fn sync(&self) -> io::Result<()> {
-        self.file.sync_all()
-    }
-}
-
-impl<R: Files<File = File>> System for R {
-    type File = Handle;
+impl<R: Files<File = File>> Looks for R {
+    type File = File;
 
     type Names = R::Dir;
 
-    ghost looked = { λ _ _. Unit {0} };
-
-    ghost followed = { λ _ _. Unit {0} };
-
-    ghost numbers = { λ _ _. Unit {0} };
-
-    ghost lists = { λ _ _. Unit {0} };
-
-    ghost renamed = { λ _ _. Unit {0} };
-
-    ghost removed = { λ _. Unit {0} };
+    ghost looking = { record {
+      looked = λ _ _. Unit {0};
+      lacks = λ _. Unit {0};
+      followed = λ _ _. Unit {0};
+      unfollowed = λ _. Unit {0};
+      opened = λ _ _ _. Unit {0};
+      entered = λ _ _. Unit {0};
+      closed = λ _. Unit {0};
+      shows = λ _ _. Unit {0};
+      numbers = λ _ _. Unit {0};
+      lists = λ _ _. Unit {0};
+      unread = λ _. None;
+    } };
 
     fn look(&self, path: &str) -> io::Result<Facts> {
         Ok(facts_of(&Files::symlink_metadata(self, path)?))
@@ -126,44 +59,165 @@ impl<R: Files<File = File>> System for R {
         Ok(facts_of(&Files::metadata(self, path)?))
     }
 
-    fn open(&self, path: &str, _found: &Facts) -> io::Result<Handle> {
-        let file = fs::open(self, path)?;
-        Ok(Handle { file })
+    fn open(&self, path: &str, _found: &Facts) -> io::Result<File> {
+        fs::open(self, path)
     }
 
-    fn update(&self, path: &str, _found: &Facts) -> io::Result<Handle> {
-        let file = OpenOptions::new().read(true).write(true).open(self, path)?;
-        Ok(Handle { file })
+    fn enter(&self, path: &str) -> io::Result<File> {
+        fs::open(self, path)
     }
 
-    fn create(&self, path: &str) -> io::Result<Handle> {
-        let file = OpenOptions::new()
-            .write(true)
-            .create_new(true)
-            .mode(0o600)
-            .open(self, path)?;
-        Ok(Handle { file })
+    fn facts(&self, file: &File) -> io::Result<Facts> {
+        Ok(facts_of(&file.metadata()?))
     }
 
-    fn enter(&self, path: &str) -> io::Result<Handle> {
-        let file = fs::open(self, path)?;
-        Ok(Handle { file })
-    }
-
-    fn numbered(&self, alloc: Global, directory: &Handle) -> Result<String, AllocError> {
-        format!(in alloc; "/proc/self/fd/{}/", directory.file.as_fd().as_raw_fd())
+    fn numbered(&self, alloc: Global, directory: &File) -> Result<String, AllocError> {
+        format!(in alloc; "/proc/self/fd/{}/", directory.as_fd().as_raw_fd())
     }
 
     fn names(&self, path: &str) -> io::Result<R::Dir> {
         self.open_dir(path)
     }
 
-    fn rename(&self, _file: &Handle, from: &str, to: &str) -> io::Result<()> {
+    fn read_names(&self, names: &mut R::Dir, buffer: &mut [u8]) -> io::Result<usize> {
+        names.read(buffer)
+    }
+}
+
+impl Read for Writer {
+    fn read(&mut self, buf: &mut [u8]) -> io::Result<usize> {
+        (&self.file).read(buf)
+    }
+}
+
+impl Write for Writer {
+    fn write(&mut self, buf: &[u8]) -> io::Result<usize> {
+        (&self.file).write(buf)
+    }
+
+    fn flush(&mut self) -> io::Result<()> {
+        (&self.file).flush()
+    }
+}
+
+impl<R: Files<File = File>> Changes for R {
+    type Old = Writer;
+
+    type New = Writer;
+
+    ghost changing = { record {
+      updates = λ _ _ _. Unit {0};
+      shows = λ _ _. Unit {0};
+      locks = λ _. Unit {0};
+      looks_beside = λ _ _ _. Unit {0};
+      starts = λ _ _. Unit {0};
+      cuts = λ _ _ _. Unit {0};
+      syncs = λ _. Unit {0};
+      creates = λ _ _. Unit {0};
+      shows_new = λ _ _. Unit {0};
+      locks_new = λ _. Unit {0};
+      is_lockless = λ _. Unit {0};
+      appends = λ _ _ _ _. Unit {0};
+      sets_owner = λ _ _ _ _. Unit {0};
+      sets_mode = λ _ _. Unit {0};
+      syncs_new = λ _. Unit {0};
+      renames = λ _ _. Unit {0};
+      removes = λ _. Unit {0};
+    } };
+
+    fn update(&self, path: &str, _found: &Facts) -> io::Result<Writer> {
+        apart(OpenOptions::new().read(true).write(true).open(self, path)?)
+    }
+
+    fn old_facts(&self, file: &Writer) -> io::Result<Facts> {
+        Ok(facts_of(&file.file.metadata()?))
+    }
+
+    fn lock_old(&self, file: &mut Writer) -> io::Result<bool> {
+        lock(&file.file)
+    }
+
+    fn look_beside(&self, _file: &Writer, path: &str) -> io::Result<Facts> {
+        self.look(path)
+    }
+
+    fn rewind(&self, file: &mut Writer) -> io::Result<()> {
+        let _start = (&file.file).seek(SeekFrom::Start(0))?;
+        Ok(())
+    }
+
+    fn cut(&self, file: &mut Writer, len: u64) -> io::Result<()> {
+        file.file.set_len(len)
+    }
+
+    fn sync_old(&self, file: &Writer) -> io::Result<()> {
+        file.file.sync_all()
+    }
+
+    fn remove_left_over(&self, _file: &Writer, path: &str) -> io::Result<()> {
+        self.remove_file(path)
+    }
+
+    fn create(&self, path: &str) -> io::Result<Writer> {
+        let file = OpenOptions::new()
+            .write(true)
+            .create_new(true)
+            .mode(0o600)
+            .open(self, path)?;
+        apart(file)
+    }
+
+    fn new_facts(&self, file: &Writer) -> io::Result<Facts> {
+        Ok(facts_of(&file.file.metadata()?))
+    }
+
+    fn lock_new(&self, file: &mut Writer) -> io::Result<bool> {
+        lock(&file.file)
+    }
+
+    fn append(&self, file: &mut Writer, bytes: &[u8]) -> io::Result<usize> {
+        (&file.file).write(bytes)
+    }
+
+    fn set_owner(&self, file: &mut Writer, owner: Option<u32>, group: u32) -> io::Result<()> {
+        fchown(&file.file, owner, Some(group))
+    }
+
+    fn set_mode(&self, file: &Writer, mode: u32) -> io::Result<()> {
+        file.file.set_permissions(Permissions::from_mode(mode))
+    }
+
+    fn sync_new(&self, file: &Writer) -> io::Result<()> {
+        file.file.sync_all()
+    }
+
+    fn rename(&self, _file: &Writer, from: &str, to: &str) -> io::Result<()> {
         Files::rename(self, from, to)
     }
 
-    fn remove(&self, _file: &Handle, path: &str) -> io::Result<()> {
+    fn remove(&self, _file: &Writer, path: &str) -> io::Result<()> {
         self.remove_file(path)
+    }
+}
+
+/// Returns a file that is open for writing.
+///
+/// # Errors
+/// Fails if it has the number of a standard stream, which was closed: messages would be written
+/// into it.
+fn apart(file: File) -> io::Result<Writer> {
+    if file.as_raw_fd() <= STDERR {
+        return Err(io::Error::new(ErrorKind::Other, "a standard stream is closed"));
+    }
+    Ok(Writer { file })
+}
+
+/// Locks a file. Returns false if another run has locked it.
+fn lock(file: &File) -> io::Result<bool> {
+    match file.try_lock() {
+        Ok(()) => Ok(true),
+        Err(TryLockError::WouldBlock) => Ok(false),
+        Err(TryLockError::Error(error)) => Err(error),
     }
 }
 

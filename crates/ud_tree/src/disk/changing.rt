@@ -5,8 +5,8 @@ ghost use Rattle.ud_tree.specs.Changing.{GivesMode, GivesOwner, HasBytes, IsExcu
 ghost use Rattle.ud_tree.specs.Changing.{has_owner, mode_for};
 
 use crate::disk::facts::Facts;
-use crate::disk::system::SystemFile;
-use std::io::{self, ErrorKind};
+use crate::disk::system::Changes;
+use std::io::{self, ErrorKind, Write};
 use ud_replace::FileStat;
 
 /// The bits of a mode that permit reading, writing and running a file.
@@ -18,32 +18,36 @@ const ACCESS: u32 = 0o777;
 /// # Errors
 /// Fails if the owner, the group or the mode can't be set for another reason than that the user may
 /// not. A mode that the file has already isn't set: some file systems refuse that.
-pub(crate) fn set_mode_and_owner<F: SystemFile>(file: &mut F, like: &FileStat) -> io::Result<()>
-    ensures owner { OnOk result (GivesOwner F.shows F.owner_set like.now file.old file.new) }
-    ensures mode { OnOk result (GivesMode F.shows F.mode_set like.now file.new) }
+pub(crate) fn set_mode_and_owner<S: Changes>(
+    system: &S,
+    file: &mut S::New,
+    like: &FileStat,
+) -> io::Result<()>
+    ensures owner { OnOk result (GivesOwner S.changing like.now file.old file.new) }
+    ensures mode { OnOk result (GivesMode S.changing like.now file.new) }
 {
-    give_owner(file, like)?;
-    let now = file.facts()?;
+    give_owner(system, file, like)?;
+    let now = system.new_facts(file)?;
     let mode = mode_for(like, &now);
     if now.stat.mode == mode {
         return Ok(());
     }
-    file.set_mode(mode)
+    system.set_mode(file, mode)
 }
 
 /// Gives a file the owner and group of another one, or only the group, as the user may.
 ///
 /// # Errors
 /// Fails if they can't be set for another reason.
-fn give_owner<F: SystemFile>(file: &mut F, like: &FileStat) -> io::Result<()>
-    ensures { OnOk result (GivesOwner F.shows F.owner_set like.now file.old file.new) }
+fn give_owner<S: Changes>(system: &S, file: &mut S::New, like: &FileStat) -> io::Result<()>
+    ensures { OnOk result (GivesOwner S.changing like.now file.old file.new) }
 {
-    if has_owner(like, &file.facts()?) {
+    if has_owner(like, &system.new_facts(file)?) {
         return Ok(());
     }
-    let both = file.set_owner(Some(like.owner), like.group);
+    let both = system.set_owner(file, Some(like.owner), like.group);
     if !was_set(both)? {
-        let group = file.set_owner(None, like.group);
+        let group = system.set_owner(file, None, like.group);
         was_set(group)?;
     }
     Ok(())
@@ -91,17 +95,16 @@ fn was_set(answer: io::Result<()>) -> io::Result<bool>
     }
 }
 
-/// Writes `text` over the bytes of a file, and cuts off the rest.
-pub(crate) fn overwrite<F: SystemFile>(file: &mut F, text: &[u8]) -> io::Result<()>
-    ensures { OnOk result
-        (HasBytes F.is_start_of F.contents F.cut_at F.is_synced text.now file.new) }
+/// Writes `text` over the bytes of a file, and cuts off the rest. Then waits until that is on the
+/// disk.
+pub(crate) fn overwrite<S: Changes>(system: &S, file: &mut S::Old, text: &[u8]) -> io::Result<()>
+    ensures { OnOk result (HasBytes S.changing S.Old.contents text.now file.new) }
 {
-    file.rewind()?;
+    let Ok(len) = u64::try_from(text.len()) else {
+        return Err(io::Error::from(ErrorKind::FileTooLarge));
+    };
+    system.rewind(file)?;
     file.write_all(text)?;
-    match u64::try_from(text.len()) {
-        Ok(len) => file.cut(len)?,
-        Err(_) => return Err(io::Error::from(ErrorKind::FileTooLarge)),
-    }
-    file.sync()?;
-    Ok(())
+    system.cut(file, len)?;
+    system.sync_old(file)
 }

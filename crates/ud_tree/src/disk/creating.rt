@@ -11,16 +11,15 @@ ghost use Rattle.std.specs.Prelude.{◌≡◌, ◌⊎◌, IfOk, IfSome};
 ghost use Rattle.std.specs.IoError.{error_kind};
 ghost use Rattle.ud_tree.specs.Creating.{create_error, IsLeftOver, IsNew};
 
-use crate::disk::opening::{check_path, open_to_write};
-use crate::disk::system::{System, SystemFile};
+use crate::disk::opening::{check_same, open_to_write};
+use crate::disk::system::Changes;
 use std::io::{self, ErrorKind};
 use ud_replace::CreateError;
 
 /// Creates an empty file, which only the user may read and write, and locks it. A file left over by
 /// a run under that name is removed first.
-pub(crate) fn create_file<S: System>(system: &S, path: &str) -> io::Result<S::File>
-    ensures { IfOk result
-        (IsNew S.File.created S.File.is_locked S.File.is_lockless path.now) }
+pub(crate) fn create_file<S: Changes>(system: &S, path: &str) -> io::Result<S::New>
+    ensures { IfOk result (IsNew S.changing path.now) }
 {
     match create_new(system, path) {
         Err(error) if error.kind() == ErrorKind::AlreadyExists => {
@@ -28,7 +27,7 @@ pub(crate) fn create_file<S: System>(system: &S, path: &str) -> io::Result<S::Fi
             let Some(left) = left_over(system, path) else {
                 return Err(error);
             };
-            if system.remove(&left, path).is_err() {
+            if system.remove_left_over(&left, path).is_err() {
                 return Err(error);
             }
             create_new(system, path)
@@ -38,13 +37,12 @@ pub(crate) fn create_file<S: System>(system: &S, path: &str) -> io::Result<S::Fi
 }
 
 /// Creates a file where there is none, and locks it if the file system has locks.
-fn create_new<S: System>(system: &S, path: &str) -> io::Result<S::File>
-    ensures { IfOk result
-        (IsNew S.File.created S.File.is_locked S.File.is_lockless path.now) }
+fn create_new<S: Changes>(system: &S, path: &str) -> io::Result<S::New>
+    ensures { IfOk result (IsNew S.changing path.now) }
 {
     let mut file = system.create(path)?;
     // Another run may have taken the file for one that was left over, before it was locked.
-    match file.lock() {
+    match system.lock_new(&mut file) {
         Ok(false) => Err(io::Error::from(ErrorKind::AlreadyExists)),
         Ok(true) | Err(_) => Ok(file),
     }
@@ -52,16 +50,17 @@ fn create_new<S: System>(system: &S, path: &str) -> io::Result<S::File>
 
 /// Opens and locks a file left over by a run. `None` if a run may still use it, or if that can't be
 /// known.
-fn left_over<S: System>(system: &S, path: &str) -> Option<S::File>
-    ensures { IfSome result
-        (IsLeftOver S.looked S.File.shows S.File.is_locked path.now) }
+fn left_over<S: Changes>(system: &S, path: &str) -> Option<S::Old>
+    ensures { IfSome result (IsLeftOver S.changing path.now) }
 {
     let mut file = open_to_write(system, path).ok()?;
-    if !matches!(file.lock(), Ok(true)) {
+    if !matches!(system.lock_old(&mut file), Ok(true)) {
         return None;
     }
     // The run that had locked it may have renamed it, and then closed it.
-    match check_path(system, &file, path) {
+    let found = system.look_beside(&file, path).ok()?;
+    let shown = system.old_facts(&file).ok()?;
+    match check_same(&shown, &found) {
         Ok(()) => Some(file),
         Err(_) => None,
     }

@@ -6,64 +6,56 @@
 //! number of the open directory, through `/proc`. One directory is open at a time. To keep
 //! directories in another way, change only `compared` and `entry_of`.
 
-ghost use Rattle.std.specs.Prelude.{◌≡◌, ◌⊎◌, ◌↔◌, IfOk, IfSome, IsNone, MatchOption, OnOk};
-ghost use Rattle.std.specs.Prelude.{None, Some, false, string_bytes, true};
+ghost use Rattle.std.specs.Prelude.{◌≡◌, ◌↔◌, IfOk, IfSome, IsNone, IsSome};
+ghost use Rattle.std.specs.Prelude.{MatchOption, None, OnOk, Some, false, string_bytes, true};
 ghost use Rattle.std.specs.BTreeMap.{get_by_text};
-ghost use Rattle.ud_tree.specs.Evidence.{is_same};
-ghost use Rattle.ud_tree.specs.Meeting.{EntersAt, Follows, IsCompared, IsEntry, IsPlace, KeepsMet};
-ghost use Rattle.ud_tree.specs.Meeting.{LeadsInto, MeetsFirst, TriesProc, is_other_file};
+ghost use Rattle.std.specs.Option.{ForSome};
+ghost use Rattle.ud_tree.specs.Meeting.{Enters, IsCompared, IsEntry, IsPlace, KeepsMet, KnowsProc};
+ghost use Rattle.ud_tree.specs.Meeting.{LeadsInto, MeetsFirst, is_other_file};
+ghost use Rattle.ud_tree.specs.Paths.{slashed};
 
 use crate::disk::facts::is_same;
-use crate::disk::system::{System, SystemFile};
+use crate::disk::system::Looks;
 use crate::paths::{directory, directory_path, last_name};
 use std::alloc::Global;
 use std::collections::BTreeMap;
 use std::io::{self, ErrorKind};
 use ud_replace::FileId;
 
-/// The directory at a path.
-#[derive(Clone, Copy)]
-pub enum Met {
-    /// This one was met.
-    Is(FileId),
-    /// The user may not open it, hence it is found only by its path.
-    Closed,
-}
-
 /// A directory that names are reached in.
 #[derive(Drop)]
-pub struct Entered {
+pub(crate) struct Entered<S: Looks> {
     /// Its path, with a slash at its end.
     pub path: Vec<u8>,
+    /// The open directory; `None` if the user may not open it.
+    pub file: Option<S::File>,
     /// The path that leads into it, with a slash at its end.
     pub entry: String,
+    ghost leads: { ∥ LeadsInto S.looking path.items file (string_bytes entry) ∥₁ },
 }
 
 /// The directories that were met, and the open one.
 #[derive(Drop)]
-pub struct Directories<S: System> {
+pub struct Directories<S: Looks> {
     alloc: Global,
-    /// The directories by their paths, with a slash at the end.
-    met: BTreeMap<String, Met>,
+    /// The directories by their paths, with a slash at the end. The first one met at a path counts.
+    met: BTreeMap<String, FileId>,
     /// The last one that names were reached in.
-    entered: Option<Entered>,
-    /// That directory, unless the user may not open it.
-    opened: Option<S::File>,
+    entered: Option<Entered<S>>,
     /// True if `/proc` leads to open directories; `None` before that is tried.
     has_proc: Option<bool>,
+    ghost knows: { ∥ IfSome has_proc (KnowsProc S.looking) ∥₁ },
 }
 
-impl<S: System> Directories<S> {
+impl<S: Looks> Directories<S> {
     /// Returns the state before any directory is met.
     pub(crate) fn new(alloc: Global) -> Directories<S>
-        ensures entered { result.entered ≡ None }
-        ensures untried { result.has_proc ≡ None }
+        ensures { result.has_proc ≡ None }
     {
         Directories {
             alloc,
             met: BTreeMap::new(alloc),
             entered: None,
-            opened: None,
             has_proc: None,
         }
     }
@@ -81,12 +73,12 @@ impl<S: System> Directories<S> {
     /// Remembers which directory is at a path. The first one met there counts.
     pub(crate) fn meet(&mut self, path: &str, id: FileId) -> io::Result<()>
         ensures first { OnOk result (MeetsFirst path.now id self.old.met self.new.met) }
+        ensures met { OnOk result (IsSome (get_by_text self.new.met (slashed path.now))) }
         ensures kept { KeepsMet self.old.met self.new.met }
-        ensures entered { self.new.entered ≡ self.old.entered }
     {
         let directory = directory_path(self.alloc, path)?;
         if self.met.get(directory.as_str()).is_none() {
-            self.record(directory.as_str(), Met::Is(id))?;
+            self.record(directory.as_str(), id)?;
         }
         Ok(())
     }
@@ -94,7 +86,8 @@ impl<S: System> Directories<S> {
     /// Returns a path that leads to a name in the directory that was met, whatever takes its place.
     /// A directory that wasn't met is taken as it is now.
     pub(crate) fn place(&mut self, system: &S, name: &[u8]) -> io::Result<String>
-        ensures { IfOk result (λ path. IsPlace name.now self.new.entered (string_bytes path)) }
+        ensures place { IfOk result (λ path. IsPlace S.looking name.now (string_bytes path)) }
+        ensures kept { KeepsMet self.old.met self.new.met }
     {
         let directory = directory(name);
         let last = last_name(name);
@@ -107,19 +100,18 @@ impl<S: System> Directories<S> {
         Ok(path)
     }
 
-    /// Returns a path that leads into a directory, whose own path ends in a slash.
+    /// Returns a path that leads into a directory, whose own path ends in a slash. The directory
+    /// stays open.
     pub(crate) fn within(&mut self, system: &S, directory: &str) -> io::Result<String>
-        ensures enters { IfOk result
-            (λ path. EntersAt directory.now self.new.entered (string_bytes path)) }
-        ensures leads { IfOk result (λ path. (self.new.entered ≡ self.old.entered) ⊎
-            LeadsInto S.File.entered S.numbers directory.now self.new.opened (string_bytes path)) }
+        ensures enters { IfOk result (λ path. Enters S.looking directory.now (string_bytes path)) }
+        ensures held { IfOk result (λ path. ForSome self.new.entered (λ e.
+            (e.path.items ≡ directory.now) × (string_bytes e.entry ≡ string_bytes path))) }
         ensures kept { KeepsMet self.old.met self.new.met }
     {
         if let Some(entered) = self.entered_at(directory) {
             return Ok(String::from_str(self.alloc, entered.entry.as_str())?);
         }
         self.entered = None;
-        self.opened = None;
         let entered = self.enter(system, directory)?;
         let path = String::from_str(self.alloc, entered.entry.as_str())?;
         self.entered = Some(entered);
@@ -127,7 +119,7 @@ impl<S: System> Directories<S> {
     }
 
     /// Returns the directory that names were last reached in, if it is this one.
-    fn entered_at(&self, directory: &str) -> Option<&Entered>
+    fn entered_at(&self, directory: &str) -> Option<&Entered<S>>
         ensures { IfSome result (λ e. (self.now.entered ≡ Some e.now) ×
             (e.now.path.items ≡ directory.now)) }
     {
@@ -138,109 +130,95 @@ impl<S: System> Directories<S> {
     }
 
     /// Opens a directory, to reach names in it.
-    fn enter(&mut self, system: &S, directory: &str) -> io::Result<Entered>
+    fn enter(&mut self, system: &S, directory: &str) -> io::Result<Entered<S>>
         ensures path { IfOk result (λ e. e.path.items ≡ directory.now) }
-        ensures leads { IfOk result (λ e.
-            LeadsInto S.File.entered S.numbers directory.now self.new.opened
-            (string_bytes e.entry)) }
+        ensures compared { IfOk result
+            (λ e. IfSome e.file (IsCompared S.looking directory.now self.new.met)) }
         ensures kept { KeepsMet self.old.met self.new.met }
     {
-        let file = self.compared(system, directory)?;
-        let entry = self.entry_of(system, directory, &file)?;
         let mut path = Vec::new(self.alloc);
         path.extend_from_slice(directory.as_bytes())?;
-        self.opened = file;
-        Ok(Entered { path, entry })
+        let Some(file) = self.compared(system, directory)? else {
+            let entry = String::from_str(self.alloc, directory)?;
+            return Ok(Entered {
+                path,
+                file: None,
+                entry,
+            });
+        };
+        let entry = self.entry_of(system, directory, &file)?;
+        let file = Some(file);
+        Ok(Entered { path, file, entry })
     }
 
     /// Opens a directory, and checks that it is the one that was met. `None` if none was met there
     /// and the user may not open it: the directory of a given path needn't be listed.
     fn compared(&mut self, system: &S, directory: &str) -> io::Result<Option<S::File>>
-        ensures opened { IfOk result (λ opened. IfSome opened (λ file.
-            S.File.entered file directory.now ×
-            IsCompared S.File.shows directory.now self.new.met file)) }
+        ensures entered { IfOk result (λ opened. MatchOption opened
+            (S.looking.closed directory.now) (λ file. S.looking.entered file directory.now)) }
+        ensures compared { IfOk result
+            (λ opened. IfSome opened (IsCompared S.looking directory.now self.new.met)) }
         ensures kept { KeepsMet self.old.met self.new.met }
     {
         let met = self.met.get(directory).copied();
-        if matches!(met, Some(Met::Closed)) {
-            return Ok(None);
-        }
         let file = match system.enter(directory) {
             Ok(file) => file,
             Err(error) => {
                 if met.is_none() && error.kind() == ErrorKind::PermissionDenied {
-                    self.record(directory, Met::Closed)?;
                     return Ok(None);
                 }
                 return Err(error);
             }
         };
-        let found = file.facts()?.node.id;
+        let found = system.facts(&file)?.node.id;
         match met {
-            Some(Met::Is(id)) if is_same(id, found) => Ok(Some(file)),
+            Some(id) if is_same(id, found) => Ok(Some(file)),
             Some(_) => Err(other_file()),
             None => {
-                self.record(directory, Met::Is(found))?;
+                self.record(directory, found)?;
                 Ok(Some(file))
             }
         }
     }
 
     /// Records what was met at a directory's path for the first time.
-    fn record(&mut self, directory: &str, met: Met) -> io::Result<()>
+    fn record(&mut self, directory: &str, id: FileId) -> io::Result<()>
         requires { IsNone (get_by_text self.old.met directory.now) }
-        ensures met { OnOk result (get_by_text self.new.met directory.now ≡ Some met) }
+        ensures met { OnOk result (get_by_text self.new.met directory.now ≡ Some id) }
         ensures kept { KeepsMet self.old.met self.new.met }
-        ensures entered { self.new.entered ≡ self.old.entered }
     {
         let key = String::from_str(self.alloc, directory)?;
-        let _ = self.met.insert(key, met)?;
+        let _ = self.met.insert(key, id)?;
         Ok(())
     }
 
     /// Returns the path that leads into an open directory: by its number, or its own path without
     /// `/proc`.
-    fn entry_of(
-        &mut self,
-        system: &S,
-        directory: &str,
-        opened: &Option<S::File>,
-    ) -> io::Result<String>
-        ensures entry { IfOk result (λ path. MatchOption opened.now
-            (string_bytes path ≡ directory.now)
-            (λ file. IsEntry S.numbers directory.now self.new.has_proc file (string_bytes path))) }
-        ensures tried { OnOk result (IfSome opened.now
-            (TriesProc S.followed S.numbers S.File.shows self.old.has_proc self.new.has_proc)) }
+    fn entry_of(&mut self, system: &S, directory: &str, file: &S::File) -> io::Result<String>
+        ensures entry { IfOk result
+            (λ path. IsEntry S.looking directory.now file.now (string_bytes path)) }
         ensures met { self.new.met ≡ self.old.met }
     {
-        let Some(file) = opened else {
-            return Ok(String::from_str(self.alloc, directory)?);
-        };
         let entry = system.numbered(self.alloc, file)?;
-        if self.finds_proc(system, entry.as_str(), file) {
-            Ok(entry)
-        } else {
-            Ok(String::from_str(self.alloc, directory)?)
+        if self.finds_proc(system, entry.as_str(), file)? {
+            return Ok(entry);
         }
+        Ok(String::from_str(self.alloc, directory)?)
     }
 
     /// Returns whether `/proc` leads to open directories. A look at the first one tells.
-    fn finds_proc(&mut self, system: &S, path: &str, file: &S::File) -> bool
-        requires { S.numbers file.now path.now }
-        ensures tried { TriesProc S.followed S.numbers S.File.shows self.old.has_proc
-            self.new.has_proc file.now }
-        ensures found { self.new.has_proc ≡ Some result }
+    fn finds_proc(&mut self, system: &S, path: &str, file: &S::File) -> io::Result<bool>
+        requires { S.looking.numbers file.now path.now }
+        ensures knows { IfOk result (λ finds. ∥ KnowsProc S.looking finds ∥₁) }
+        ensures kept { IfOk result (λ finds. self.new.has_proc ≡ Some finds) }
         ensures met { self.new.met ≡ self.old.met }
     {
         if let Some(known) = self.has_proc {
-            return known;
+            return Ok(known);
         }
-        if leads_to(system, path, file) {
-            self.has_proc = Some(true);
-            return true;
-        }
-        self.has_proc = Some(false);
-        false
+        let finds = leads_to(system, path, file)?;
+        self.has_proc = Some(finds);
+        Ok(finds)
     }
 }
 
@@ -272,12 +250,14 @@ pub(crate) fn is_other_file(error: io::Error) -> bool
     matches!(error.kind(), ErrorKind::ResourceBusy) && error.raw_os_error().is_none()
 }
 
-/// Returns whether a path leads to an open directory.
-fn leads_to<S: System>(system: &S, path: &str, file: &S::File) -> bool
-    ensures { result ≡ true → Follows S.followed S.File.shows path.now file.now }
+/// Returns whether the path with the number of an open directory leads to it.
+fn leads_to<S: Looks>(system: &S, path: &str, file: &S::File) -> io::Result<bool>
+    requires { S.looking.numbers file.now path.now }
+    ensures { IfOk result (KnowsProc S.looking) }
 {
-    match (system.follow(path), file.facts()) {
-        (Ok(found), Ok(shown)) => is_same(shown.node.id, found.node.id),
-        _ => false,
+    let shown = system.facts(file)?;
+    match system.follow(path) {
+        Ok(found) => Ok(is_same(shown.node.id, found.node.id)),
+        Err(_) => Ok(false),
     }
 }

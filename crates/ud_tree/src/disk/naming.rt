@@ -1,85 +1,110 @@
 //! Names: what is at a path, the names in a directory, and other names for a file.
 
-ghost use Rattle.std.specs.Prelude.{◌≡◌, [], IfOk, OnOk, map};
-ghost use Rattle.ud_tree.specs.Naming.{At, IsListed, IsRenamed, LeadsToDirectory, Sees};
-ghost use Rattle.ud_tree.specs.Naming.{is_directory, is_proper, proper_names};
+ghost use Rattle.std.specs.Prelude.{◌≡◌, ◌≤◌, [], IfOk, IsSome, OnOk, length, map, true};
+ghost use Rattle.std.specs.BTreeMap.{get_by_text};
+ghost use Rattle.std.specs.Io.{ReadsAtMost};
+ghost use Rattle.std.specs.Io.KnownBytes.{Consumes, IsAtEnd, ReadConsumes};
+ghost use Rattle.ud_replace.specs.declared.node.Lookup.{Lookup};
+ghost use Rattle.ud_tree.specs.Meeting.{At, KeepsMet};
+ghost use Rattle.ud_tree.specs.Naming.{IsListed, IsMet, IsRenamed, LeadsToDirectory};
+ghost use Rattle.ud_tree.specs.Naming.{MeetsFound, is_directory, is_proper, proper_names};
+ghost use Rattle.ud_tree.specs.Paths.{slashed};
 
-use crate::disk::directories::{Directories, other_file};
+use crate::disk::directories::{Directories, text_of};
 use crate::disk::opening::check_path;
-use crate::disk::reading::read_blocks;
-use crate::disk::system::{System, SystemFile};
+use crate::disk::system::{Changes, Looks};
 use crate::find_files::split_paths;
+use crate::paths::directory;
 use std::alloc::{AllocError, Global};
-use std::io::{self, ErrorKind, Read};
-use ud_replace::{Node, NodeKind};
+use std::io::{self, ErrorKind};
+use ud_replace::{Lookup, NodeKind};
 
-/// The room for names in each read of a directory. The system refuses a read with less room than a
-/// name needs.
+/// The capacity of the buffer for names.
 const NAMES_BYTES: usize = 32 << 10;
 
-/// Gives the open file another name.
-pub(crate) fn rename_file<S: System>(
+/// Gives a new file another name.
+pub(crate) fn rename_file<S: Changes>(
     system: &S,
     directories: &mut Directories<S>,
-    opened: &Option<S::File>,
+    file: &S::New,
     from: &[u8],
     to: &[u8],
 ) -> io::Result<()>
-    ensures { OnOk result (IsRenamed S.renamed from.now to.now directories.new.entered) }
+    ensures { OnOk result (IsRenamed S.looking S.changing from.now to.now) }
 {
-    let Some(file) = opened else {
-        return Err(io::Error::from(ErrorKind::NotFound));
-    };
     let to = directories.place(system, to)?;
     let from = directories.place(system, from)?;
-    check_path(system, file, from.as_str())?;
-    system.rename(file, from.as_str(), to.as_str())?;
-    Ok(())
+    check_path(system, &system.new_facts(file)?, from.as_str())?;
+    system.rename(file, from.as_str(), to.as_str())
 }
 
-/// Removes the open file.
-pub(crate) fn remove_file<S: System>(
+/// Removes a new file.
+pub(crate) fn remove_file<S: Changes>(
     system: &S,
     directories: &mut Directories<S>,
-    opened: &Option<S::File>,
+    file: &S::New,
     name: &[u8],
 ) -> io::Result<()>
-    ensures { OnOk result (At name.now directories.new.entered S.removed) }
+    ensures { OnOk result (At S.looking name.now S.changing.removes) }
 {
-    let Some(file) = opened else {
-        return Err(io::Error::from(ErrorKind::NotFound));
-    };
     let path = directories.place(system, name)?;
-    check_path(system, file, path.as_str())?;
-    system.remove(file, path.as_str())?;
-    Ok(())
+    check_path(system, &system.new_facts(file)?, path.as_str())?;
+    system.remove(file, path.as_str())
 }
 
 /// Returns what is at a path, without following a link. If it is a directory, records it as met.
-pub(crate) fn node_at<S: System>(
+///
+/// # Errors
+/// Fails if that can't be known. If the path's directory isn't there, nothing is at the path.
+pub(crate) fn node_at<S: Looks>(
     system: &S,
     directories: &mut Directories<S>,
     path: &str,
-) -> io::Result<Node>
-    ensures { IfOk result (λ node. At path.now directories.new.entered (Sees S.looked node)) }
+) -> io::Result<Lookup>
+    ensures found { IfOk result (IsMet S.looking path.now) }
+    ensures met { IfOk result (λ answer. MeetsFound path.now answer directories.new.met) }
+    ensures kept { KeepsMet directories.old.met directories.new.met }
 {
-    let place = directories.place(system, path.as_bytes())?;
-    let node = system.look(place.as_str())?.node;
-    if !is_directory(node.kind) {
-        return Ok(node);
+    let place = match directories.place(system, path.as_bytes()) {
+        Ok(place) => place,
+        Err(error) => return absent_or(system, directory(path.as_bytes()), error),
+    };
+    let node = match system.look(place.as_str()) {
+        Ok(found) => found.node,
+        Err(error) if error.kind() == ErrorKind::NotFound => return Ok(Lookup::Absent),
+        Err(error) => return Err(error),
+    };
+    if is_directory(node.kind) {
+        directories.meet(path, node.id)?;
     }
-    directories.meet(path, node.id)?;
-    Ok(node)
+    Ok(Lookup::Present(node))
+}
+
+/// Returns that nothing is at a path, if its directory isn't there. Else fails as before.
+fn absent_or<S: Looks>(system: &S, directory: &[u8], error: io::Error) -> io::Result<Lookup>
+    ensures { IfOk result
+        (λ answer. (answer ≡ Lookup.Absent) × S.looking.lacks directory.now) }
+{
+    if error.kind() != ErrorKind::NotFound {
+        return Err(error);
+    }
+    match system.look(text_of(directory)?) {
+        Err(again) if again.kind() == ErrorKind::NotFound => Ok(Lookup::Absent),
+        _ => Err(error),
+    }
 }
 
 /// Returns whether a path leads to a directory. If so, records it as met.
-pub(crate) fn leads_to_directory<S: System>(
+pub(crate) fn leads_to_directory<S: Looks>(
     system: &S,
     directories: &mut Directories<S>,
     path: &str,
 ) -> io::Result<bool>
-    ensures { IfOk result (λ answer.
-        At path.now directories.new.entered (LeadsToDirectory S.followed answer)) }
+    ensures leads { IfOk result (λ answer. At S.looking path.now
+        (LeadsToDirectory S.looking answer)) }
+    ensures met { IfOk result (λ answer. answer ≡ true →
+        IsSome (get_by_text directories.new.met (slashed path.now))) }
+    ensures kept { KeepsMet directories.old.met directories.new.met }
 {
     let place = directories.place(system, path.as_bytes())?;
     let node = system.follow(place.as_str())?.node;
@@ -91,7 +116,7 @@ pub(crate) fn leads_to_directory<S: System>(
 }
 
 /// Appends the names in a directory, whose path ends in a slash.
-pub(crate) fn list_directory<S: System>(
+pub(crate) fn list_directory<S: Looks>(
     system: &S,
     directories: &mut Directories<S>,
     alloc: Global,
@@ -99,15 +124,55 @@ pub(crate) fn list_directory<S: System>(
     names: &mut Vec<Vec<u8>>,
 ) -> io::Result<()>
     requires empty { names.old.items ≡ [] }
-    ensures { OnOk result (IsListed S.lists S.Names.remaining directory.now directories.new.entered
-        (map (λ n. n.items) names.new.items)) }
+    ensures { OnOk result (IsListed S.looking directory.now (map (λ n. n.items) names.new.items)) }
 {
     let place = directories.within(system, directory)?;
     let mut packed = Vec::new(alloc);
     let mut listed = system.names(place.as_str())?;
-    read_blocks(&mut listed, NAMES_BYTES, &mut packed)?;
+    read_names(system, &mut listed, &mut packed)?;
     *names = proper_names(alloc, packed.as_slice())?;
     Ok(())
+}
+
+/// Reads the names that weren't read yet, each ended by a NUL.
+///
+/// # Errors
+/// Fails if a read fails, or if memory runs out.
+fn read_names<S: Looks>(system: &S, names: &mut S::Names, packed: &mut Vec<u8>) -> io::Result<()>
+    requires empty { packed.old.items ≡ [] }
+    ensures consumed { OnOk result (Consumes (S.looking.unread names.old)
+        (S.looking.unread names.new) packed.new.items) }
+    ensures ended { OnOk result (IsAtEnd (S.looking.unread names.new)) }
+{
+    let mut buffer = [0u8; NAMES_BYTES];
+    for _block in 0..u64::MAX {
+        let count = read_some_names(system, names, &mut buffer)?;
+        if count == 0 {
+            return Ok(());
+        }
+        packed.extend_from_slice(&buffer[..count])?;
+    }
+    unreachable!()
+}
+
+/// Does what `read_names` of the system does, and again if that was interrupted.
+fn read_some_names<S: Looks>(
+    system: &S,
+    names: &mut S::Names,
+    buffer: &mut [u8],
+) -> io::Result<usize>
+    requires whole { 4096 ≤ length buffer.old }
+    ensures bound { ReadsAtMost result buffer.new }
+    ensures bytes { ReadConsumes (S.looking.unread names.old) (S.looking.unread names.new) result
+        buffer.new }
+{
+    for _try in 0..u64::MAX {
+        match system.read_names(names, buffer) {
+            Err(error) if error.kind() == ErrorKind::Interrupted => {}
+            answer => return answer,
+        }
+    }
+    Err(io::Error::from(ErrorKind::Interrupted))
 }
 
 /// Returns names that are each ended by a NUL, without those of the directory itself and its

@@ -1,77 +1,76 @@
 //! Opens files, and reads them.
 
 ghost use Rattle.std.specs.Prelude.{◌≡◌, [], IfOk, OnOk, is_ok};
-ghost use Rattle.ud_tree.specs.Evidence.{LeadsTo, is_same};
 ghost use Rattle.ud_replace.specs.declared.node.NodeKind.{NodeKind};
+ghost use Rattle.ud_tree.specs.Evidence.{Finds, is_same};
 ghost use Rattle.ud_tree.specs.Opening.{IsFound, IsRead, IsReadAgain, OpensToWrite, Shows};
 
 use crate::disk::directories::other_file;
 use crate::disk::facts::{Facts, is_same};
 use crate::disk::reading::read_text;
-use crate::disk::system::{System, SystemFile};
+use crate::disk::system::{Changes, Looks};
 use std::io::{self, ErrorKind};
 use ud_replace::FileStat;
 
 /// Reads a regular file, and returns the facts about it from before. The opened file is the one
 /// that was looked at, even if another file has its name by then.
-pub(crate) fn read_file<S: System>(
+pub(crate) fn read_file<S: Looks>(
     system: &S,
     path: &str,
     text: &mut Vec<u8>,
 ) -> io::Result<FileStat>
     requires empty { text.old.items ≡ [] }
-    ensures { IfOk result (λ stat. IsRead S.File.opened S.File.shows S.File.remaining path.now
-        text.new.items stat) }
+    ensures { IfOk result (IsRead S.looking S.File.remaining path.now text.new.items) }
 {
     let found = system.look(path)?;
     let stat = found.regular()?;
     let mut file = system.open(path, &found)?;
-    check_same(&file.facts()?, &found)?;
+    check_same(&system.facts(&file)?, &found)?;
     read_text(&mut file, stat.version.size, text)?;
     Ok(stat)
 }
 
 /// Does what `read_file` does, with a file that is open already. If another file has its name now,
 /// opens that one. So a pipe with that name isn't waited for.
-pub(crate) fn read_again<S: System>(
+pub(crate) fn read_again<S: Changes>(
     system: &S,
     path: &str,
-    file: &mut S::File,
+    file: &mut S::Old,
     text: &mut Vec<u8>,
 ) -> io::Result<FileStat>
     requires empty { text.old.items ≡ [] }
-    ensures { IfOk result (λ stat. IsReadAgain S.looked S.File.shows S.File.is_start_of
-        S.File.remaining path.now text.new.items stat) }
+    ensures { IfOk result
+        (IsReadAgain S.looking S.changing S.Old.remaining path.now text.new.items) }
 {
     let found = system.look(path)?;
     let stat = found.regular()?;
     reopen(system, path, &found, file)?;
-    file.rewind()?;
+    system.rewind(file)?;
     read_text(file, stat.version.size, text)?;
     Ok(stat)
 }
 
 /// Opens a file again if another one was found at its path.
-fn reopen<S: System>(system: &S, path: &str, found: &Facts, file: &mut S::File) -> io::Result<()>
+fn reopen<S: Changes>(system: &S, path: &str, found: &Facts, file: &mut S::Old) -> io::Result<()>
     requires regular { found.now.node.kind ≡ NodeKind.File }
-    requires looked { S.looked path.now found.now }
-    ensures { OnOk result (Shows S.File.shows found.now file.new) }
+    requires looked { S.looking.looked path.now found.now }
+    ensures { OnOk result (Shows S.changing.shows found.now file.new) }
 {
-    if is_same(file.facts()?.node.id, found.node.id) {
+    if is_same(system.old_facts(file)?.node.id, found.node.id) {
         return Ok(());
     }
     *file = system.update(path, found)?;
-    check_same(&file.facts()?, found)
+    check_same(&system.old_facts(file)?, found)
 }
 
 /// Opens a regular file for reading and writing, and keeps its bytes.
-pub(crate) fn open_to_write<S: System>(system: &S, path: &str) -> io::Result<S::File>
-    ensures { IfOk result (OpensToWrite S.looked S.File.shows S.File.updates path.now) }
+pub(crate) fn open_to_write<S: Changes>(system: &S, path: &str) -> io::Result<S::Old>
+    ensures { IfOk result (OpensToWrite S.looking S.changing path.now) }
 {
     let found = system.look(path)?;
     let _ = found.regular()?;
     let file = system.update(path, &found)?;
-    let shown = file.facts()?;
+    let shown = system.old_facts(&file)?;
     if is_same(shown.node.id, found.node.id) {
         return Ok(file);
     }
@@ -81,22 +80,22 @@ pub(crate) fn open_to_write<S: System>(system: &S, path: &str) -> io::Result<S::
 }
 
 /// Returns the facts about a regular file, without following a link.
-pub(crate) fn look_at<S: System>(system: &S, path: &str) -> io::Result<FileStat>
-    ensures { IfOk result (IsFound S.looked path.now) }
+pub(crate) fn look_at<S: Looks>(system: &S, path: &str) -> io::Result<FileStat>
+    ensures { IfOk result (IsFound S.looking path.now) }
 {
     system.look(path)?.regular()
 }
 
-/// Checks that a look at a path finds an open file. Another program may have put another file
-/// there.
+/// Checks that a look at a path finds the file with these facts. Another program may have put
+/// another file there.
 ///
 /// # Errors
 /// Fails if it doesn't, or if that can't be known.
-pub(crate) fn check_path<S: System>(system: &S, file: &S::File, path: &str) -> io::Result<()>
-    ensures { OnOk result (LeadsTo S.looked S.File.shows path.now file.now) }
+pub(crate) fn check_path<S: Looks>(system: &S, shown: &Facts, path: &str) -> io::Result<()>
+    ensures { OnOk result (Finds S.looking path.now shown.now) }
 {
     match system.look(path) {
-        Ok(found) => check_same(&file.facts()?, &found),
+        Ok(found) => check_same(shown, &found),
         Err(error) if error.kind() == ErrorKind::NotFound => Err(other_file()),
         Err(error) => Err(error),
     }
@@ -106,7 +105,7 @@ pub(crate) fn check_path<S: System>(system: &S, file: &S::File, path: &str) -> i
 ///
 /// # Errors
 /// Fails if they are about another one.
-fn check_same(shown: &Facts, found: &Facts) -> io::Result<()>
+pub(crate) fn check_same(shown: &Facts, found: &Facts) -> io::Result<()>
     ensures { is_ok result ≡ is_same shown.now.node.id found.now.node.id }
 {
     if is_same(shown.node.id, found.node.id) {

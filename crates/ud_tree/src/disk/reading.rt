@@ -1,9 +1,10 @@
 //! Reads the bytes of a file.
 
-ghost use Rattle.std.specs.Prelude.{◌≡◌, ◌<◌, [], IfOk, OnOk, OnErr, false, is_err};
-ghost use Rattle.std.specs.Io.KnownBytes.{Consumes, IsAtEnd, Keeps};
+ghost use Rattle.std.specs.Prelude.{◌≡◌, ◌<◌, ◌≤◌, [], IfOk, OnOk, OnErr, false, is_err};
+ghost use Rattle.std.specs.Io.{ReadsAtMost};
+ghost use Rattle.std.specs.Io.KnownBytes.{Keeps, ReadConsumes};
 ghost use Rattle.ud_tree.specs.Reading.{begins_section, ends_in_long_line, has_bad_mark};
-ghost use Rattle.ud_tree.specs.Reading.{ReadsAll, ReadsBlock};
+ghost use Rattle.ud_tree.specs.Reading.{is_utf16, ReadsAll, ReadsBlock};
 
 use std::io::{self, ErrorKind, Read};
 use ud_model::LINE_BYTES;
@@ -41,11 +42,7 @@ fn read_bytes<F: Read>(file: &mut F, size: u64, text: &mut Vec<u8>) -> io::Resul
     // A block is larger than the file, so a read that ends at its size was cut by its end.
     let block = size.clamp(SMALL_BLOCK_BYTES, BLOCK_BYTES) as usize + 1;
     for _block in 0..u64::MAX {
-        let count = match read_block(file, block, text) {
-            Ok(count) => count,
-            Err(error) if error.kind() == ErrorKind::Interrupted => continue,
-            Err(error) => return Err(error),
-        };
+        let count = read_block(file, block, text)?;
         if count == 0 || (count < block && text.len() as u64 == size) {
             return Ok(());
         }
@@ -53,38 +50,17 @@ fn read_bytes<F: Read>(file: &mut F, size: u64, text: &mut Vec<u8>) -> io::Resul
             return Err(io::Error::new(ErrorKind::FileTooLarge, "line too long"));
         }
     }
-    Err(io::Error::from(ErrorKind::FileTooLarge))
+    unreachable!()
 }
 
-/// Reads the rest of a reader, with room for `block` bytes in each read.
-///
-/// # Errors
-/// Fails if a read fails, unless it was interrupted.
-pub(crate) fn read_blocks<F: Read>(
-    reader: &mut F,
+/// Appends at most `block` bytes of a file by one read that isn't interrupted. Returns how many.
+pub(crate) fn read_block<F: Read>(
+    file: &mut F,
     block: usize,
-    bytes: &mut Vec<u8>,
-) -> io::Result<()>
+    text: &mut Vec<u8>,
+) -> io::Result<usize>
     requires some { 0 < block }
-    requires empty { bytes.old.items ≡ [] }
-    ensures consumed { OnOk result
-        (Consumes (F.remaining reader.old) (F.remaining reader.new) bytes.new.items) }
-    ensures ended { OnOk result (IsAtEnd (F.remaining reader.new)) }
-{
-    for _block in 0..u64::MAX {
-        match read_block(reader, block, bytes) {
-            Ok(0) => return Ok(()),
-            Ok(_) => {}
-            Err(error) if error.kind() == ErrorKind::Interrupted => {}
-            Err(error) => return Err(error),
-        }
-    }
-    Err(io::Error::from(ErrorKind::FileTooLarge))
-}
-
-/// Appends at most `block` bytes of a file by one read. Returns how many.
-fn read_block<F: Read>(file: &mut F, block: usize, text: &mut Vec<u8>) -> io::Result<usize>
-    requires some { 0 < block }
+    ensures bounded { IfOk result (λ count. count ≤ block) }
     ensures reads { IfOk result (ReadsBlock (F.remaining file.old) (F.remaining file.new)
         text.old.items text.new.items) }
     ensures kept { OnErr result (text.new.items ≡ text.old.items) }
@@ -92,7 +68,7 @@ fn read_block<F: Read>(file: &mut F, block: usize, text: &mut Vec<u8>) -> io::Re
 {
     let before = text.len();
     text.resize(before.saturating_add(block), 0)?;
-    match file.read(&mut text.as_mut_slice()[before..]) {
+    match read_retrying(file, &mut text.as_mut_slice()[before..]) {
         Ok(count) => {
             text.truncate(before + count);
             Ok(count)
@@ -102,6 +78,20 @@ fn read_block<F: Read>(file: &mut F, block: usize, text: &mut Vec<u8>) -> io::Re
             Err(error)
         }
     }
+}
+
+/// Reads once, and again if that was interrupted.
+fn read_retrying<F: Read>(file: &mut F, buffer: &mut [u8]) -> io::Result<usize>
+    ensures bound { ReadsAtMost result buffer.new }
+    ensures bytes { ReadConsumes (F.remaining file.old) (F.remaining file.new) result buffer.new }
+{
+    for _try in 0..u64::MAX {
+        match file.read(buffer) {
+            Err(error) if error.kind() == ErrorKind::Interrupted => {}
+            answer => return answer,
+        }
+    }
+    Err(io::Error::from(ErrorKind::Interrupted))
 }
 
 /// Returns whether the last line of a text is over the limit.
@@ -119,7 +109,7 @@ fn ends_in_long_line(text: &[u8]) -> bool
 fn check_marks(text: &[u8]) -> io::Result<()>
     ensures { is_err result ≡ has_bad_mark text.now }
 {
-    if text.starts_with(b"\xff\xfe") || text.starts_with(b"\xfe\xff") {
+    if is_utf16(text) {
         return Err(io::Error::new(ErrorKind::InvalidData, "text in UTF-16"));
     }
     if text.starts_with(b"\xef\xbb\xbf") && begins_section(&text[3..]) {
@@ -127,6 +117,13 @@ fn check_marks(text: &[u8]) -> io::Result<()>
         return Err(io::Error::new(ErrorKind::InvalidData, reason));
     }
     Ok(())
+}
+
+/// Returns whether a text begins with a byte order mark of UTF-16.
+pub(crate) fn is_utf16(text: &[u8]) -> bool
+    ensures { result ≡ is_utf16 text.now }
+{
+    text.starts_with(b"\xff\xfe") || text.starts_with(b"\xfe\xff")
 }
 
 /// Returns whether a text begins with `#if`, `#ifdef` or `#ifndef`, perhaps with white space beside

@@ -5,149 +5,174 @@
 //! led to a result. A call that could do harm requires the evidence that makes it safe: a file is
 //! opened after a look at its path, and a name is moved or removed after a look at it found the
 //! open file.
+//!
+//! What is generic over `Looks` changes no file: what it opens can only be read.
 
-ghost use Rattle.std.specs.Prelude.{◌≡◌, ℕ, List, Option, Result, IfOk, OnOk};
+ghost use Rattle.std.specs.Prelude.{◌≡◌, ◌≤◌, ◌<◌, IfErr, IfOk, IfSome, OnErr, OnOk, length};
 ghost use Rattle.std.specs.Prelude.{MatchResult, string_bytes, true};
-ghost use Rattle.std.specs.declared.io.Error.{Error};
+ghost use Rattle.std.specs.IoError.{error_kind};
+ghost use Rattle.std.specs.Io.{ReadsAtMost};
+ghost use Rattle.std.specs.Io.KnownBytes.{ReadConsumes};
 ghost use Rattle.ud_replace.specs.declared.node.NodeKind.{NodeKind};
-ghost use Rattle.ud_tree.specs.declared.disk.facts.Facts.{Facts};
-ghost use Rattle.ud_tree.specs.Evidence.{LeadsTo};
+ghost use Rattle.ud_tree.specs.Creating.{IsLeftOver};
+ghost use Rattle.ud_tree.specs.Evidence.{Changing, LeadsTo, Looking};
 
 use crate::disk::facts::Facts;
 use std::alloc::{AllocError, Global};
-use std::io::{self, Read, Write};
+use std::io::{self, ErrorKind, Read, Write};
 use ud_replace::NodeKind;
 
-/// An open file. What is known of it may no longer hold after a call that takes it as `&mut`.
-pub trait SystemFile: Read + Write {
-    /// It was opened for reading, at this path, after a look found these facts.
-    ghost opened: { Self → List ℕ → Facts → Type 0 };
-    /// It was opened for reading and writing, likewise.
-    ghost updates: { Self → List ℕ → Facts → Type 0 };
-    /// It was created at this path.
-    ghost created: { Self → List ℕ → Type 0 };
-    /// It is a directory that was opened at this path.
-    ghost entered: { Self → List ℕ → Type 0 };
-    /// These were the facts about it.
-    ghost shows: { Self → Facts → Type 0 };
-    /// This run has locked it.
-    ghost is_locked: { Self → Type 0 };
-    /// Its file system has no locks.
-    ghost is_lockless: { Self → Type 0 };
-    /// The second one is the first one at its start.
-    ghost is_start_of: { Self → Self → Type 0 };
-    /// Setting this owner, if any, and this group was answered so.
-    ghost owner_set: { Self → Option ℕ → ℕ → Result Unit Error → Type 0 };
-    /// This mode was set.
-    ghost mode_set: { Self → ℕ → Type 0 };
-    /// It was cut off after so many bytes.
-    ghost cut_at: { Self → ℕ → Type 0 };
-    /// Its bytes are on the disk.
-    ghost is_synced: { Self → Type 0 };
+/// The calls that only look at files. No call but `follow` returns the facts about what a link at
+/// the end of a path leads to.
+pub trait Looks {
+    /// A file or a directory that is open for reading.
+    type File: Read + Drop;
+
+    /// The names in a directory.
+    type Names: Drop;
+
+    /// The evidence of these calls.
+    ghost looking: { Looking Self.File Self.Names };
+
+    /// Returns the facts about what is at a path.
+    fn look(&self, path: &str) -> io::Result<Facts>
+        ensures found { IfOk result (looking.looked path.now) }
+        ensures nothing { IfErr result
+            (λ e. error_kind e ≡ ErrorKind.NotFound → looking.lacks path.now) };
+
+    /// Returns the facts about what a path leads to, if it is a link.
+    fn follow(&self, path: &str) -> io::Result<Facts>
+        ensures found { IfOk result (looking.followed path.now) }
+        ensures failed { OnErr result (looking.unfollowed path.now) };
+
+    /// Opens a regular file for reading.
+    fn open(&self, path: &str, found: &Facts) -> io::Result<Self::File>
+        requires regular { found.now.node.kind ≡ NodeKind.File }
+        requires looked { looking.looked path.now found.now }
+        ensures { IfOk result (λ file. looking.opened file path.now found.now) };
+
+    /// Opens a directory.
+    fn enter(&self, path: &str) -> io::Result<Self::File>
+        ensures entered { IfOk result (λ file. looking.entered file path.now) }
+        ensures closed { IfErr result
+            (λ e. error_kind e ≡ ErrorKind.PermissionDenied → looking.closed path.now) };
+
+    /// Returns the facts about an open file or directory.
+    fn facts(&self, file: &Self::File) -> io::Result<Facts>
+        ensures { IfOk result (looking.shows file.now) };
+
+    /// Returns the path that leads into an open directory by its number, with a slash at its end.
+    fn numbered(&self, alloc: Global, directory: &Self::File) -> Result<String, AllocError>
+        ensures { IfOk result (λ path. looking.numbers directory.now (string_bytes path)) };
+
+    /// Returns the names in a directory.
+    fn names(&self, path: &str) -> io::Result<Self::Names>
+        ensures { IfOk result (λ names. looking.lists names path.now) };
+
+    /// Reads names, each ended by a NUL. Returns the number of bytes; 0 if there are no more names.
+    /// The system refuses a buffer that a whole name may not fit into.
+    fn read_names(&self, names: &mut Self::Names, buffer: &mut [u8]) -> io::Result<usize>
+        requires whole { 4096 ≤ length buffer.old }
+        ensures bound { ReadsAtMost result buffer.new }
+        ensures bytes { ReadConsumes (looking.unread names.old) (looking.unread names.new) result
+            buffer.new };
+}
+
+/// The calls that change files. A file that was there and a new one are of different types: a new
+/// file is renamed, and one that was there is written into.
+pub trait Changes: Looks {
+    /// A file that was there, open for reading and writing.
+    type Old: Read + Write + Drop;
+
+    /// A file that `create` made.
+    type New: Drop;
+
+    /// The evidence of these calls. What is known of a file may no longer hold after a call that
+    /// takes it as `&mut`.
+    ghost changing: { Changing Self.Old Self.New };
+
+    /// Opens a regular file for reading and writing, and keeps its bytes. Opened for writing alone,
+    /// a pipe would wait for a reader.
+    fn update(&self, path: &str, found: &Facts) -> io::Result<Self::Old>
+        requires regular { found.now.node.kind ≡ NodeKind.File }
+        requires looked { Self.looking.looked path.now found.now }
+        ensures { IfOk result (λ file. changing.updates file path.now found.now) };
 
     /// Returns the facts about the file.
-    fn facts(&self) -> io::Result<Facts>
-        ensures { IfOk result (shows self.now) };
+    fn old_facts(&self, file: &Self::Old) -> io::Result<Facts>
+        ensures { IfOk result (changing.shows file.now) };
 
     /// Locks the file until it is closed. Returns whether that was done: false if another run has
     /// locked it.
     ///
     /// # Errors
     /// Fails if the file system has no locks.
-    fn lock(&mut self) -> io::Result<bool>
-        ensures created { (path : List ℕ) → created self.old path → created self.new path }
-        ensures locked { MatchResult result (λ locked. locked ≡ true → is_locked self.new)
-            (λ _. is_lockless self.new) };
+    fn lock_old(&self, file: &mut Self::Old) -> io::Result<bool>
+        ensures { IfOk result (λ locked. locked ≡ true → changing.locks file.new) };
+
+    /// Returns the facts about what is at a path, while the file is open.
+    fn look_beside(&self, file: &Self::Old, path: &str) -> io::Result<Facts>
+        ensures { IfOk result (changing.looks_beside file.now path.now) };
 
     /// Goes back to the start of the file. Bytes are written over its own from there on.
-    fn rewind(&mut self) -> io::Result<()>
-        ensures { OnOk result (is_start_of self.new self.old) };
+    fn rewind(&self, file: &mut Self::Old) -> io::Result<()>
+        ensures { OnOk result (changing.starts file.new file.old) };
 
-    /// Sets the owner, if any, and the group.
-    fn set_owner(&mut self, owner: Option<u32>, group: u32) -> io::Result<()>
-        ensures { owner_set self.new owner group result };
+    /// Cuts off what follows the first `len` bytes.
+    fn cut(&self, file: &mut Self::Old, len: u64) -> io::Result<()>
+        ensures { OnOk result (changing.cuts file.old len file.new) };
 
-    /// Sets the mode.
-    fn set_mode(&self, mode: u32) -> io::Result<()>
-        ensures { OnOk result (mode_set self.now mode) };
+    /// Waits until the bytes of the file are on the disk.
+    fn sync_old(&self, file: &Self::Old) -> io::Result<()>
+        ensures { OnOk result (changing.syncs file.now) };
 
-    /// Makes the file so many bytes long.
-    fn cut(&self, len: u64) -> io::Result<()>
-        ensures { OnOk result (cut_at self.now len) };
-
-    /// Waits until the bytes are on the disk.
-    fn sync(&self) -> io::Result<()>
-        ensures { OnOk result (is_synced self.now) };
-}
-
-/// The system. No call but `follow` follows a link at the end of a path.
-pub trait System {
-    /// An open file, or an open directory.
-    type File: SystemFile + Drop;
-
-    /// The names in a directory, to read: each is ended by a NUL.
-    type Names: Read + Drop;
-
-    /// A look at this path found these facts.
-    ghost looked: { List ℕ → Facts → Type 0 };
-    /// A look at what this path leads to found these facts.
-    ghost followed: { List ℕ → Facts → Type 0 };
-    /// This path leads into this open directory by its number, if `/proc` is there.
-    ghost numbers: { Self.File → List ℕ → Type 0 };
-    /// These are the names in the directory at this path.
-    ghost lists: { Self.Names → List ℕ → Type 0 };
-    /// The file at the first path was given the second one.
-    ghost renamed: { List ℕ → List ℕ → Type 0 };
-    /// The file at this path was removed.
-    ghost removed: { List ℕ → Type 0 };
-
-    /// Returns the facts about what is at a path.
-    fn look(&self, path: &str) -> io::Result<Facts>
-        ensures { IfOk result (looked path.now) };
-
-    /// Returns the facts about what a path leads to, if it is a link.
-    fn follow(&self, path: &str) -> io::Result<Facts>
-        ensures { IfOk result (followed path.now) };
-
-    /// Opens a regular file for reading.
-    fn open(&self, path: &str, found: &Facts) -> io::Result<Self::File>
-        requires regular { found.now.node.kind ≡ NodeKind.File }
-        requires looked { looked path.now found.now }
-        ensures { IfOk result (λ file. Self.File.opened file path.now found.now) };
-
-    /// Opens a regular file for reading and writing, and keeps its bytes. Opened for writing alone,
-    /// a pipe would wait for a reader.
-    fn update(&self, path: &str, found: &Facts) -> io::Result<Self::File>
-        requires regular { found.now.node.kind ≡ NodeKind.File }
-        requires looked { looked path.now found.now }
-        ensures { IfOk result (λ file. Self.File.updates file path.now found.now) };
+    /// Removes a file that was left over.
+    fn remove_left_over(&self, file: &Self::Old, path: &str) -> io::Result<()>
+        requires { IsLeftOver changing path.now file.now }
+        ensures { OnOk result (changing.removes path.now) };
 
     /// Creates an empty file, which only the user may read and write.
     ///
     /// # Errors
     /// Fails also if there is anything at the path.
-    fn create(&self, path: &str) -> io::Result<Self::File>
-        ensures { IfOk result (λ file. Self.File.created file path.now) };
+    fn create(&self, path: &str) -> io::Result<Self::New>
+        ensures { IfOk result (λ file. changing.creates file path.now) };
 
-    /// Opens a directory.
-    fn enter(&self, path: &str) -> io::Result<Self::File>
-        ensures { IfOk result (λ file. Self.File.entered file path.now) };
+    /// Returns the facts about the new file.
+    fn new_facts(&self, file: &Self::New) -> io::Result<Facts>
+        ensures { IfOk result (changing.shows_new file.now) };
 
-    /// Returns the path that leads into an open directory by its number, with a slash at its end.
-    fn numbered(&self, alloc: Global, directory: &Self::File) -> Result<String, AllocError>
-        ensures { IfOk result (λ path. numbers directory.now (string_bytes path)) };
+    /// Locks the new file, as `lock_old` does.
+    fn lock_new(&self, file: &mut Self::New) -> io::Result<bool>
+        ensures created { (path : _) → changing.creates file.old path →
+            changing.creates file.new path }
+        ensures locked { MatchResult result (λ locked. locked ≡ true → changing.locks_new file.new)
+            (λ _. changing.is_lockless file.new) };
 
-    /// Returns the names in a directory.
-    fn names(&self, path: &str) -> io::Result<Self::Names>
-        ensures { IfOk result (λ names. lists names path.now) };
+    /// Appends a prefix of `bytes` to the new file. Returns its length.
+    fn append(&self, file: &mut Self::New, bytes: &[u8]) -> io::Result<usize>
+        ensures count { IfOk result (λ n. n ≤ length bytes.now) }
+        ensures appended { IfOk result (λ n. changing.appends file.old bytes.now n file.new) };
 
-    /// Gives a file another path.
-    fn rename(&self, file: &Self::File, from: &str, to: &str) -> io::Result<()>
-        requires { LeadsTo looked Self.File.shows from.now file.now }
-        ensures { OnOk result (renamed from.now to.now) };
+    /// Sets the owner of the new file, if any, and the group.
+    fn set_owner(&self, file: &mut Self::New, owner: Option<u32>, group: u32) -> io::Result<()>
+        ensures { changing.sets_owner file.new owner group result };
 
-    /// Removes a file.
-    fn remove(&self, file: &Self::File, path: &str) -> io::Result<()>
-        requires { LeadsTo looked Self.File.shows path.now file.now }
-        ensures { OnOk result (removed path.now) };
+    /// Sets the mode of the new file.
+    fn set_mode(&self, file: &Self::New, mode: u32) -> io::Result<()>
+        ensures { OnOk result (changing.sets_mode file.now mode) };
+
+    /// Waits until the bytes of the new file are on the disk.
+    fn sync_new(&self, file: &Self::New) -> io::Result<()>
+        ensures { OnOk result (changing.syncs_new file.now) };
+
+    /// Gives the new file another path.
+    fn rename(&self, file: &Self::New, from: &str, to: &str) -> io::Result<()>
+        requires { LeadsTo Self.looking changing.shows_new from.now file.now }
+        ensures { OnOk result (changing.renames from.now to.now) };
+
+    /// Removes the new file.
+    fn remove(&self, file: &Self::New, path: &str) -> io::Result<()>
+        requires { LeadsTo Self.looking changing.shows_new path.now file.now }
+        ensures { OnOk result (changing.removes path.now) };
 }

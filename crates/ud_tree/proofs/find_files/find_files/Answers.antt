@@ -1,9 +1,10 @@
-use Rattle.std.proofs.Common.{ℕ, refl, sym, subst, ◌<◌, length}
+use Rattle.std.proofs.Common.{ℕ, ap, map, refl, sym, subst, ◌<◌, ◌∙◌, length}
 use Rattle.ud_tree.specs.WalkMessages.{no_match}
 use Rattle.ud_tree.proofs.WalkLemmas.{walk_found}
-use Rattle.ud_tree.proofs.CoverLemmas.{paths_kept}
-use Rattle.ud_tree.proofs.WalkTellLemmas.{stops_told, stops_bad, some_files, some_unless, some_told}
+use Rattle.ud_tree.proofs.CoverLemmas.{on_err_always, paths_kept}
+use Rattle.ud_tree.proofs.WalkTellLemmas.{walk_none, stops_told, stops_bad, some_files, some_unless, some_told}
 use Rattle.ud_tree.proofs.find_files.find_files.Goals.{else-is_empty-via-then-is_empty+else-not-job, else-is_empty-via-else-is_empty}
+use Rattle.ud_tree.proofs.UnmatchedLemmas.{counted_from, leaves_rules, scope_same, unmarked_first}
 use Rattle.ud_tree.proofs.find_files.find_files.Goals as goal
 
 pub returns-then-not-all-clause-ends : goal.returns-then-not-all-clause-ends
@@ -12,7 +13,7 @@ returns-then-not-all-clause-ends g c = λ none. record { files = tt; stops = c.i
 pub returns-then-faulty-gt0-clause-ends : goal.returns-then-faulty-gt0-clause-ends
 returns-then-faulty-gt0-clause-ends g c = λ none. record {
   files = tt;
-  stops = stops_bad _ none c.if-not-job.true (subst (λ (n : ℕ). 0 < n) c.faulty.ensures c.if-faulty-gt0.true) c.walk_all.ensures.goes_on.told;
+  stops = stops_bad _ none c.if-not-job.true (subst (λ (n : ℕ). 0 < n) c.faulty-then-not-job.ensures c.if-faulty-gt0.true) c.walk_all.ensures.goes_on.told;
 }
 
 pub returns-then-not-job-clause-ends : goal.returns-then-not-job-clause-ends
@@ -21,7 +22,7 @@ returns-then-not-job-clause-ends g c = λ none. record { files = tt; stops = sto
 pub returns-clause-ends : goal.returns-clause-ends
 returns-clause-ends g c = λ none. record {
   files = record {
-    is_walk = walk_found c.in_ok-files.files.items c.new-walk.ensures.found c.walk_all.ensures.goes_on.finds c.in_ok-files.ensures;
+    is_walk = walk_found c.in_ok-files.files.items c.in_ok-walk.ensures.found c.walk_all.ensures.goes_on.finds c.in_ok-files.ensures;
     some = elim c.else-is_empty.branch [
       | else-is_empty-via-then-is_empty+else-not-job w ↦ some_unless _ _ w.if-not-job.false
       | else-is_empty-via-else-is_empty w ↦ some_files _ _ _ _ (sym c.in_ok-files.files.ok.0) c.is_empty.ensures w.if-is_empty.false
@@ -32,6 +33,15 @@ returns-clause-ends g c = λ none. record {
         (length c.walk_all.ensures.goes_on.told.messages) none c.walk_all.ensures.goes_on.told.counted some)
         c.in_ok-files.ensures.kept c.in_ok-files.ensures.from
         (c.in_ok-all.ensures.walks.takes c.if-not-all.false);
+    leaves = leaves_rules (length c.walk_all.ensures.goes_on.told.messages) c.faulty.result
+        (λ few. c.faulty.ensures ∙ counted_from c.args.report.now.faulty c.walk_all.new.report.faulty (length c.walk_all.ensures.goes_on.told.messages) none c.walk_all.ensures.goes_on.told.counted few)
+        (λ some. ap (map (λ r. r.items)) (c.in_ok-rules.ensures.faulty some)) (λ input. ap (map (λ r. r.items)) (c.in_ok-rules.ensures.input input))
+        c.in_ok-rules.ensures.each (λ paths. c.in_ok-all.ensures.marks c.if-not-all.false paths)
+        (scope_same c.args.job.now.arguments.now c.in_ok-walk.walk (c.in_ok-walk.ensures.paths ∙ c.as_slice-paths.ensures.value) (c.in_ok-walk.ensures.patterns ∙ c.as_slice.ensures.value))
+        (unmarked_first c.in_ok-walk.walk c.in_ok-walk.ensures.patterns c.in_ok-walk.ensures.marks);
   };
   stops = tt;
 }
+
+pub returns-in_err-walk-clause-no_memory : goal.returns-in_err-walk-clause-no_memory
+returns-in_err-walk-clause-no_memory g c = on_err_always c.from_residual.result (walk_none (g.T.Directory.history c.args.tree.now) c.args.report.now)

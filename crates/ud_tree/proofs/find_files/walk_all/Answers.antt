@@ -11,6 +11,6 @@ returns-then-job-clause-walks g c = if_ok_both c.add_input.result
 pub returns-clause-walks : goal.returns-clause-walks
 returns-clause-walks g c = if_ok_both c.walk_paths.result
     (λ all covers refused. record {
-      takes = λ is. paths_covered c.args.job.now.arguments.now c.if-job.false (rw c.requires.patterns at (covers is)) c.as_slice.ensures.value;
+      takes = λ is. paths_covered c.args.job.now.arguments.now c.if-job.false (covers is) c.requires.scope;
       stops = λ bad none. stops_bad _ none c.if-job.false (refused bad) c.walk_paths.ensures.goes_on.told;
     }) c.walk_paths.ensures.covers c.walk_paths.ensures.refused

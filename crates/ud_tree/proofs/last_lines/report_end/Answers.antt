@@ -1,24 +1,37 @@
-use Rattle.std.proofs.Common.{ℕ, List, ap, ◌∙◌}
-use Rattle.std.specs.List.{flat_map}
+use Rattle.std.proofs.Common.{List, ap, ◌∙◌}
 use Rattle.ud_passes.specs.remaining.RemainingLists.{RemainingState}
-use Rattle.ud_tree.specs.Summaries.{defined_line, remaining_line, unnamed_line}
+use Rattle.ud_tree.specs.Runs.{names_of}
+use Rattle.ud_tree.specs.Summaries.{defined_line, others_line, remaining_line, unnamed_lines}
+use Rattle.ud_tree.specs.declared.walk.Found.{Found}
 use Rattle.ud_tree.proofs.ReportLemmas.{says_same, says_then}
 use Rattle.ud_tree.proofs.SummaryLemmas.{ends_quiet, ends_told}
 use Rattle.ud_tree.proofs.last_lines.report_end.Goals as goal
 
-pub returns-then-job : goal.returns-then-job
-returns-then-job g c = ends_quiet c.args.job.now.arguments.now c.args.counts c.args.faults c.args.hidden _ c.args.report.now c.if-job.true
+pub returns-then-job-clause-tells : goal.returns-then-job-clause-tells
+returns-then-job-clause-tells g c = ends_quiet c.args.job.now.arguments.now c.args.counts c.args.faults c.args.hidden _ _ c.args.report.now c.if-job.true
 
-pub returns : goal.returns
-returns g c = let a = c.report_counts.ensures in
+pub returns-clause-tells : goal.returns-clause-tells
+returns-clause-tells g c = let a = c.report_counts.ensures in
     let b = c.report_removed.ensures a.hidden in
     let d = c.report_edited.ensures b.hidden in
     let e = c.report_remaining.ensures d.hidden in
     let f = c.report_defined.ensures e.hidden in
     let h = c.report_unnamed.ensures f.hidden in
     let o = c.report_others.ensures h.hidden in
+    let u = c.report_unsearched.ensures o.hidden in
     let names = f.keeps.unnamed ∙ e.keeps.unnamed ∙ d.keeps.unnamed ∙ b.keeps.unnamed ∙ a.keeps.unnamed in
     let same = d.keeps.remaining ∙ b.keeps.remaining ∙ a.keeps.remaining in
-    ends_told c.args.job.now.arguments.now c.args.counts c.args.faults c.args.hidden _ c.if-job.false
-    (says_then (says_then (says_then (says_then (says_then (says_then a b) d) (says_same (ap (λ (m : RemainingState). remaining_line c.args.job.now.arguments.now.list_remaining m.count) same) e))
-    (says_same (ap (λ (m : RemainingState). defined_line c.args.job.now.arguments.now.list_remaining m.defined) (e.keeps.remaining ∙ same)) f)) (says_same (ap (λ (ns : List (List ℕ)). flat_map unnamed_line ns) names) h)) o)
+    ends_told c.args.job.now.arguments.now c.args.counts c.args.faults c.args.hidden _ _ c.if-job.false
+    (says_then (says_then (says_then (says_then (says_then (says_then (says_then a b) d) (says_same (ap (λ (m : RemainingState). remaining_line c.args.job.now.arguments.now.list_remaining m.count) same) e))
+    (says_same (ap (λ (m : RemainingState). defined_line c.args.job.now.arguments.now.list_remaining m.defined) (e.keeps.remaining ∙ same)) f)) (says_same (ap (unnamed_lines c.args.faults) names) h)) (says_same (ap (λ (fs : List Found). others_line (names_of fs)) c.as_slice.ensures.value) o)) u)
+
+pub returns-clause-unshown : goal.returns-clause-unshown
+returns-clause-unshown g c = λ loud.
+    let a = c.report_counts.ensures in
+    let b = c.report_removed.ensures a.hidden in
+    let d = c.report_edited.ensures b.hidden in
+    let e = c.report_remaining.ensures d.hidden in
+    let f = c.report_defined.ensures e.hidden in
+    let h = c.report_unnamed.ensures f.hidden in
+    let o = c.report_others.ensures h.hidden in
+    (c.report_unsearched.ensures o.hidden).hidden

@@ -5,7 +5,7 @@ use Rattle.ud_tree.proofs.TreeLaws.{each_then}
 use Rattle.ud_tree.proofs.other_files.read_others.Goals as goal
 
 pub loop-found-init : goal.loop-found-init
-loop-found-init g c = (no_call, reads_none _ _ c.new-others.ensures.items)
+loop-found-init g c = (no_call, reads_none _ _ c.none-others.ensures)
 
 pub loop-found-preserved : goal.loop-found-preserved
 loop-found-preserved g c = (

@@ -8,7 +8,8 @@ pub returns-then-is_fresh : goal.returns-then-is_fresh
 returns-then-is_fresh c = is_new (ap is_fresh (sym c.last_name-name.ensures) ∙ sym c.is_fresh.ensures ∙ c.if-is_fresh.true)
 
 pub returns-in-Some : goal.returns-in-Some
-returns-in-Some c = chooses_decided c.in-Some.effect c.in-Some.is c.last_effect.ensures c.chooses.ensures
+returns-in-Some c = chooses_decided c.in-Some.effect (ap is_fresh (sym c.last_name-name.ensures) ∙ sym c.is_fresh.ensures ∙ c.if-is_fresh.false) c.in-Some.is c.last_effect.ensures c.chooses.ensures
 
 pub returns-in-None : goal.returns-in-None
-returns-in-None c = chooses_usual c.in-None.is c.last_effect.ensures c.is_usual.ensures
+returns-in-None c = chooses_usual c.is_usual.result (ap is_fresh (sym c.last_name-name.ensures) ∙ sym c.is_fresh.ensures ∙ c.if-is_fresh.false) c.in-None.is c.last_effect.ensures
+    (rw c.last_name-name.ensures at c.is_usual.ensures)

@@ -1,15 +1,15 @@
 use Rattle.std.proofs.Common.{sym}
-use Rattle.ud_tree.specs.Changes.{nothing_shown, change_shown}
+use Rattle.ud_tree.specs.Changes.{unwanted, unchanged, no_memory, change_shown}
 use Rattle.ud_tree.proofs.replace_file.change_of.Goals as goal
 
 pub returns-then-not-job-clause-change : goal.returns-then-not-job-clause-change
-returns-then-not-job-clause-change g c = nothing_shown c.new-nothing.ensures.items
+returns-then-not-job-clause-change g c = unwanted c.new-nothing.ensures.items c.if-not-job.true
 
 pub returns-then-not-is_change-clause-change : goal.returns-then-not-is_change-clause-change
-returns-then-not-is_change-clause-change g c = nothing_shown c.new-nothing.ensures.items
+returns-then-not-is_change-clause-change g c = unchanged c.new-nothing.ensures.items (sym c.if-not-is_change.ensures)
 
 pub returns-in-Some-clause-change : goal.returns-in-Some-clause-change
 returns-in-Some-clause-change g c = change_shown c.if-not-job.false (sym c.if-not-is_change.ensures) c.in-Some.ensures
 
 pub returns-in-None-clause-change : goal.returns-in-None-clause-change
-returns-in-None-clause-change g c = nothing_shown c.new-nothing.ensures.items
+returns-in-None-clause-change g c = no_memory c.new-nothing.ensures.items c.lose.ensures.lost

@@ -1,4 +1,4 @@
-use Rattle.std.proofs.Common.{[], ◌∷◌, refl, sym, subst, Err}
+use Rattle.std.proofs.Common.{[], ◌∷◌, false, refl, sym, subst, Err}
 use Rattle.ud_replace.specs.KeptTexts.{output_of}
 use Rattle.ud_tree.specs.Changes.{ShowsUpdate, after_error, after_update}
 use Rattle.ud_tree.specs.declared.counts.Edits.{Edits}
@@ -13,12 +13,14 @@ returns-in-Err-clause-writes g c = record {
   shown = [];
   outputs = [];
   texts = c.replace_named.new.kept.text.items ∷ [];
+  lost = false;
+  loses = λ whole. refl;
   does = λ told. record {
     text = c.replace_named.new.kept.text.items;
     is_text = refl;
     does = c.in-Err.ensures.replaces;
     change = subst (λ (n : Edits). ShowsUpdate c.args.job.now.arguments.now.plan c.args.job.now.arguments.now.write_into c.args.job.now.arguments.now.show_changes c.args.file.name.now
-        (g.T.Directory.history c.args.tree.now) (g.T.Directory.history c.replace_named.new.tree) (Err c.in-Err.error) [] n []) (sym c.requires.none) after_error;
+        (g.T.Directory.history c.args.tree.now) (g.T.Directory.history c.replace_named.new.tree) false (Err c.in-Err.error) [] n []) (sym c.requires.none) after_error;
   };
   sent = sends_none (stream_of g.W.Write.contents c.args.out.now);
   finds = found_in c.as_slice.ensures.value c.find_names.ensures.finds;
@@ -29,6 +31,8 @@ returns-clause-writes g c = record {
   shown = c.change_of-diff.result.items;
   outputs = made c.args.file.name.now (output_of c.replace_named.new.kept);
   texts = c.replace_named.new.kept.text.items ∷ [];
+  lost = c.change_of-diff.new.report.has_lost;
+  loses = λ whole. whole;
   does = λ told. record {
     text = c.replace_named.new.kept.text.items;
     is_text = refl;

@@ -1,18 +1,18 @@
-use Rattle.std.proofs.Common.{ℕ, List, [], Bor, arith}
+use Rattle.std.proofs.Common.{Bor, List, ℕ, [], false}
+use Rattle.std.proofs.lemmas.List.{take_all}
 use Rattle.ud_io.specs.Streams.{stream_of}
-use Rattle.ud_tree.specs.Visible.{visible}
-use Rattle.ud_io.proofs.StreamLemmas.{sends_none, sends_part, sends_parts, sends_same}
-use Rattle.ud_tree.proofs.VisibleLemmas.{visible_parts}
+use Rattle.ud_tree.proofs.VisibleLemmas.{shows_none, shows_part, shows_rest, shows_whole}
 use Rattle.ud_tree.proofs.send.send_visible_parts.Goals as goal
 
 pub loop-part-init : goal.loop-part-init
-loop-part-init g c = sends_none (stream_of g.W.Write.contents c.args.out.now)
+loop-part-init g c = shows_none false (stream_of g.W.Write.contents c.args.out.now)
 
 pub loop-part-preserved : goal.loop-part-preserved
-loop-part-preserved g c =
-    sends_part (λ (p : Bor (List ℕ)). visible p.now) c.args.parts.now c.loop-part.part-index (record { ref_ptr = (0, 0); now = [] }) c.loop-part-test.true
-    c.loop-part.invariant c.send_visible.ensures
+loop-part-preserved g c = shows_part (λ (p : Bor (List ℕ)). p.now) c.args.parts.now c.loop-part.part-index (record { ref_ptr = (0, 0); now = [] }) c.loop-part-test.true
+    c.loop-part.invariant c.send_part-waits.ensures
 
-pub returns : goal.returns
-returns g c = sends_same (visible_parts (λ (p : Bor (List ℕ)). p.now) c.args.parts.now)
-    (sends_parts (λ (p : Bor (List ℕ)). visible p.now) c.args.parts.now c.loop-part.part-index (omega arith) c.loop-part.invariant)
+pub returns-then-waits : goal.returns-then-waits
+returns-then-waits g c = shows_rest (rw (c.if-waits.true, take_all c.loop-part.part-index c.args.parts.now c.loop-part-test.false) at c.loop-part.invariant) c.send.ensures
+
+pub returns-else-waits : goal.returns-else-waits
+returns-else-waits g c = shows_whole (rw (c.if-waits.false, take_all c.loop-part.part-index c.args.parts.now c.loop-part-test.false) at c.loop-part.invariant)

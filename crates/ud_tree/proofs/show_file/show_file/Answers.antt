@@ -1,5 +1,5 @@
 -- By the run over the file's text, and the diff of text and output.
-use Rattle.std.proofs.Common.{[], ◌∷◌, refl}
+use Rattle.std.proofs.Common.{[], ◌∷◌, false, refl}
 use Rattle.ud_tree.specs.Runs.{made}
 use Rattle.ud_tree.proofs.RemainderLemmas.{finds_output, finds_then, found_in}
 use Rattle.ud_tree.specs.Shown.{faulty, same, several}
@@ -32,6 +32,8 @@ returns-clause-writes g c = record {
   shown = c.in-Some.diff.items;
   outputs = made c.args.file.name.now c.output-output.result.now;
   texts = c.run_file.new.kept.text.items ∷ [];
+  lost = false;
+  loses = λ whole. refl;
   does = λ told. record {
     text = c.run_file.new.kept.text.items;
     is_text = refl;

@@ -4,10 +4,10 @@ use Rattle.ud_tree.proofs.disk.changing.give_owner.Goals as goal
 
 pub returns-then-has_owner : goal.returns-then-has_owner
 returns-then-has_owner g c =
-    has_both c.in_ok-facts.field-0 c.in_ok-facts.ensures (sym c.if-has_owner.ensures)
+    has_both c.in_ok-new_facts.field-0 c.in_ok-new_facts.ensures (sym c.if-has_owner.ensures)
 
 pub returns-in_ok-was_set-2 : goal.returns-in_ok-was_set-2
-returns-in_ok-was_set-2 g c = gives_group c.set_owner-both.new.self c.set_owner-both.result
+returns-in_ok-was_set-2 g c = gives_group c.set_owner-both.new.file c.set_owner-both.result
     c.set_owner-group.result c.set_owner-both.ensures
     (c.in_ok-was_set.ensures.unset c.if-not-branch.true) c.set_owner-group.ensures
     c.in_ok-was_set-2.ensures.tried

@@ -1,17 +1,14 @@
-use Rattle.std.proofs.Common.{false, true, string_bytes}
+use Rattle.std.proofs.Common.{true, false}
 use Rattle.ud_tree.specs.Naming.{LeadsToDirectory}
-use Rattle.ud_tree.proofs.NamingLemmas.{at_place}
+use Rattle.ud_tree.proofs.EvidenceLemmas.{at_place}
 use Rattle.ud_tree.proofs.disk.naming.leads_to_directory.Goals as goal
 
-pub returns-then-not-is_directory : goal.returns-then-not-is_directory
-returns-then-not-is_directory g c = at_place c.args.path.now c.as_bytes.result.now (string_bytes c.in_ok-place.place)
-    c.as_str.result.now c.place.new.self.entered (LeadsToDirectory g.S.System.followed false) c.in_ok-place.ensures
+pub returns-then-not-is_directory-clause-leads : goal.returns-then-not-is_directory-clause-leads
+returns-then-not-is_directory-clause-leads g c = at_place g.S.Looks.looking (LeadsToDirectory g.S.Looks.looking false) c.in_ok-place.ensures.place
     c.as_bytes.ensures.value c.as_str.ensures.value
-    (record { found = c.in_ok-node.field-0; follow = c.in_ok-node.ensures; is = c.if-not-is_directory.ensures })
+    (record { found = c.in_ok-node.field-0; follow = c.in_ok-node.ensures.found; is = c.if-not-is_directory.ensures })
 
-pub returns : goal.returns
-returns g c = rw c.in_ok-meet.ensures.entered
-    (at_place c.args.path.now c.as_bytes.result.now (string_bytes c.in_ok-place.place) c.as_str.result.now
-    c.place.new.self.entered (LeadsToDirectory g.S.System.followed true) c.in_ok-place.ensures
+pub returns-clause-leads : goal.returns-clause-leads
+returns-clause-leads g c = at_place g.S.Looks.looking (LeadsToDirectory g.S.Looks.looking true) c.in_ok-place.ensures.place
     c.as_bytes.ensures.value c.as_str.ensures.value
-    (record { found = c.in_ok-node.field-0; follow = c.in_ok-node.ensures; is = c.if-not-is_directory.ensures }))
+    (record { found = c.in_ok-node.field-0; follow = c.in_ok-node.ensures.found; is = c.if-not-is_directory.ensures })

@@ -1,17 +1,13 @@
-use Rattle.std.proofs.Common.{refl, string_bytes}
+use Rattle.std.proofs.Common.{refl, inl, rules}
 use Rattle.ud_tree.specs.Naming.{Sees}
-use Rattle.ud_tree.proofs.NamingLemmas.{at_place}
+use Rattle.ud_tree.proofs.EvidenceLemmas.{at_place}
 use Rattle.ud_tree.proofs.disk.naming.node_at.Goals as goal
 
-pub returns-then-not-is_directory : goal.returns-then-not-is_directory
-returns-then-not-is_directory g c = at_place c.args.path.now c.as_bytes.result.now (string_bytes c.in_ok-place.place)
-    c.as_str.result.now c.place.new.self.entered (Sees g.S.System.looked c.in_ok-node.field-0.node)
-    c.in_ok-place.ensures c.as_bytes.ensures.value c.as_str.ensures.value
-    (record { found = c.in_ok-node.field-0; look = c.in_ok-node.ensures; is = refl })
+pub returns-in-Err-look-clause-found : goal.returns-in-Err-look-clause-found
+returns-in-Err-look-clause-found g c = inl (at_place g.S.Looks.looking g.S.Looks.looking.lacks c.in-Ok.ensures.place
+    c.as_bytes.ensures.value c.as_str.ensures.value (c.in-Err-look.ensures.nothing (search rules)))
 
-pub returns : goal.returns
-returns g c = rw c.in_ok-meet.ensures.entered
-    (at_place c.args.path.now c.as_bytes.result.now (string_bytes c.in_ok-place.place) c.as_str.result.now
-    c.place.new.self.entered (Sees g.S.System.looked c.in_ok-node.field-0.node) c.in_ok-place.ensures
+pub returns-clause-found : goal.returns-clause-found
+returns-clause-found g c = at_place g.S.Looks.looking (Sees g.S.Looks.looking c.in-Ok-look.found.node) c.in-Ok.ensures.place
     c.as_bytes.ensures.value c.as_str.ensures.value
-    (record { found = c.in_ok-node.field-0; look = c.in_ok-node.ensures; is = refl }))
+    (record { found = c.in-Ok-look.found; look = c.in-Ok-look.ensures.found; is = refl })

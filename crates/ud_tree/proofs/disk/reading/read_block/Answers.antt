@@ -5,8 +5,8 @@ use Rattle.ud_tree.proofs.disk.reading.read_block.Goals as goal
 
 pub returns-in-Ok-clause-reads : goal.returns-in-Ok-clause-reads
 returns-in-Ok-clause-reads g c = record {
-  bytes = take c.in-Ok.count c.read.new.buf;
-  appended = block_read c.args.text.now.items c.as_mut_slice.result.now c.read.new.buf _ _ c.len-before.result
+  bytes = take c.in-Ok.count c.read_retrying.new.buffer;
+  appended = block_read c.args.text.now.items c.as_mut_slice.result.now c.read_retrying.new.buffer _ _ c.len-before.result
       c.in-Ok.count _ _ (grind (arith, common_steps)) (grind (arith, common_steps)) c.in-Ok.ensures.bound.0
       refl (grind (arith, common_steps)) c.truncate.ensures.items;
   counted = grind (arith, common_steps);

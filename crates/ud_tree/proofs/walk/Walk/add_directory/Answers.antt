@@ -1,11 +1,12 @@
 use Rattle.std.specs.Prelude.{string_bytes}
-use Rattle.ud_tree.proofs.CoverLemmas.{waits_pushed}
 use Rattle.std.proofs.Common.{refl}
-use Rattle.ud_tree.proofs.CatchLemmas.{grows_same}
+use Rattle.ud_tree.proofs.CoverLemmas.{waits_pushed}
+use Rattle.ud_tree.proofs.CatchLemmas.{grows_waits}
+use Rattle.ud_tree.proofs.ScopeLemmas.{rooted_directory}
 use Rattle.ud_tree.proofs.walk.Walk.add_directory.Goals as goal
 
 pub returns-clause-waits : goal.returns-clause-waits
-returns-clause-waits c = waits_pushed (λ d. string_bytes d) _ _ c.in_ok-directory.directory c.args.path.now c.in_ok-directory.ensures c.in_ok-push.ensures.items
+returns-clause-waits c = waits_pushed (λ d. string_bytes d.path) _ _ (record { path = c.in_ok-path.path; root = c.args.root }) c.args.path.now c.in_ok-path.ensures c.in_ok-push.ensures.items
 
 pub returns-clause-grows : goal.returns-clause-grows
-returns-clause-grows c = grows_same c.args.self.now _ refl refl
+returns-clause-grows c = grows_waits c.args.self.now _ (record { path = c.in_ok-path.path; root = c.args.root }) refl refl c.in_ok-push.ensures.items (rooted_directory c.in_ok-path.ensures c.requires)

@@ -1,4 +1,4 @@
-use Rattle.std.proofs.Common.{arith, refl}
+use Rattle.std.proofs.Common.{arith, refl, string_bytes}
 use Rattle.ud_tree.proofs.CatchLemmas.{grows_same, catches_listed, catches_then}
 use Rattle.ud_tree.proofs.CoverLemmas.{enters_begun, enters_name, enters_all}
 use Rattle.ud_tree.proofs.WalkLemmas.{finds_call, finds_then}
@@ -8,9 +8,9 @@ use Rattle.ud_tree.proofs.walk.Walk.enter.Goals as goal
 pub loop-name-init : goal.loop-name-init
 loop-name-init g c = (
   finds_call _ c.args.self.now.found.items c.list_directory-names.ensures.lists.1,
-  enters_begun (λ n. n.items) _ _ c.args.directory.now _ _ _ c.list_directory-names.ensures.counted c.as_slice-name-items.ensures.value c.list_directory-names.ensures.lists,
-  grind (arith, c.as_slice-name-items.ensures.value, c.list_directory-names.ensures.told),
-  catches_listed c.args.directory.now _ c.list_directory-names.ensures.lists.0 c.args.self.now c.args.self.now c.list_directory-names.ensures.lists.1 (grows_same _ _ refl refl),
+  enters_begun (λ n. n.items) _ _ (string_bytes c.args.directory.now.path) _ _ _ c.list_directory-names.ensures.counted c.as_slice-name-items.ensures.value (rw c.as_str.ensures.value at c.list_directory-names.ensures.lists),
+  rw c.as_slice-name-items.ensures.value (rw c.as_str.ensures.value at c.list_directory-names.ensures.told),
+  catches_listed _ _ c.list_directory-names.ensures.lists.0 c.args.self.now c.args.self.now c.list_directory-names.ensures.lists.1 (grows_same _ _ refl refl (λ h. h)) refl,
 )
 
 pub loop-name-preserved : goal.loop-name-preserved

@@ -1,5 +1,5 @@
 use Rattle.ud_tree.specs.WalkMessages.{GoesOn}
-use Rattle.ud_tree.specs.Catching.{Catches}
+use Rattle.ud_tree.specs.Catching.{Catches, scope_of}
 use Rattle.std.proofs.Common.{[], map}
 use Rattle.std.specs.Prelude.{string_bytes}
 use Rattle.ud_tree.proofs.CoverLemmas.{EntersSome}
@@ -8,7 +8,7 @@ use Rattle.ud_tree.proofs.walk.Walk.go.Given as goal
 abbrev pub invariant-directories : goal.invariant-directories
 invariant-directories g l =
     GoesOn (g.T.Directory.history l.fn.tree) (g.T.Directory.history l.tree) l.fn.self l.self l.fn.report l.report
-    × EntersSome (map string_bytes l.fn.self.patterns.now) l._entered (g.T.Directory.history l.fn.tree) (g.T.Directory.history l.tree)
-    (map (λ d. string_bytes d) l.fn.self.directories.items) (map (λ d. string_bytes d) l.self.directories.items) l.fn.report
+    × EntersSome (scope_of l.fn.self) l._entered (g.T.Directory.history l.fn.tree) (g.T.Directory.history l.tree)
+    (map (λ d. string_bytes d.path) l.fn.self.directories.items) (map (λ d. string_bytes d.path) l.self.directories.items) l.fn.report
     l.report
     × Catches [] (g.T.Directory.history l.fn.tree) (g.T.Directory.history l.tree) l.fn.self l.self

@@ -14,4 +14,4 @@ returns-clause-is_in c =
 
 pub returns-clause-grows : goal.returns-clause-grows
 returns-clause-grows c = grows_pushed c.args.self.now _ (record { path = c.in_ok-path.path; id = c.args.id }) refl c.in_ok-push.ensures.items
-    (inl (0, omega arith, sym c.in_ok-path.ensures.ok))
+    (inl (0, omega arith, sym c.in_ok-path.ensures.ok)) (λ h. h)
