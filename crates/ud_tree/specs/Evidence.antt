@@ -1,5 +1,7 @@
 -- Evidence: what the answers of the system show. A word of it stands for a call and its answer.
 --
+--   Shown M                evidence of the facts about a file
+--   AreFacts S found facts   each of the facts is what the system said of it
 --   Looking F N            evidence of the calls that look
 --   Changing O W           evidence of the calls that change
 --   is_same a b            both are the same file
@@ -10,9 +12,40 @@ use Rattle.std.specs.Fs.{IsDir, IsFile, IsSymlink}
 use Rattle.std.specs.declared.fs.attrs.FileType.{FileType}
 use Rattle.std.specs.declared.io.Error.{Error}
 use Rattle.ud_replace.specs.declared.node.FileId.{FileId}
+use Rattle.ud_replace.specs.declared.stat.FileTime.{FileTime}
 use Rattle.ud_replace.specs.declared.node.NodeKind.{NodeKind}
 use Rattle.ud_replace.specs.declared.node.NodeKind.TheVariants.{File, Directory, Link, Other}
 use Rattle.ud_tree.specs.declared.disk.facts.Facts.{Facts}
+
+-- `Shown M`: evidence of the facts about a file, which an answer of the system, an `M`, has.
+pub record Shown (M : Type 0) : Type 1 where
+  pub kind : M → NodeKind → Type 0
+  pub device : M → ℕ → Type 0
+  pub inode : M → ℕ → Type 0
+  pub born : M → ℕ → Type 0
+  pub size : M → ℕ → Type 0
+  pub modified : M → FileTime → Type 0
+  pub changed : M → FileTime → Type 0
+  pub links : M → ℕ → Type 0
+  pub mode : M → ℕ → Type 0
+  pub owner : M → ℕ → Type 0
+  pub group : M → ℕ → Type 0
+
+-- `AreFacts S found facts`: each of the facts is what the answer `found` says of it.
+pub record AreFacts {M : Type 0} (S : Shown M) (found : M) (facts : Facts) : Type 0 where
+  pub kind : S.kind found facts.node.kind
+  pub device : S.device found facts.node.id.device
+  pub inode : S.inode found facts.node.id.inode
+  pub born : S.born found facts.node.id.born
+  pub size : S.size found facts.stat.version.size
+  pub modified : S.modified found facts.stat.version.modified
+  pub changed : S.changed found facts.stat.version.changed
+  pub links : S.links found facts.stat.links
+  pub mode : S.mode found facts.stat.mode
+  pub owner : S.owner found facts.stat.owner
+  pub group : S.group found facts.stat.group
+  pub same_device : facts.stat.version.device ≡ facts.node.id.device
+  pub same_inode : facts.stat.version.inode ≡ facts.node.id.inode
 
 -- `Looking F N`: evidence of the calls that look. `F` are files and directories that are open for
 -- reading, and `N` are the names in a directory.

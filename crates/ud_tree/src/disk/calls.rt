@@ -8,7 +8,7 @@ ghost use Rattle.std.specs.Fd.{file_raw_fd};
 ghost use Rattle.std.specs.Fs.{file_type, metadata_len, metadata_mode};
 ghost use Rattle.ud_tree.specs.Evidence.{KindOf};
 
-use crate::disk::facts::Facts;
+use crate::disk::facts::{Attributes, Facts};
 use crate::disk::system::{Changes, Looks};
 use std::alloc::{AllocError, Global};
 use std::fs::{self, File, Metadata, OpenFile, OpenOptions, Permissions, TryLockError};
@@ -17,7 +17,7 @@ use std::os::fd::{AsFd, AsRawFd};
 use std::os::unix::fs::{MetadataExt, OpenOptionsExt, PermissionsExt, fchown};
 use std::rt::Files;
 use std::time::UNIX_EPOCH;
-use ud_replace::{FileId, FileStat, FileTime, FileVersion, Node, NodeKind};
+use ud_replace::{FileTime, NodeKind};
 
 /// The bits of a mode that `chmod` sets.
 const MODE: u32 = 0o7777;
@@ -30,6 +30,86 @@ const STDERR: i32 = 2;
 pub struct Writer {
     file: File,
     ghost apart: { pos 2 <ℤ file_raw_fd file },
+}
+
+impl Attributes for Metadata {
+    ghost shown = { record {
+      kind = λ found kind. KindOf (file_type found) kind;
+      device = λ _ _. Unit {0};
+      inode = λ _ _. Unit {0};
+      born = λ _ _. Unit {0};
+      size = λ found size. size ≡ metadata_len found;
+      modified = λ _ _. Unit {0};
+      changed = λ _ _. Unit {0};
+      links = λ _ _. Unit {0};
+      mode = λ found mode. mode ≡ bit_and (metadata_mode found) 0o7777;
+      owner = λ _ _. Unit {0};
+      group = λ _ _. Unit {0};
+    } };
+
+    fn kind(&self) -> NodeKind {
+        if self.is_file() {
+            NodeKind::File
+        } else if self.is_dir() {
+            NodeKind::Directory
+        } else if self.is_symlink() {
+            NodeKind::Link
+        } else {
+            NodeKind::Other
+        }
+    }
+
+    fn device(&self) -> u64 {
+        self.dev()
+    }
+
+    fn inode(&self) -> u64 {
+        self.ino()
+    }
+
+    fn born(&self) -> u64 {
+        let Ok(time) = self.created() else {
+            return 0;
+        };
+        match time.duration_since(UNIX_EPOCH) {
+            Ok(since) => u64::try_from(since.as_nanos()).unwrap_or(0),
+            Err(_) => 0,
+        }
+    }
+
+    fn byte_count(&self) -> u64 {
+        self.size()
+    }
+
+    fn modified_at(&self) -> FileTime {
+        FileTime {
+            seconds: self.mtime(),
+            nanoseconds: self.mtime_nsec(),
+        }
+    }
+
+    fn changed_at(&self) -> FileTime {
+        FileTime {
+            seconds: self.ctime(),
+            nanoseconds: self.ctime_nsec(),
+        }
+    }
+
+    fn links(&self) -> u64 {
+        self.nlink()
+    }
+
+    fn permissions(&self) -> u32 {
+        self.mode() & MODE
+    }
+
+    fn owner(&self) -> u32 {
+        self.uid()
+    }
+
+    fn group(&self) -> u32 {
+        self.gid()
+    }
 }
 
 impl<R: Files<File = File>> Looks for R {
@@ -52,11 +132,11 @@ impl<R: Files<File = File>> Looks for R {
     } };
 
     fn look(&self, path: &str) -> io::Result<Facts> {
-        Ok(facts_of(&Files::symlink_metadata(self, path)?))
+        Ok(Facts::of(&Files::symlink_metadata(self, path)?))
     }
 
     fn follow(&self, path: &str) -> io::Result<Facts> {
-        Ok(facts_of(&Files::metadata(self, path)?))
+        Ok(Facts::of(&Files::metadata(self, path)?))
     }
 
     fn open(&self, path: &str, _found: &Facts) -> io::Result<File> {
@@ -68,7 +148,7 @@ impl<R: Files<File = File>> Looks for R {
     }
 
     fn facts(&self, file: &File) -> io::Result<Facts> {
-        Ok(facts_of(&file.metadata()?))
+        Ok(Facts::of(&file.metadata()?))
     }
 
     fn numbered(&self, alloc: Global, directory: &File) -> Result<String, AllocError> {
@@ -130,7 +210,7 @@ impl<R: Files<File = File>> Changes for R {
     }
 
     fn old_facts(&self, file: &Writer) -> io::Result<Facts> {
-        Ok(facts_of(&file.file.metadata()?))
+        Ok(Facts::of(&file.file.metadata()?))
     }
 
     fn lock_old(&self, file: &mut Writer) -> io::Result<bool> {
@@ -168,7 +248,7 @@ impl<R: Files<File = File>> Changes for R {
     }
 
     fn new_facts(&self, file: &Writer) -> io::Result<Facts> {
-        Ok(facts_of(&file.file.metadata()?))
+        Ok(Facts::of(&file.file.metadata()?))
     }
 
     fn lock_new(&self, file: &mut Writer) -> io::Result<bool> {
@@ -218,72 +298,5 @@ fn lock(file: &File) -> io::Result<bool> {
         Ok(()) => Ok(true),
         Err(TryLockError::WouldBlock) => Ok(false),
         Err(TryLockError::Error(error)) => Err(error),
-    }
-}
-
-/// Returns the facts in an answer of the operating system.
-fn facts_of(found: &Metadata) -> Facts
-    ensures kind { KindOf (file_type found.now) result.node.kind }
-    ensures size { result.stat.version.size ≡ metadata_len found.now }
-    ensures mode { result.stat.mode ≡ bit_and (metadata_mode found.now) 0o7777 }
-    ensures id { (result.stat.version.device ≡ result.node.id.device) ×
-        (result.stat.version.inode ≡ result.node.id.inode) }
-{
-    let id = FileId {
-        device: found.dev(),
-        inode: found.ino(),
-        born: born(found),
-    };
-    let version = FileVersion {
-        device: id.device,
-        inode: id.inode,
-        size: found.size(),
-        modified: FileTime {
-            seconds: found.mtime(),
-            nanoseconds: found.mtime_nsec(),
-        },
-        changed: FileTime {
-            seconds: found.ctime(),
-            nanoseconds: found.ctime_nsec(),
-        },
-    };
-    Facts {
-        node: Node {
-            kind: kind_of(found),
-            id,
-        },
-        stat: FileStat {
-            version,
-            links: found.nlink(),
-            mode: found.mode() & MODE,
-            owner: found.uid(),
-            group: found.gid(),
-        },
-    }
-}
-
-/// Returns the kind of what was found.
-fn kind_of(found: &Metadata) -> NodeKind
-    ensures { KindOf (file_type found.now) result }
-{
-    if found.is_file() {
-        NodeKind::File
-    } else if found.is_dir() {
-        NodeKind::Directory
-    } else if found.is_symlink() {
-        NodeKind::Link
-    } else {
-        NodeKind::Other
-    }
-}
-
-/// Returns when a file was created, in nanoseconds since the beginning of 1970; 0 if unknown.
-fn born(found: &Metadata) -> u64 {
-    let Ok(time) = found.created() else {
-        return 0;
-    };
-    match time.duration_since(UNIX_EPOCH) {
-        Ok(since) => u64::try_from(since.as_nanos()).unwrap_or(0),
-        Err(_) => 0,
     }
 }
