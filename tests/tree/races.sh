@@ -1,8 +1,11 @@
 # Files and directories that another program changes while a run is at them.
 
-# paused STATUS OPTIONS CALL N COMMAND..: runs a command while a run waits after its Nth CALL.
+# paused STATUS OPTIONS CALL N COMMAND..: runs a command while a run waits after its Nth CALL. If no
+# N was found, that fails: strace would refuse it, and nothing would write the trace.
 paused() {
   local pid line tracer
+  holds_that test -n "$4"
+  [ -n "$4" ] || return 0
   read -ra ran <<< "$TREE $2 src"
   rm -f "$work/trace"
   mkfifo "$work/trace"
