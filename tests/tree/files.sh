@@ -165,6 +165,29 @@ test_overlay() {
   umount "$layers"
 }
 
+# Files of one number and one birth are two files if they are on two devices: an image and its copy.
+test_devices() {
+  local image=$work/image what='a file system and its copy'
+  for_root "$what" || return 0
+  has mkfs.ext3 || { lacks mkfs.ext3 "$what"; return 0; }
+  fresh
+  mkdir -p "$work/small" "$work/layers"
+  truncate -s 4M "$image"
+  mkfs.ext3 -q "$image" 2> /dev/null
+  mount -o loop "$image" "$work/small" 2> /dev/null ||
+    { skip "$what" 'none can be mounted here'; return; }
+  put "$work/small/a.c" "$text"
+  umount "$work/small"
+  cp "$image" "$image.copy"
+  mount -o loop "$image" "$work/small"
+  mount -o loop "$image.copy" "$work/layers"
+  holds_that same "$(stat -c '%i %W' "$work/small/a.c")" "$(stat -c '%i %W' "$work/layers/a.c")"
+  after '1 -DA ../small ../layers' says_only '2 changed, 0 unchanged, 0 faulty' '8 lines removed'
+  is "$work"/{small,layers}/a.c 'yes\n'
+  umount "$work/small" "$work/layers"
+  rm "$image" "$image.copy"
+}
+
 # A run in place over real headers is like unifdef on each file.
 test_real_headers() {
   local name changed=0 wanted=1
