@@ -81,6 +81,19 @@ test_syncs() {
   is src/a.c "$text"
 }
 
+# A write into a file that fails has a message, also if the file was to be empty. Then the old text is
+# written into it, or that fails too.
+test_half_written() {
+  local left='#ifdef A\nno\n#endif\n'
+  alone src/a.c "$left"
+  ln src/a.c linked.txt
+  injected 2 ftruncate:error=EIO:when=1 -w -UA src
+  says_first 'src/a.c: Cannot be written: Input/output error'
+  is src/a.c "$left"
+  injected 2 fsync:error=EIO -w -DA src
+  says_first 'src/a.c: Half written: Input/output error'
+}
+
 # A diff of -d is on the disk before the next file is changed, if it goes to a file.
 test_synced_diffs() {
   anew traced 2 write,fdatasync,rename -q -d -DA src
