@@ -66,6 +66,10 @@ other_run() {
   "$TREE" -q -UA src 2> "$work/other"
   holds_that same "$?" 2
 }
+other_writer() {
+  "$TREE" -q -w -DB src 2> "$work/other"
+  holds_that same "$?" 2
+}
 edited='#ifdef B\nyes\n#else\nno\n#endif\n'
 
 # A file that changes between read and rename, and two runs at once.
@@ -166,6 +170,21 @@ test_writes_into_open_file() {
   put "$work/victim" "$text"
   paused 2 '-w -DA' statx "$(last_of statx '/a.c"')" put_link src/a.c
   is linked.txt 'yes\n' and "$work/victim" "$text"
+}
+
+# Two runs don't write into one file at once: not after the last look at it, and not before it is cut,
+# when it has more lines than either text.
+test_one_writer() {
+  local call tail='#ifdef B\nb\n#endif\n1 2 3 4\n5 6 7 8\n'
+  for call in 'lseek 2' 'write 1'; do
+    small_tree
+    put src/a.c "#ifdef A\na\n#endif\n$tail"
+    ln src/a.c linked.txt
+    # shellcheck disable=SC2086 # Words are split.
+    paused 2 '-w -DA' $call other_writer
+    holds_that grep -qxF 'unifdef-tree: src/a.c: Cannot be read: another run is at it' "$work/other"
+    is linked.txt "a\n$tail"
+  done
 }
 
 # save_both FIRST SECOND: saves both as editors do, by a new file that is renamed.

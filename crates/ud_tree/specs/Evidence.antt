@@ -82,6 +82,8 @@ pub record Changing (O W : Type 0) : Type 1 where
   pub shows : O → Facts → Type 0
   -- `locks file`: this run has locked it
   pub locks : O → Type 0
+  -- `lacks_locks file`: its file system has no locks
+  pub lacks_locks : O → Type 0
   -- `looks_beside file path facts`: a look at the path found these facts while the file was so
   pub looks_beside : O → List ℕ → Facts → Type 0
   -- `starts start file`: `start` is the file at its start

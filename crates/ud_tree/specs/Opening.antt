@@ -38,7 +38,8 @@ pub record IsRead {F N : Type 0} (L : Looking F N) (rest : F → Option (List �
   pub reads : ReadsAll (rest file) (rest after) stat.version.size text
 
 -- `IsReadAgain L C again path text stat`: a look at `path` found a regular file, with the facts
--- `stat`; this file is open, and `text` is what it has from its start on.
+-- `stat`; this file is open, and `text` is what it has from its start on. This run has locked it,
+-- unless its file system has no locks.
 pub record IsReadAgain {F N O W : Type 0} (L : Looking F N) (C : Changing O W)
     (again : O → Option (List ℕ)) (path text : List ℕ) (stat : FileStat) : Type 0 where
   pub file : O
@@ -47,6 +48,7 @@ pub record IsReadAgain {F N O W : Type 0} (L : Looking F N) (C : Changing O W)
   pub found : Facts
   pub look : L.looked path found
   pub shown : Shows C.shows found file
+  pub held : C.locks file ⊎ C.lacks_locks file
   pub regular : found.node.kind ≡ File
   pub facts : stat ≡ found.stat
   pub starts_at : C.starts start file

@@ -189,6 +189,7 @@ impl<R: Files<File = File>> Changes for R {
       updates = λ _ _ _. Unit {0};
       shows = λ _ _. Unit {0};
       locks = λ _. Unit {0};
+      lacks_locks = λ _. Unit {0};
       looks_beside = λ _ _ _. Unit {0};
       starts = λ _ _. Unit {0};
       cuts = λ _ _ _. Unit {0};

@@ -1,6 +1,6 @@
 //! Opens files, and reads them.
 
-ghost use Rattle.std.specs.Prelude.{◌≡◌, [], IfOk, OnOk, is_ok};
+ghost use Rattle.std.specs.Prelude.{◌≡◌, ◌⊎◌, [], IfOk, OnOk, is_ok};
 ghost use Rattle.ud_replace.specs.declared.node.NodeKind.{NodeKind};
 ghost use Rattle.ud_tree.specs.Evidence.{Finds, is_same};
 ghost use Rattle.ud_tree.specs.Opening.{IsFound, IsRead, IsReadAgain, OpensToWrite, Shows};
@@ -31,7 +31,8 @@ pub(crate) fn read_file<S: Looks>(
 }
 
 /// Does what `read_file` does, with a file that is open already. If another file has its name now,
-/// opens that one. So a pipe with that name isn't waited for.
+/// opens that one. So a pipe with that name isn't waited for. The file is locked first, so that no
+/// other run writes into it between this reading and what follows.
 pub(crate) fn read_again<S: Changes>(
     system: &S,
     path: &str,
@@ -42,6 +43,7 @@ pub(crate) fn read_again<S: Changes>(
     ensures { IfOk result
         (IsReadAgain S.looking S.changing S.Old.remaining path.now text.new.items) }
 {
+    lock_open(system, file)?;
     let found = system.look(path)?;
     let stat = found.regular()?;
     reopen(system, path, &found, file)?;
@@ -52,15 +54,31 @@ pub(crate) fn read_again<S: Changes>(
 
 /// Opens a file again if another one was found at its path.
 fn reopen<S: Changes>(system: &S, path: &str, found: &Facts, file: &mut S::Old) -> io::Result<()>
+    requires held { S.changing.locks file.old ⊎ S.changing.lacks_locks file.old }
     requires regular { found.now.node.kind ≡ NodeKind.File }
     requires looked { S.looking.looked path.now found.now }
-    ensures { OnOk result (Shows S.changing.shows found.now file.new) }
+    ensures shown { OnOk result (Shows S.changing.shows found.now file.new) }
+    ensures held { OnOk result (S.changing.locks file.new ⊎ S.changing.lacks_locks file.new) }
 {
     if is_same(system.old_facts(file)?.node.id, found.node.id) {
         return Ok(());
     }
     *file = system.update(path, found)?;
+    lock_open(system, file)?;
     check_same(&system.old_facts(file)?, found)
+}
+
+/// Locks a file, if its file system has locks. So no other run writes into it until it is closed.
+///
+/// # Errors
+/// Fails if another run has locked it.
+fn lock_open<S: Changes>(system: &S, file: &mut S::Old) -> io::Result<()>
+    ensures { OnOk result (S.changing.locks file.new ⊎ S.changing.lacks_locks file.new) }
+{
+    match system.lock_old(file) {
+        Ok(false) => Err(io::Error::new(ErrorKind::AlreadyExists, "another run is at it")),
+        Ok(true) | Err(_) => Ok(()),
+    }
 }
 
 /// Opens a regular file for reading and writing, and keeps its bytes.

@@ -108,7 +108,8 @@ pub trait Changes: Looks {
     /// # Errors
     /// Fails if the file system has no locks.
     fn lock_old(&self, file: &mut Self::Old) -> io::Result<bool>
-        ensures { IfOk result (λ locked. locked ≡ true → changing.locks file.new) };
+        ensures { MatchResult result (λ locked. locked ≡ true → changing.locks file.new)
+            (λ _. changing.lacks_locks file.new) };
 
     /// Returns the facts about what is at a path, while the file is open.
     fn look_beside(&self, file: &Self::Old, path: &str) -> io::Result<Facts>
