@@ -7,7 +7,7 @@ ghost use Rattle.ud_tree.specs.Evidence.{AreFacts, Shown, is_same};
 use std::io::{self, ErrorKind};
 use ud_replace::{FileId, FileStat, FileTime, FileVersion, Node, NodeKind};
 
-/// What the system says of a file, one fact a method.
+/// The facts that the system gives of a file, one for each method.
 pub(crate) trait Attributes {
     /// The evidence of each fact.
     ghost shown: { Shown Self };
