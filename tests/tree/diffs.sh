@@ -28,6 +28,28 @@ test_small_diffs() {
  #endif'
 }
 
+# The marks of the lines are those of the output. Here the directives over several lines stay, since
+# without DOC, in which a comment begins, the last one would be read in another way.
+test_marks_of_output() {
+  local text='#if VMS && \\\n  W\n#endif\nx;\n\n\ny;\nz;\n#ifdef DOC\nsrc/*.c\n#endif\n'
+  text+='#if X || \\\n  Y\nb;\n#endif\n/* end */\n'
+  alone src/a.c "$text"
+  after '1 -n -q -p -UVMS -iUDOC src' prints '--- src/a.c
++++ src/a.c
+@@ -6,9 +6,6 @@
+ 
+ y;
+ z;
+-#ifdef DOC
+-src/*.c
+-#endif
+ #if X || \
+   Y
+ b;'
+  run 1 -q -p -B -UVMS -iUDOC src
+  is src/a.c "${text/\#ifdef DOC\\nsrc\/\*.c\\n\#endif\\n/}"
+}
+
 # applies COMMAND..: the command must take the diff in a copy of the tree, and with -R turn it back.
 applies() {
   has "$1" || { lacks "$1" "diffs by $1"; return 0; }

@@ -132,12 +132,41 @@ test_little_memory() {
   done
 }
 
-# Each growth of memory is refused in turn. The run does without it, or has a message, also if only
-# the diff of a changed file is lost.
+# makes_refusing: builds the library $refusing, by which growths of memory are refused.
+makes_refusing() {
+  has "${cc[0]}" || { lacks "${cc[0]}" 'refused memory'; return 1; }
+  refusing=$work/refuse.so
+  holds_that "${cc[@]}" -O1 -shared -fPIC -o "$refusing" "$here/tests/faults/refuse.c" -ldl
+}
+
+# Each growth of memory is refused in turn. The run does without it, or has a message and leaves the
+# file: no output is another one for want of memory.
+test_refused_outcomes() {
+  local i refusing told=0
+  local gone='a;\n\n#if defined(VMS) && \\\n  X\nv;\n#endif\n\nb;\n'
+  makes_refusing || return 0
+  alone src/a.c "$gone"
+  under 1 env REFUSE_COUNT="$work/count" LD_PRELOAD="$refusing" -- -q -p -B -UVMS src/a.c
+  is src/a.c 'a;\n\nb;\n'
+  for i in $(seq 1 "$(wc -c < "$work/count")"); do
+    put src/a.c "$gone"
+    under "$whole_or_failed" env REFUSE_FROM="$i" REFUSE_TO="$i" LD_PRELOAD="$refusing" \
+      -- -q -p -B -UVMS src/a.c
+    if [ "$status" -eq 1 ]; then
+      is src/a.c 'a;\n\nb;\n'
+    else
+      is src/a.c "$gone"
+      told=$((told + 1))
+    fi
+  done
+  holds_that test "$told" -gt 0
+  rm "$refusing" "$work/count"
+}
+
+# So it is if only the diff of a changed file is lost.
 test_lost_for_memory() {
-  local i lost=0 untold=0 refusing=$work/refuse.so source=$here/tests/faults/refuse.c
-  has "${cc[0]}" || { lacks "${cc[0]}" 'refused memory'; return; }
-  holds_that "${cc[@]}" -O1 -shared -fPIC -o "$refusing" "$source" -ldl
+  local i lost=0 untold=0 refusing
+  makes_refusing || return 0
   fresh src/a.c
   under 1 env REFUSE_COUNT="$work/count" LD_PRELOAD="$refusing" -- -d -DA src
   prints '--- src/a.c' head -n 1

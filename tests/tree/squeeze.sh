@@ -15,6 +15,13 @@ squeezes() {
 gone=$'#ifdef VMS\nv();\n#endif'
 gone_empty=$'#ifdef VMS\n#endif'
 
+# A line of one NUL byte is a line like others, if it goes. No blank line goes that is far from it.
+test_squeezed_nul_lines() {
+  alone src/a.c 'a;\n#ifdef VMS\n\0000\n\0000\n#endif\nb;\n\n}\nc;\n'
+  run 1 -q -B -UVMS src
+  is src/a.c 'a;\nb;\n\n}\nc;\n'
+}
+
 # As many blank lines stay as the longest part of a run had that removed lines split.
 test_squeezed_gaps() {
   fresh

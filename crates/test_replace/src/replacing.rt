@@ -91,6 +91,7 @@ fn check(
         run,
         prunes: false,
         squeezes: false,
+        marks: false,
     };
     check_plan(rt, &plan, text, links, write_into, failures, want)
 }
@@ -164,6 +165,7 @@ fn decided_operands_go_if_conditions_are_pruned(rt: HostRuntime) -> Result<(), F
         run,
         prunes: true,
         squeezes: false,
+        marks: false,
     };
     let pruned = Left {
         result: Ok(Update::Replaced),

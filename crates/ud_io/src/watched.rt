@@ -47,6 +47,13 @@ impl<T> Watched<T> {
         }
     }
 
+    /// Returns the wrapped reader or writer, and ends the record.
+    pub fn into_inner(self) -> T
+        ensures { result ≡ self.inner }
+    {
+        self.inner
+    }
+
     /// Returns the wrapped reader or writer.
     pub fn inner(&self) -> &T
         ensures { result.now ≡ self.now.inner }

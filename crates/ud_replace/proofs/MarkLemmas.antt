@@ -1,5 +1,6 @@
 -- Marks: the lines of a text one after another, and the marks that are read from a printer's output.
 use Rattle.std.proofs.Common.{◌≡◌, ◌≢◌, ℕ, suc, ◌+◌, ◌-◌, ◌<◌, ◌≤◌, ◌==◌, Bool, true, false, not, ◌&&◌, if◌then◌else◌, List, [], ◌∷◌, ◌++◌, length, take, drop, map, replicate, nat_le, refl, sym, ◌∙◌, ap, ap₂, subst, inl, inr, append_assoc, take-append-drop, take-take, length-take, length-take-le, arith, bytes_eq, ◌⊎◌, Option, None}
+use Rattle.std.specs.Prelude.{slice_index}
 use Rattle.std.specs.List.{concat}
 use Rattle.std.proofs.lemmas.Grind.{common_steps}
 use Rattle.std.proofs.lemmas.List.{take_all, drop_all, replicate-append-replicate}
@@ -15,15 +16,16 @@ use Rattle.ud_model.specs.sections.Items.{Options, line_of}
 use Rattle.ud_model.specs.sections.Pruning.{is_removed, marks}
 use Rattle.ud_model.specs.sections.Faults.{Fault}
 use Rattle.ud_model.specs.answer.Printing.{Judged, judged_lines, pieces_by}
-use Rattle.ud_model.specs.answer.Outcomes.{ReadsAs, stops, ends}
+use Rattle.ud_model.specs.answer.Outcomes.{Outcome, HasOutcome, ReadsAs, ran_as, stops, ends}
 use Rattle.ud_model.specs.declared.settings.Settings.{Settings}
 use Rattle.ud_model.proofs.answer.Onward.{read_lines, judged_all}
+use Rattle.ud_model.proofs.sections.Soundness.{reads_once}
 use Rattle.ud_model.proofs.sections.Stays.{length_marks}
 use Rattle.ud_model.proofs.text.LinesLemmas.{split_lines-append, split_lines-append-line, split_lines-line-prefix, split_lines-open, texts_of-formed, lines_exist, map-lines_of}
 use Rattle.ud_text.specs.lines.LinesState.{UpToNewline}
 use Rattle.ud_text.specs.bulk.BulkLexemes.{IsLineStart, at_start, after_newline}
 use Rattle.ud_passes.specs.declared.diff.script.TheConstants.{SAME}
-use Rattle.ud_replace.specs.Marks.{AreMarks, judged_by, mark_by, plain_piece, mark_of, mark_piece, first_text, later_texts, read_mark, read_marks}
+use Rattle.ud_replace.specs.Marks.{AreMarks, judged_by, mark_by, plain_piece, mark_of, stays_by, mark_piece, first_text, later_texts, read_mark, read_marks}
 use Rattle.ud_replace.specs.FoldedMarks.{first_stay}
 
 -- A line that a text begins with is its first one.
@@ -139,23 +141,24 @@ read_marks-none ls [] e = refl
 read_marks-none ls (b ∷ bs) e = cc
 
 -- The bytes printed for judged lines are read back.
-read_each : {X : Type 0} (line shown : X → List ℕ) (xs : List X) → read_marks (map line xs) (map shown xs) ≡ map (λ x. read_mark (line x) (shown x)) xs
-read_each line shown [] = refl
-read_each line shown (x ∷ xs) = ap (λ (ms : List ℕ). read_mark (line x) (shown x) ∷ ms) (read_each line shown xs)
+read_each : {X : Type 0} (line shown : X → List ℕ) (mark : X → ℕ) → ((x : X) → read_mark (line x) (shown x) ≡ mark x) → (xs : List X) →
+    read_marks (map line xs) (map shown xs) ≡ map mark xs
+read_each line shown mark h [] = refl
+read_each line shown mark h (x ∷ xs) = ap₂ (λ (m : ℕ) (ms : List ℕ). m ∷ ms) (h x) (read_each line shown mark h xs)
 
--- The bytes printed in place of a line are the line, or a line of their own.
+-- The bytes printed for a line are the line, perhaps after a mark.
 data Shows (line shown : List ℕ) : Type 0 where
   same : shown ≡ line → Shows line shown
-  other : (mark : ℕ) → mark ≢ 10 → shown ≡ mark ∷ 10 ∷ [] → Shows line shown
+  other : (mark : ℕ) → mark ≢ 10 → shown ≡ mark ∷ line → Shows line shown
 
 shows_whole : (line shown : List ℕ) → Shows line shown → IsWhole line → IsWhole shown
 shows_whole line shown (same e) whole = subst IsWhole (sym e) whole
-shows_whole line shown (other mark n e) whole = (mark ∷ [], (n, tt), e)
+shows_whole line shown (other mark n e) whole = (mark ∷ whole.0, (n, whole.1), e ∙ ap (λ (x : List ℕ). mark ∷ x) whole.2)
 
 shows_formed : (line shown : List ℕ) → Shows line shown → IsWhole line ⊎ IsUnterminated line → IsWhole shown ⊎ IsUnterminated shown
 shows_formed line shown s (inl whole) = inl (shows_whole line shown s whole)
 shows_formed line shown (same e) (inr rest) = inr (subst IsUnterminated (sym e) rest)
-shows_formed line shown (other mark n e) (inr rest) = inl (mark ∷ [], (n, tt), e)
+shows_formed line shown (other mark n e) (inr rest) = inr (subst IsUnterminated (sym e) (λ q. absurd cc, (n, rest.1)))
 
 -- The bytes printed in place of the lines of a text are lines.
 all_formed : {X : Type 0} (line shown : X → List ℕ) (shows : (x : X) → Shows (line x) (shown x)) (xs : List X) → AreFormed (map line xs) → AreFormed (map shown xs)
@@ -172,19 +175,37 @@ shows_judged blank j = by_test (bytes_eq (plain_piece blank j) (text_of j.line))
     no_newline false m is e = absurd (omega arith)
 
     by_test : (b : Bool) → bytes_eq (plain_piece blank j) (text_of j.line) ≡ b →
-        Shows (text_of j.line) (if b then plain_piece blank j else mark_of blank j ∷ 10 ∷ [])
+        Shows (text_of j.line) (if b then plain_piece blank j else mark_of blank j ∷ text_of j.line)
     by_test true e = same ((bytes_eq-Decides (plain_piece blank j) (text_of j.line)).0 e)
     by_test false e = other (mark_of blank j) (no_newline (is_removed j.verdict && not blank) (mark_of blank j) refl) refl
 
 shows_by : (s : Settings) (j : Judged) → Shows (text_of j.line) (mark_piece s.blank (judged_by s j))
 shows_by s j = shows_judged s.blank (judged_by s j)
 
+-- A line after a mark isn't the line.
+longer : (m : ℕ) (line : List ℕ) → bytes_eq (m ∷ line) line ≡ false
+longer m line = by_test (bytes_eq (m ∷ line) line) refl
+  where
+    by_test : (b : Bool) → bytes_eq (m ∷ line) line ≡ b → b ≡ false
+    by_test false e = refl
+    by_test true e = absurd (let q : suc (length line) ≡ length line = ap length ((bytes_eq-Decides (m ∷ line) line).0 e) in omega arith)
+
+-- What is printed for a judged line has its mark.
+read_judged : (s : Settings) (j : Judged) → read_mark (text_of j.line) (mark_piece s.blank (judged_by s j)) ≡ mark_by s j
+read_judged s j = by_test (stays_by s.blank (judged_by s j)) refl
+  where
+    by_test : (b : Bool) → stays_by s.blank (judged_by s j) ≡ b →
+        read_mark (text_of j.line) (if b then plain_piece s.blank (judged_by s j) else mark_of s.blank (judged_by s j) ∷ text_of j.line)
+        ≡ (if b then SAME else mark_of s.blank (judged_by s j))
+    by_test true e = ap (λ (t : Bool). if t then SAME else slice_index (plain_piece s.blank (judged_by s j)) 0) e
+    by_test false e = ap (λ (t : Bool). if t then SAME else mark_of s.blank (judged_by s j)) (longer (mark_of s.blank (judged_by s j)) (text_of j.line))
+
 -- The marks of judged lines are read from what is printed for them.
 marks_read : (s : Settings) (js : List Judged) (text : List ℕ) → map (λ (j : Judged). text_of j.line) js ≡ texts_of text →
     read_marks (texts_of text) (texts_of (concat (map (λ (j : Judged). mark_piece s.blank (judged_by s j)) js))) ≡ map (mark_by s) js
 marks_read s js text lines =
     ap₂ read_marks (sym lines) (sym (texts_of-formed (map piece js) (all_formed line piece (shows_by s) js (subst AreFormed (sym lines) (lines_exist text).formed))))
-    ∙ read_each line piece js
+    ∙ read_each line piece (mark_by s) (read_judged s) js
   where
     line : Judged → List ℕ
     line j = text_of j.line
@@ -210,6 +231,18 @@ judged_texts {o} {text} {xs} {t} h =
     sym (map-map text_of (λ (j : Judged). j.line) (judged_lines xs (marks t)))
     ∙ ap (map text_of) (judged_all xs (marks t) (length_marks true t ∙ ap length (read_lines h)) ∙ read_all None refl h)
     ∙ map-lines_of text
+
+-- A text without a fault has marks.
+pub marks_exist : (o : Options) (text : List ℕ) {a : Outcome} → HasOutcome o text a → a.fault ≡ None → (ms : List ℕ) × AreMarks o text ms
+marks_exist o text (ran_as {xs} {t} reads) none =
+    let faultless = subst (λ (f : Option Fault). ReadsAs o text xs t f) none reads in
+    (map (mark_by o.settings) (judged_lines xs (marks t)), record { items = xs; tree = t; reads = faultless; all = judged_texts faultless; each = refl })
+
+-- A text has one list of marks.
+pub one_marks : (o : Options) (text : List ℕ) {ms ns : List ℕ} → AreMarks o text ms → AreMarks o text ns → ms ≡ ns
+one_marks o text a b =
+    let same = reads_once a.reads b.reads in
+    a.each ∙ ap₂ (λ (xs : List (Item Reading)) (t : Tree Reading). map (mark_by o.settings) (judged_lines xs (marks t))) same.0 same.1 ∙ sym b.each
 
 -- The marks of a text, read from what a printer of marks prints for it.
 pub are_marks : (o : Options) (piece : List Judged → Judged → List ℕ) (text new ms : List ℕ) {xs : List (Item Reading)} {t : Tree Reading} → ReadsAs o text xs t None →

@@ -1,11 +1,9 @@
 -- Printing: an engine is fed a whole text, and ends.
-use Rattle.std.proofs.Common.{◌≡◌, ℕ, List, [], ◌++◌, Bool, Some, Result, Ok, Err, IfOk, IfSome, refl, sym, ◌∙◌, ap, subst, append_assoc, append-nil}
-use Rattle.std.specs.Result.{result_ok}
+use Rattle.std.proofs.Common.{◌≡◌, ℕ, List, [], ◌++◌, Bool, Some, Result, Ok, Err, IfOk, refl, sym, ◌∙◌, ap, subst, append_assoc, append-nil}
 use Rattle.ud_model.specs.text.Lines.{texts_of}
 use Rattle.ud_model.specs.declared.settings.Settings.{Settings}
 use Rattle.ud_model.specs.declared.settings.Listing.{Listing}
 use Rattle.ud_model.specs.declared.settings.Listing.TheVariants.{Off}
-use Rattle.ud_args.specs.Plans.{PlanState, ForOptionsOf}
 use Rattle.ud_engine.specs.ProcessedLines.{text_by}
 use Rattle.ud_model.specs.sections.Items.{Options}
 use Rattle.ud_model.specs.answer.Printing.{Judged}
@@ -85,11 +83,3 @@ prints_marks o s text {new = new} e none h =
 pub marks_printed : (o : Options) (text new : List ℕ) → PrintsMarks o text new → o.settings.listing ≡ Off → (ms : List ℕ) → ms ≡ read_marks (texts_of text) (texts_of new) → AreMarks o text ms
 marks_printed o text new h off ms read =
     are_marks o (marked_piece o.settings) text new ms h.reads (λ before j. refl) (h.printed ∙ ap (λ (l : Listing). text_by l (marked_piece o.settings) h.items h.tree) off) read
-
--- The marks that were read, whatever the options.
-pub marks_found : {X E : Type 0} (items : X → List ℕ) (plan : PlanState) (text new : List ℕ) (found : Result X E) →
-    IfOk found (λ v. items v ≡ read_marks (texts_of text) (texts_of new)) →
-    ForOptionsOf plan (λ o. o.settings.listing ≡ Off → (ms : List ℕ) → ms ≡ read_marks (texts_of text) (texts_of new) → AreMarks o text ms) →
-    IfSome (result_ok found) (λ v. ForOptionsOf plan (λ o. o.settings.listing ≡ Off → AreMarks o text (items v)))
-marks_found items plan text new (Ok v) read h = λ o settings table off. h o settings table off (items v) read
-marks_found items plan text new (Err e) read h = tt

@@ -1,26 +1,35 @@
--- The run over a text in memory, and the pass over its output.
-use Rattle.std.proofs.Common.{◌≡◌, ℕ, List, [], ◌++◌, Bool, true, false, ◌||◌, bytes_eq, Option, None, Some, Ok, Err, refl, sym, ap, ◌∙◌, subst, arith}
-use Rattle.std.specs.Prelude.{nat_lt, not}
+-- The outcome of a text: of the run over it, of its folded text, and with squeezed blank lines.
+use Rattle.std.proofs.Common.{◌≡◌, ℕ, List, [], ◌++◌, Bool, true, false, ◌||◌, ◌&&◌, if◌then◌else◌, bytes_eq, Option, None, Some, Result, Ok, Err, refl, sym, ap, ap₂, ◌∙◌, subst, arith}
+use Rattle.std.specs.Prelude.{nat_lt, not, is_none, MatchResult}
+use Rattle.std.specs.Global.{Vec}
+use Rattle.std.specs.Result.{IsErrAnd}
 use Rattle.std.proofs.lemmas.Slice.Eq.{bytes_eq-Decides}
-use Rattle.ud_model.specs.declared.settings.Listing.TheVariants.{Off}
-use Rattle.ud_model.proofs.output.Changed.{changed}
+use Rattle.std.proofs.lemmas.Bool.{false≢true}
+use Rattle.ud_model.specs.text.Lines.{texts_of}
+use Rattle.ud_model.specs.sections.Faults.{Fault}
 use Rattle.ud_model.specs.sections.Items.{Options, rules_of}
+use Rattle.ud_model.specs.declared.settings.Listing.{Listing}
+use Rattle.ud_model.specs.declared.settings.Listing.TheVariants.{Off, Names, Depths}
+use Rattle.ud_model.specs.answer.Outcomes.{Outcome, HasOutcome}
+use Rattle.ud_model.proofs.output.Changed.{changed}
+use Rattle.ud_model.proofs.sections.Soundness.{one_run}
+use Rattle.ud_simplified.specs.FoldedTexts.{folded_text, restored_text}
 use Rattle.ud_engine.specs.declared.fault.RunFault.{RunFault}
 use Rattle.ud_engine.specs.declared.fault.RunFault.TheVariants.{Text as TextFault, Section, Read as ReadFault, Write as WriteFault}
-use Rattle.ud_engine.specs.Finishing.{RunAnswers}
+use Rattle.ud_engine.specs.Finishing.{RunAnswers, text_fault_of}
 use Rattle.ud_engine.specs.Runs.{ErrorMatchesStreams}
-use Rattle.ud_passes.specs.pruning.PrunedTexts.{edited_count}
+use Rattle.ud_passes.specs.UntouchedTexts.{IsUntouched}
+use Rattle.ud_passes.specs.pruning.PrunedTexts.{pruned_text, edited_count}
+use Rattle.ud_passes.specs.squeezing.SqueezedTexts.{squeezed_text, squeezed_marks}
 use Rattle.ud_replace.specs.declared.error.ReplaceError.{ReplaceError}
 use Rattle.ud_replace.specs.declared.error.ReplaceError.TheVariants.{Text, OutOfMemory}
-use Rattle.ud_replace.specs.declared.text_plan.TextRun.{TextRun}
-use Rattle.ud_replace.specs.TextOutcomes.{TextOptions, unpruned, pruned, folded, may_fold, goes_back, comes_back, StaysUnfolded, as_run, as_faulty, as_pruned, as_folded, RunsUnsqueezed, same_run, error_of, FailsUnsqueezed, unsqueezed_faulty, unsqueezed_memory}
-use Rattle.ud_replace.specs.UnprunedRuns.{RunsUnpruned, FailsUnpruned, run_faulty, no_memory_left, PrunesInto, IsSpared}
-use Rattle.ud_passes.specs.UntouchedTexts.{IsUntouched}
-use Rattle.ud_replace.specs.FoldedRuns.{RunsPruned, LeavesFolded, RunsFolded, TriesFolded, FoldsOrStays}
-use Rattle.ud_simplified.specs.FoldedTexts.{folded_text, restored_text}
-use Rattle.ud_model.specs.answer.Outcomes.{Outcome, HasOutcome}
-use Rattle.ud_model.proofs.sections.Soundness.{one_run}
-use Rattle.std.proofs.lemmas.Bool.{false≢true}
+use Rattle.ud_replace.specs.declared.outcome.Outcome.{Outcome as Made}
+use Rattle.ud_replace.specs.Marks.{AreMarks}
+use Rattle.ud_replace.specs.FoldedMarks.{unfolded}
+use Rattle.ud_replace.specs.TextOutcomes.{TextOptions, TextOutcome, unpruned, pruned, printed, HasMarks, may_fold, goes_back, comes_back, IsFolded, StaysUnfolded, folded, HasPrinted, as_printed, HasUnsqueezed, as_read, as_folded, is_off, goes_squeezed, squeezed, HasMarkedOutcome, as_it_is, as_squeezed, error_of, FailsBy, over_faulty, over_memory, FailsOver}
+use Rattle.ud_replace.specs.MadeOutcomes.{output_in, IsSameText, IsMade, IsPrunedBy, as_it_was, without_operands, IsRestored, RestoresTo, IsFoldedBy}
+use Rattle.ud_replace.specs.UnprunedRuns.{RunsUnpruned, FailsUnpruned, run_faulty, no_memory_left, IsSpared}
+use Rattle.ud_replace.proofs.MarkLemmas.{marks_exist, one_marks}
 use Rattle.ud_replace.proofs.StepLemmas.{works}
 
 -- A run that ended at the text's fault, while its reader and its writer worked.
@@ -44,34 +53,155 @@ fails_unpruned o input text before left reader writer (Section t) e m ran =
 fails_unpruned o input text before left reader writer ReadFault e m ran = no_memory_left
 fails_unpruned o input text before left reader writer WriteFault e m ran = no_memory_left
 
--- The failure of a run is that of the text, whether or not conditions are pruned.
-pub fails_over : (o : TextOptions) {text : List ℕ} {e : ReplaceError} → StaysUnfolded o text → FailsUnpruned o.run text e → FailsUnsqueezed o text e
-fails_over o stays (run_faulty a f has is some) = unsqueezed_faulty (unpruned a) f (as_faulty some has stays) is some
-fails_over o stays no_memory_left = unsqueezed_memory
+-- 1. The run over a text as it is.
 
--- Without pruning, no text is folded.
-pub stays_as_is : (o : TextOptions) (text : List ℕ) → o.prunes ≡ false → StaysUnfolded o text
-stays_as_is o text none = λ a i. false≢true (sym none ∙ i.prunes)
+-- A run's fault stays, whether or not its conditions are pruned.
+printed_fault : (o : TextOptions) (a : Outcome) → (printed o a).fault ≡ a.fault
+printed_fault o a = by_test (o.prunes && is_none a.fault)
+  where
+    by_test : (b : Bool) → (if b then pruned o.run a else unpruned a).fault ≡ a.fault
+    by_test true = refl
+    by_test false = refl
 
--- Memory couldn't be allocated.
-pub fails_memory : (o : TextOptions) (text : List ℕ) {e : ReplaceError} → e ≡ OutOfMemory → FailsUnsqueezed o text e
-fails_memory o text is = subst (λ (x : ReplaceError). FailsUnsqueezed o text x) (sym is) unsqueezed_memory
+-- A text with a fault has no marks.
+no_marks : (o : Options) (text : List ℕ) (f : Option Fault) → ¬ (f ≡ None) → HasMarks o text f []
+no_marks o text None some = absurd (some refl)
+no_marks o text (Some f) some = refl
 
--- Without pruning, the output is that of the run.
-pub runs_as_is : (o : TextOptions) {text before left : List ℕ} {d : Bool} (ran : TextRun) → o.prunes ≡ false → ran.differs ≡ d → ran.edited ≡ 0 →
-    RunsUnpruned o.run text before left d → RunsUnsqueezed o text before left ran
-runs_as_is o ran none differs edited h = record {
-  outcome = unpruned h.outcome;
-  runs = as_run none h.runs;
+marks_of_none : {o : Options} {text : List ℕ} {f : Option Fault} {ms : List ℕ} → f ≡ None → AreMarks o text ms → HasMarks o text f ms
+marks_of_none {o = o} {text = text} {ms = ms} none are = subst (λ (f : Option Fault). HasMarks o text f ms) (sym none) are
+
+none_of_marks : {o : Options} {text : List ℕ} {f : Option Fault} {ms : List ℕ} → f ≡ None → HasMarks o text f ms → AreMarks o text ms
+none_of_marks {o = o} {text = text} {ms = ms} none are = subst (λ (f : Option Fault). HasMarks o text f ms) none are
+
+-- A run that failed has the fault of the printed outcome.
+pub fails_printed : (o : TextOptions) {text : List ℕ} {e : ReplaceError} → FailsUnpruned o.run text e → FailsBy (HasPrinted o text) e
+fails_printed o {text = text} (run_faulty a f has is some) =
+    over_faulty (printed o a) [] f (as_printed has (no_marks o.run text a.fault some)) (printed_fault o a ∙ is) (λ q. some (sym (printed_fault o a) ∙ q))
+fails_printed o no_memory_left = over_memory
+
+-- What was printed of a text, before its marks are known.
+pub record Prints (o : TextOptions) (text : List ℕ) (made : Made) : Type 0 where
+  pub outcome : Outcome
+  pub runs : HasOutcome o.run text outcome
+  pub faultless : outcome.fault ≡ None
+  pub output_is : output_in made text ≡ (printed o outcome).output
+  pub differs_is : made.differs ≡ (printed o outcome).differs
+  pub edited_is : made.edited ≡ (printed o outcome).edited
+
+printed_whole : (o : TextOptions) (a : Outcome) → o.prunes ≡ false → printed o a ≡ unpruned a
+printed_whole o a off = ap (λ (b : Bool). if b && is_none a.fault then pruned o.run a else unpruned a) off
+
+printed_pruned : (o : TextOptions) (a : Outcome) → o.prunes ≡ true → a.fault ≡ None → printed o a ≡ pruned o.run a
+printed_pruned o a on none =
+    ap (λ (b : Bool). if b && is_none a.fault then pruned o.run a else unpruned a) on
+    ∙ ap (λ (f : Option Fault). if is_none f then pruned o.run a else unpruned a) none
+
+pub prints : (o : TextOptions) {text out : List ℕ} {d : Bool} {made : Made} → RunsUnpruned o.run text [] out d → IsPrunedBy o out d made → Prints o text made
+prints o {text = text} h (as_it_was off is same edited) =
+    let p = sym (printed_whole o h.outcome off) in
+    record {
+      outcome = h.outcome;
+      runs = h.runs;
+      faultless = h.faultless;
+      output_is = is text ∙ h.appended ∙ ap (λ (r : TextOutcome). r.output) p;
+      differs_is = same ∙ h.differs_is ∙ ap (λ (r : TextOutcome). r.differs) p;
+      edited_is = edited ∙ ap (λ (r : TextOutcome). r.edited) p;
+    }
+prints o {text = text} {out = out} {d = d} {made = made} h (without_operands on is edited differs) =
+    let p = sym (printed_pruned o h.outcome on h.faultless) in
+    let n : made.edited ≡ edited_count o.run.table (rules_of o.run.settings) h.outcome.output =
+    edited ∙ ap (edited_count o.run.table (rules_of o.run.settings)) h.appended in
+    record {
+      outcome = h.outcome;
+      runs = h.runs;
+      faultless = h.faultless;
+      output_is = is text ∙ ap (pruned_text o.run.table (rules_of o.run.settings)) h.appended ∙ ap (λ (r : TextOutcome). r.output) p;
+      differs_is = differs ∙ ap (λ (b : Bool). b || nat_lt 0 made.edited) h.differs_is
+          ∙ ap (λ (k : ℕ). h.outcome.differs || nat_lt 0 k) n ∙ ap (λ (r : TextOutcome). r.differs) p;
+      edited_is = n ∙ ap (λ (r : TextOutcome). r.edited) p;
+    }
+
+-- Other marks change nothing about the output.
+pub remarked : {o : TextOptions} {text : List ℕ} {made : Made} (ns : Vec ℕ) → Prints o text made → Prints o text (record made { marks = ns })
+remarked ns h = record {
+  outcome = h.outcome;
+  runs = h.runs;
   faultless = h.faultless;
-  appended = h.appended;
-  differs_is = differs ∙ h.differs_is;
-  edited_is = edited;
+  output_is = h.output_is;
+  differs_is = h.differs_is;
+  edited_is = h.edited_is;
 }
 
--- If no line differs, the output is the text.
-same_bytes : (out text : List ℕ) (d : Bool) → d ≡ not (bytes_eq out text) → d ≡ false → text ≡ out
-same_bytes out text d is none = grind (arith, bytes_eq-Decides)
+-- Its marks aren't wanted.
+pub printed_unmarked : (o : TextOptions) {text : List ℕ} {marked : Bool} {made : Made} → Prints o text made →
+    (marked ≡ true → made.differs ≡ true → o.run.settings.listing ≡ Off → ⊥) → IsMade o text marked (HasPrinted o text) made
+printed_unmarked o {text = text} h unwanted = let m = marks_exist o.run text h.runs h.faultless in
+    record {
+      outcome = printed o h.outcome;
+      marks = m.0;
+      runs = as_printed h.runs (marks_of_none h.faultless m.1);
+      faultless = printed_fault o h.outcome ∙ h.faultless;
+      output_is = h.output_is;
+      differs_is = h.differs_is;
+      edited_is = h.edited_is;
+      marks_are = λ wanted differs off. absurd (unwanted wanted differs off);
+    }
+
+-- Its marks were made.
+pub printed_marked : (o : TextOptions) {text : List ℕ} {marked : Bool} {made : Made} → Prints o text made → AreMarks o.run text made.marks.items →
+    IsMade o text marked (HasPrinted o text) made
+printed_marked o {made = made} h are = record {
+  outcome = printed o h.outcome;
+  marks = made.marks.items;
+  runs = as_printed h.runs (marks_of_none h.faultless are);
+  faultless = printed_fault o h.outcome ∙ h.faultless;
+  output_is = h.output_is;
+  differs_is = h.differs_is;
+  edited_is = h.edited_is;
+  marks_are = λ wanted differs off. refl;
+}
+
+-- What one relation has, another one has.
+pub lift : (o : TextOptions) {text : List ℕ} {marked : Bool} {has more : TextOutcome → List ℕ → Type 0} {made : Made} →
+    ((r : TextOutcome) (ms : List ℕ) → has r ms → more r ms) → IsMade o text marked has made → IsMade o text marked more made
+lift o up m = record {
+  outcome = m.outcome;
+  marks = m.marks;
+  runs = up m.outcome m.marks m.runs;
+  faultless = m.faultless;
+  output_is = m.output_is;
+  differs_is = m.differs_is;
+  edited_is = m.edited_is;
+  marks_are = m.marks_are;
+}
+
+pub lift_fails : {has more : TextOutcome → List ℕ → Type 0} {e : ReplaceError} →
+    ((r : TextOutcome) (ms : List ℕ) → ¬ (r.fault ≡ None) → has r ms → more r ms) → FailsBy has e → FailsBy more e
+lift_fails up (over_faulty r ms f h is some) = over_faulty r ms f (up r ms some h) is some
+lift_fails up over_memory = over_memory
+
+-- A function fails as one that it called, or for want of memory.
+pub fails_only : {X : Type 0} (P : X → Type 0) (Q : ReplaceError → Type 0) (r : Result X ReplaceError) → IsErrAnd r Q → MatchResult r P Q
+fails_only P Q (Err x) is = is
+fails_only P Q (Ok v) is = absurd is
+
+pub fails_as : {X : Type 0} {has : TextOutcome → List ℕ → Type 0} (P : X → Type 0) (r : Result X ReplaceError) {e : ReplaceError} →
+    IsErrAnd r (λ x. x ≡ e) → FailsBy has e → MatchResult r P (FailsBy has)
+fails_as {has = has} P (Err x) is h = subst (λ (y : ReplaceError). FailsBy has y) (sym is) h
+fails_as P (Ok v) is h = absurd is
+
+pub fails_memory : {X : Type 0} (has : TextOutcome → List ℕ → Type 0) (P : X → Type 0) (r : Result X ReplaceError) →
+    IsErrAnd r (λ x. x ≡ OutOfMemory) → MatchResult r P (FailsBy has)
+fails_memory has P r is = fails_as P r is over_memory
+
+-- Nothing is listed.
+pub listing_off : (l : Listing) → is_off l ≡ true → l ≡ Off
+listing_off Off e = refl
+listing_off Names e = absurd cc
+listing_off Depths e = absurd cc
+
+-- 2. Folded texts.
 
 -- A text that pruning leaves isn't folded.
 pub spared_unfolded : (o : TextOptions) (text : List ℕ) → IsSpared o text → StaysUnfolded o text
@@ -81,11 +211,138 @@ spared_unfolded o text spared = λ a i. let u = spared i.prunes in
     itself : (t lines : List ℕ) → lines ≡ t → goes_back lines t ≡ false
     itself t lines e = grind (arith, bytes_eq-Decides)
 
+-- Without pruning, no text is folded.
+pub unpruned_unfolded : (o : TextOptions) (text : List ℕ) → o.prunes ≡ false → StaysUnfolded o text
+unpruned_unfolded o text off = λ a i. false≢true (sym off ∙ i.prunes)
+
+-- Nor is one in a run that reads no C or counts lines, or one that doesn't go back.
+pub may_unfolded : (o : TextOptions) (text : List ℕ) → may_fold o.run.settings ≡ false → StaysUnfolded o text
+may_unfolded o text off = λ a i. false≢true (sym off ∙ i.may)
+
+pub gone_unfolded : (o : TextOptions) (text : List ℕ) → goes_back (folded_text text) text ≡ false → StaysUnfolded o text
+gone_unfolded o text off = λ a i. false≢true (sym off ∙ i.goes)
+
+module _ (o : TextOptions) (text lines : List ℕ) (on : o.prunes ≡ true) (may : may_fold o.run.settings ≡ true) (is : lines ≡ folded_text text)
+    (goes : goes_back (folded_text text) text ≡ true) where
+  -- The output of the run over the folded text comes from it alone.
+  same_run : (a b : Outcome) → HasOutcome o.run lines a → IsFolded o text b → b ≡ a
+  same_run a b has i = one_run (subst (λ (x : List ℕ). HasOutcome o.run x b) (sym is) i.runs) has
+
+  -- The folded text has a fault.
+  pub faulty_unfolded : {e : ReplaceError} (f : RunFault) → e ≡ Text f → FailsBy (HasPrinted o lines) e → StaysUnfolded o text
+  faulty_unfolded f e (over_faulty _ ms g (as_printed {a} has marks) named some) =
+      λ b i. some (printed_fault o a ∙ sym (ap (λ (x : Outcome). x.fault) (same_run a b has i)) ∙ i.faultless)
+  faulty_unfolded f e over_memory = absurd cc
+
+  -- Its output doesn't come back.
+  pub other_unfolded : {marked : Bool} {ran : Made} → IsMade o lines marked (HasPrinted o lines) ran → comes_back (output_in ran lines) ≡ false → StaysUnfolded o text
+  other_unfolded {ran = ran} m other = by m.outcome m.marks m.runs m.faultless m.output_is
+    where
+      by : (r : TextOutcome) (ms : List ℕ) → HasPrinted o lines r ms → r.fault ≡ None → output_in ran lines ≡ r.output → StaysUnfolded o text
+      by _ ms (as_printed {a} has marks) none output = λ b i.
+          let faultless = sym (printed_fault o a) ∙ none in
+          false≢true (sym other ∙ ap comes_back (output ∙ ap (λ (r : TextOutcome). r.output) (printed_pruned o a on faultless)
+          ∙ sym (ap (λ (x : Outcome). (pruned o.run x).output) (same_run a b has i))) ∙ i.comes)
+
+  -- Its output comes back.
+  pub is_folded : {marked : Bool} {ran made : Made} → IsMade o lines marked (HasPrinted o lines) ran → comes_back (output_in ran lines) ≡ true →
+      IsRestored lines ran made → IsMade o text marked (HasUnsqueezed o text) made
+  is_folded {marked = marked} {ran = ran} {made = made} m comes h = by m.outcome m.marks m.runs m.faultless m.output_is m.differs_is m.edited_is m.marks_are
+    where
+      by : (r : TextOutcome) (ms : List ℕ) → HasPrinted o lines r ms → r.fault ≡ None → output_in ran lines ≡ r.output → ran.differs ≡ r.differs → ran.edited ≡ r.edited →
+          (marked ≡ true → ran.differs ≡ true → o.run.settings.listing ≡ Off → ran.marks.items ≡ ms) → IsMade o text marked (HasUnsqueezed o text) made
+      by _ ms (as_printed {a} has marks) none output differs edited marks_are =
+          let faultless : a.fault ≡ None = sym (printed_fault o a) ∙ none in
+          let p : printed o a ≡ pruned o.run a = printed_pruned o a on faultless in
+          let out : output_in ran lines ≡ (pruned o.run a).output = output ∙ ap (λ (r : TextOutcome). r.output) p in
+          record {
+            outcome = folded o.run a;
+            marks = unfolded ms (texts_of (folded_text text)) (texts_of (pruned o.run a).output);
+            runs = as_folded (record {
+              prunes = on;
+              may = may;
+              goes = goes;
+              runs = subst (λ (x : List ℕ). HasOutcome o.run x a) is has;
+              faultless = faultless;
+              comes = sym (ap comes_back out) ∙ comes;
+            }) (subst (λ (x : List ℕ). AreMarks o.run x ms) is (none_of_marks faultless marks));
+            faultless = faultless;
+            output_is = h.output_is text ∙ ap restored_text out;
+            differs_is = h.differs_is ∙ differs ∙ ap (λ (r : TextOutcome). r.differs) p;
+            edited_is = h.edited_is ∙ edited ∙ ap (λ (r : TextOutcome). r.edited) p;
+            marks_are = λ wanted d off. h.marks_are ∙ ap (λ (ns : List ℕ). unfolded ns (texts_of lines) (texts_of (output_in ran lines))) (marks_are wanted (sym h.differs_is ∙ d) off)
+                ∙ ap (λ (x : List ℕ). unfolded ms (texts_of x) (texts_of (output_in ran lines))) is
+                ∙ ap (λ (x : List ℕ). unfolded ms (texts_of (folded_text text)) (texts_of x)) out;
+          }
+
+-- The run over the folded lines, restored or not.
+pub restores : (o : TextOptions) (text lines : List ℕ) {marked : Bool} {ran : Made} → o.prunes ≡ true → may_fold o.run.settings ≡ true → (r : Option Made) →
+    lines ≡ folded_text text → goes_back (folded_text text) text ≡ true → IsMade o lines marked (HasPrinted o lines) ran → RestoresTo lines ran r → IsFoldedBy o text marked r
+restores o text lines on may None is goes m other = other_unfolded o text lines on may is goes m other
+restores o text lines on may (Some made) is goes m h = is_folded o text lines on may is goes m h.0 h.1
+
+-- 3. Squeezed texts.
+
+faulty_stays : (o : TextOptions) (r : TextOutcome) → ¬ (r.fault ≡ None) → goes_squeezed o r ≡ false
+faulty_stays o r some = by r.fault refl
+  where
+    by : (f : Option Fault) → r.fault ≡ f → (o.squeezes && is_off o.run.settings.listing && r.differs && is_none f) ≡ false
+    by None e = absurd (some e)
+    by (Some f) e = grind arith
+
+-- A run that fails does so before its output is squeezed.
+pub fails_whole : (o : TextOptions) {text : List ℕ} {e : ReplaceError} → FailsBy (HasUnsqueezed o text) e → FailsOver o text e
+fails_whole o {text = text} h = lift_fails {more = HasMarkedOutcome o text} (λ r ms some has. as_it_is has (faulty_stays o r some)) h
+
+-- An outcome isn't squeezed.
+pub whole : (o : TextOptions) {text : List ℕ} {marked : Bool} {made : Made} → (m : IsMade o text marked (HasUnsqueezed o text) made) → goes_squeezed o m.outcome ≡ false →
+    IsMade o text marked (HasMarkedOutcome o text) made
+whole o m stays = record {
+  outcome = m.outcome;
+  marks = m.marks;
+  runs = as_it_is m.runs stays;
+  faultless = m.faultless;
+  output_is = m.output_is;
+  differs_is = m.differs_is;
+  edited_is = m.edited_is;
+  marks_are = m.marks_are;
+}
+
+-- An outcome is squeezed.
+pub is_squeezed : (o : TextOptions) {text seen ms : List ℕ} {marked : Bool} {lines made : Made} → (m : IsMade o text marked (HasUnsqueezed o text) lines) → o.squeezes ≡ true →
+    marked ≡ true → lines.differs ≡ true → is_off o.run.settings.listing ≡ true → seen ≡ output_in lines text → ms ≡ lines.marks.items →
+    output_in made text ≡ squeezed_text ms seen → made.marks.items ≡ squeezed_marks ms seen → made.differs ≡ true → made.edited ≡ lines.edited →
+    IsMade o text marked (HasMarkedOutcome o text) made
+is_squeezed o {text = text} {seen = seen} {ms = ms} {marked = marked} {lines = lines} {made = made} m on wanted differs off e q out ns d edited =
+    let same : seen ≡ m.outcome.output = e ∙ m.output_is in
+    let marks : ms ≡ m.marks = q ∙ m.marks_are wanted differs (listing_off o.run.settings.listing off) in
+    record {
+      outcome = squeezed m.marks m.outcome;
+      marks = squeezed_marks m.marks m.outcome.output;
+      runs = as_squeezed m.runs (goes (sym m.differs_is ∙ differs));
+      faultless = m.faultless;
+      output_is = out ∙ ap₂ squeezed_text marks same;
+      differs_is = d ∙ sym differs ∙ m.differs_is;
+      edited_is = edited ∙ m.edited_is;
+      marks_are = λ _ _ _. ns ∙ ap₂ squeezed_marks marks same;
+    }
+  where
+    goes : m.outcome.differs ≡ true → goes_squeezed o m.outcome ≡ true
+    goes e = grind (arith, on, off, e, m.faultless)
+
+-- 4. A text that stays.
+
+-- If no line differs, the output is the text.
+same_bytes : (out text : List ℕ) (d : Bool) → d ≡ not (bytes_eq out text) → d ≡ false → text ≡ out
+same_bytes out text d is none = grind (arith, bytes_eq-Decides)
+
 -- A run in which no line differs gave the text itself, unless lines are numbered or listed.
-pub stays_itself : (o : TextOptions) (input text : List ℕ) (before left : Option (List ℕ)) (reader writer d : Bool) → IsSpared o text → o.run.settings.renumber ≡ false →
-    o.run.settings.listing ≡ Off → input ≡ text → ErrorMatchesStreams reader writer (Ok d) →
-    (reader ≡ false → writer ≡ false → RunAnswers o.run input before left (Ok d)) → d ≡ false → RunsUnsqueezed o text [] text same_run
-stays_itself o input text before left reader writer d spared unnumbered unlisted is m ran same = by o.prunes refl
+pub stays_itself : (o : TextOptions) (input text : List ℕ) (before left : Option (List ℕ)) (reader writer d : Bool) {marked : Bool} {made : Made} → IsSpared o text →
+    o.run.settings.renumber ≡ false → o.run.settings.listing ≡ Off → input ≡ text → ErrorMatchesStreams reader writer (Ok d) →
+    (reader ≡ false → writer ≡ false → RunAnswers o.run input before left (Ok d)) → d ≡ false → IsSameText made → IsMade o text marked (HasMarkedOutcome o text) made
+stays_itself o input text before left reader writer d {marked = marked} {made = made} spared unnumbered unlisted is m ran same itself =
+    whole o (lift o (λ r ms h. as_read (spared_unfolded o text spared) h) (printed_unmarked o p (λ wanted differs off. false≢true (sym itself.differs ∙ differs))))
+    (grind (arith, itself.differs, p.differs_is))
   where
     h : RunAnswers o.run input before left (Ok d)
     h = ran m.works.0 m.works.1
@@ -105,97 +362,55 @@ stays_itself o input text before left reader writer d spared unnumbered unlisted
     neither : (b : Bool) (n : ℕ) → n ≡ 0 → b ≡ (b || nat_lt 0 n)
     neither b n e = grind arith
 
-    by : (b : Bool) → o.prunes ≡ b → RunsUnsqueezed o text [] text same_run
-    by false e = record { outcome = unpruned a; runs = as_run e runs; faultless = h.answered.0; appended = output; differs_is = differs; edited_is = refl }
-    by true e = let u = subst (λ (t : List ℕ). IsUntouched o.run.table (rules_of o.run.settings) t) output (spared e) in
-        record {
-          outcome = pruned o.run a;
-          runs = as_pruned e h.answered.0 runs (spared_unfolded o text spared);
-          faultless = h.answered.0;
-          appended = output ∙ sym u.unpruned;
-          differs_is = differs ∙ neither a.differs (edited_count o.run.table (rules_of o.run.settings) a.output) u.unedited;
-          edited_is = sym u.unedited;
-        }
+    text_is : output_in made text ≡ text
+    text_is = ap (λ x. output_in (record made { output = x }) text) itself.output
 
--- With pruning, the output of the run went through the pass.
-pub runs_pruned : (o : Options) {text start whole seen before left : List ℕ} {d : Bool} {n : ℕ} (ran : TextRun) → ran.differs ≡ (d || nat_lt 0 n) →
-    ran.edited ≡ n → start ≡ [] → RunsUnpruned o text start whole d → seen ≡ whole → PrunesInto o seen before left n → RunsPruned o text before left ran
-runs_pruned o {text = text} {start = start} {whole = whole} {before = before} {left = left} {d = d} {n = n} ran differs edited none started is p =
-    let h : RunsUnpruned o text [] whole d = subst (λ (b : List ℕ). RunsUnpruned o text b whole d) none started in
-    let same = subst (λ (t : List ℕ). PrunesInto o t before left n) (is ∙ h.appended) p in
-    record {
-      outcome = h.outcome;
-      runs = h.runs;
-      faultless = h.faultless;
-      appended = same.appended;
-      differs_is = differs ∙ ap (λ (b : Bool). b || nat_lt 0 n) h.differs_is ∙ ap (λ (k : ℕ). h.outcome.differs || nat_lt 0 k) same.edited_is;
-      edited_is = edited ∙ same.edited_is;
-    }
+    p : Prints o text made
+    p = by o.prunes refl
+      where
+        by : (b : Bool) → o.prunes ≡ b → Prints o text made
+        by false e = let w = sym (printed_whole o a e) in
+            record {
+              outcome = a;
+              runs = runs;
+              faultless = h.answered.0;
+              output_is = text_is ∙ output ∙ ap (λ (r : TextOutcome). r.output) w;
+              differs_is = itself.differs ∙ differs ∙ ap (λ (r : TextOutcome). r.differs) w;
+              edited_is = itself.edited ∙ ap (λ (r : TextOutcome). r.edited) w;
+            }
+        by true e = let u = subst (λ (t : List ℕ). IsUntouched o.run.table (rules_of o.run.settings) t) output (spared e) in
+            let w = sym (printed_pruned o a e h.answered.0) in
+            record {
+              outcome = a;
+              runs = runs;
+              faultless = h.answered.0;
+              output_is = text_is ∙ output ∙ sym u.unpruned ∙ ap (λ (r : TextOutcome). r.output) w;
+              differs_is = itself.differs ∙ differs ∙ neither a.differs (edited_count o.run.table (rules_of o.run.settings) a.output) u.unedited ∙ ap (λ (r : TextOutcome). r.differs) w;
+              edited_is = itself.edited ∙ sym u.unedited ∙ ap (λ (r : TextOutcome). r.edited) w;
+            }
 
--- A text that isn't folded.
-pub runs_over : (o : TextOptions) {text before left : List ℕ} (ran : TextRun) → o.prunes ≡ true → StaysUnfolded o text → RunsPruned o.run text before left ran → RunsUnsqueezed o text before left ran
-runs_over o ran wanted stays h = record {
-  outcome = pruned o.run h.outcome;
-  runs = as_pruned wanted h.faultless h.runs stays;
-  faultless = h.faultless;
-  appended = h.appended;
-  differs_is = h.differs_is;
-  edited_is = h.edited_is;
-}
+-- 5. A text has one outcome.
 
--- A folded text.
-pub folds_over : (o : TextOptions) {text before left lines : List ℕ} (ran : TextRun) → o.prunes ≡ true → may_fold o.run.settings ≡ true → goes_back lines text ≡ true → lines ≡ folded_text text →
-    RunsFolded o.run lines before left ran → RunsUnsqueezed o text before left ran
-folds_over o {text = text} {before = before} {left = left} ran wanted may goes e given =
-    let h = subst (λ (x : List ℕ). RunsFolded o.run x before left ran) e given in
-    record {
-      outcome = folded o.run h.outcome;
-      runs = as_folded (record { prunes = wanted; may = may; goes = subst (λ (x : List ℕ). goes_back x text ≡ true) e goes; runs = h.runs; faultless = h.faultless; comes = h.again });
-      faultless = h.faultless;
-      appended = h.appended;
-      differs_is = h.differs_is;
-      edited_is = h.edited_is;
-    }
+one_printed : (o : TextOptions) (text : List ℕ) {r s : TextOutcome} {ms ns : List ℕ} → HasPrinted o text r ms → HasPrinted o text s ns → (r ≡ s) × (ms ≡ ns)
+one_printed o text {ms = ms} {ns = ns} (as_printed {a = a} has marks) (as_printed {a = b} had marks') =
+    let same : a ≡ b = one_run has had in
+    (ap (printed o) same, by b.fault (subst (λ (x : Outcome). HasMarks o.run text x.fault ms) same marks) marks')
+  where
+    by : (f : Option Fault) → HasMarks o.run text f ms → HasMarks o.run text f ns → ms ≡ ns
+    by None a b = one_marks o.run text a b
+    by (Some f) a b = a ∙ sym b
 
-pub stays_over : (o : TextOptions) (text lines : List ℕ) → lines ≡ folded_text text → LeavesFolded o.run lines → StaysUnfolded o text
-stays_over o text lines e h = λ a i. h a (subst (λ (x : List ℕ). HasOutcome o.run x a) (sym e) i.runs) i.faultless i.comes
+one_unsqueezed : (o : TextOptions) (text : List ℕ) {r s : TextOutcome} {ms ns : List ℕ} → HasUnsqueezed o text r ms → HasUnsqueezed o text s ns → (r ≡ s) × (ms ≡ ns)
+one_unsqueezed o text (as_read stays h) (as_read stays' k) = one_printed o text h k
+one_unsqueezed o text (as_read stays h) (as_folded {a} i are) = absurd (stays a i)
+one_unsqueezed o text (as_folded {a} i are) (as_read stays h) = absurd (stays a i)
+one_unsqueezed o text (as_folded {a = a} {ms = ms} i are) (as_folded {a = b} {ms = ns} j are') =
+    let same : a ≡ b = one_run i.runs j.runs in
+    let marks : ms ≡ ns = one_marks o.run (folded_text text) are are' in
+    rw (same, marks) (refl, refl)
 
--- A text has one outcome.
-pub leaves_faulty : (o : Options) (lines : List ℕ) (a : Outcome) → HasOutcome o lines a → ¬ (a.fault ≡ None) → LeavesFolded o lines
-leaves_faulty o lines a has some = λ b h none _. some (subst (λ (x : Outcome). x.fault ≡ None) (one_run h has) none)
-
-pub leaves_other : (o : Options) (lines : List ℕ) (a : Outcome) → HasOutcome o lines a → comes_back (pruned o a).output ≡ false → LeavesFolded o lines
-leaves_other o lines a has other = λ b h none back. false≢true (sym other ∙ subst (λ (x : Outcome). comes_back (pruned o x).output ≡ true) (one_run h has) back)
-
-pub memory_left : (o : Options) (text : List ℕ) {e : ReplaceError} → e ≡ OutOfMemory → FailsUnpruned o text e
-memory_left o text is = subst (λ (x : ReplaceError). FailsUnpruned o text x) (sym is) no_memory_left
-
-pub leaves_failed : (o : Options) (lines : List ℕ) {e : ReplaceError} (f : RunFault) → e ≡ Text f → FailsUnpruned o lines e → LeavesFolded o lines
-leaves_failed o lines f e (run_faulty a g has is some) = leaves_faulty o lines a has some
-leaves_failed o lines f e no_memory_left = absurd cc
-
--- The looks at the output.
-module _ (o : Options) {text start whole lines back shown again seen : List ℕ} {ran : TextRun} (none : start ≡ []) (h : RunsPruned o text start whole ran) (e : lines ≡ whole)
-    (b : back ≡ restored_text lines) (s : shown ≡ back) (a : again ≡ folded_text shown) (t : seen ≡ again) where
-  printed : lines ≡ (pruned o h.outcome).output
-  printed = e ∙ h.appended ∙ ap (λ (x : List ℕ). x ++ (pruned o h.outcome).output) none
-
-  pub comes : (r : Bool) → bytes_eq seen lines ≡ r → comes_back (pruned o h.outcome).output ≡ r
-  comes r q = subst (λ (x : List ℕ). comes_back x ≡ r) printed (ap (λ (x : List ℕ). bytes_eq x lines) (sym (t ∙ a ∙ ap folded_text (s ∙ b))) ∙ q)
-
-  pub runs_folded : {old new : List ℕ} → bytes_eq seen lines ≡ true → new ≡ old ++ shown → RunsFolded o text old new ran
-  runs_folded {old = old} q w = record {
-    outcome = h.outcome;
-    runs = h.runs;
-    faultless = h.faultless;
-    again = comes true q;
-    appended = w ∙ ap (λ (x : List ℕ). old ++ x) (s ∙ b ∙ ap restored_text printed);
-    differs_is = h.differs_is;
-    edited_is = h.edited_is;
-  }
-
-pub folds_or_stays : (o : TextOptions) (text lines old new : List ℕ) (ran : Option TextRun) → o.prunes ≡ true →
-    may_fold o.run.settings ≡ true → goes_back lines text ≡ true → lines ≡ folded_text text →
-    TriesFolded o.run lines old new ran → FoldsOrStays o text old new ran
-folds_or_stays o text lines old new None wanted may goes e h = stays_over o text lines e h
-folds_or_stays o text lines old new (Some ran) wanted may goes e h = folds_over o ran wanted may goes e h
+pub one_outcome : (o : TextOptions) (text : List ℕ) {r s : TextOutcome} {ms ns : List ℕ} → HasMarkedOutcome o text r ms → HasMarkedOutcome o text s ns → (r ≡ s) × (ms ≡ ns)
+one_outcome o text (as_it_is h off) (as_it_is k off') = one_unsqueezed o text h k
+one_outcome o text (as_it_is h off) (as_squeezed k on) = let e = one_unsqueezed o text h k in absurd (false≢true (sym off ∙ ap (goes_squeezed o) e.0 ∙ on))
+one_outcome o text (as_squeezed h on) (as_it_is k off) = let e = one_unsqueezed o text h k in absurd (false≢true (sym off ∙ sym (ap (goes_squeezed o) e.0) ∙ on))
+one_outcome o text (as_squeezed h on) (as_squeezed k on') = let e = one_unsqueezed o text h k in rw (e.0, e.1) (refl, refl)

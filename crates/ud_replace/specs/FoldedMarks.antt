@@ -3,7 +3,6 @@
 --   represented line               how many lines a folded line represents
 --   first_stay n stay              the marks of `n` lines of which the first ones stay
 --   unfolded ms folded printed     the marks of the lines that folded lines represent
---   AreFoldedMarks o text output ms   the marks of a text, from those of the folded text
 --
 -- Example: a directive of three lines stays, and is printed in two. It is one folded line with the
 -- mark `~`, and its lines have the marks `=`, `=` and 0.
@@ -11,13 +10,11 @@ use Rattle.std.specs.Prelude.{◌≡◌, ℕ, ◌+◌, ◌-◌, ◌==◌, List, 
 use Rattle.std.specs.Prelude.{replicate}
 use Rattle.std.specs.Prelude.{if◌then◌else◌}
 use Rattle.std.specs.List.{count_by}
-use Rattle.ud_model.specs.text.Lines.{texts_of}
-use Rattle.ud_model.specs.sections.Items.{Options}
-use Rattle.ud_simplified.specs.FoldedTexts.{vertical_tab, folded_text}
+use Rattle.ud_simplified.specs.FoldedTexts.{vertical_tab}
 use Rattle.ud_passes.specs.declared.diff.script.TheConstants.{SAME}
 use Rattle.ud_passes.specs.squeezing.SqueezedTexts.{stays}
 use Rattle.ud_replace.specs.declared.marked.TheConstants.{REMOVED}
-use Rattle.ud_replace.specs.Marks.{AreMarks, first_text, later_texts}
+use Rattle.ud_replace.specs.Marks.{first_text, later_texts}
 
 -- `represented line`: how many lines a folded line represents: one more than it has vertical tabs.
 abbrev pub represented : List ℕ → ℕ
@@ -39,10 +36,3 @@ abbrev pub unfolded : List ℕ → List (List ℕ) → List (List ℕ) → List 
 unfolded [] folded printed = []
 unfolded (m ∷ ms) folded printed = marks_for m (first_text folded) (first_text printed) ++
     unfolded ms (later_texts folded) (if stays m then later_texts printed else printed)
-
--- `AreFoldedMarks o text output ms`: `ms` are the marks of the lines that the lines of the folded
--- text represent. The lines of the folded output are printed for those that stay.
-pub record AreFoldedMarks (o : Options) (text output ms : List ℕ) : Type 0 where
-  pub folded : List ℕ
-  pub are : AreMarks o (folded_text text) folded
-  pub marks : ms ≡ unfolded folded (texts_of (folded_text text)) (texts_of (folded_text output))

@@ -5,10 +5,8 @@ pub mod Marks
 pub mod Printing
 pub mod FoldedMarks
 pub mod TextOutcomes
-pub mod SqueezedRuns
-pub mod KeptTexts
+pub mod MadeOutcomes
 pub mod UnprunedRuns
-pub mod FoldedRuns
 pub mod Replacing
 pub mod Moments
 pub mod CallRecords

@@ -2,7 +2,8 @@
 --
 --   plain_piece blank j       what is printed for the judged line `j`
 --   mark_of blank j           the mark of a line that doesn't stay as it is
---   mark_piece blank j        the line if it is printed as it is, else its mark as a line
+--   stays_by blank j          it is printed as it is
+--   mark_piece blank j        the line, after its mark if it isn't
 --   verdict_by s v            the verdict `v`, under `-c` if the settings have that
 --   judged_by s j             the judged line with this verdict
 --   first_text ls, later_texts ls   the first of some lines, and the others
@@ -14,11 +15,10 @@
 --   marked_piece s before j   what a printer of marks prints for `j`
 --   PrintsMarks o text new    its output for a text
 --
--- Example: of a kept line `x` and a removed one, the pieces are `x` and a line of the byte 0, and
+-- Example: of a kept line `x` and a removed line `y`, the pieces are `x` and `y` after a byte 0, and
 -- the marks are `=` and 0.
 use Rattle.std.specs.Prelude.{◌≡◌, ℕ, List, [], ◌∷◌, ◌++◌, Bool, bytes_eq, if◌then◌else◌, not, map}
 use Rattle.std.specs.Prelude.{◌&&◌, None, slice_index}
-use Rattle.ud_model.specs.text.Bytes.{newline}
 use Rattle.ud_model.specs.text.Lines.{text_of, texts_of}
 use Rattle.ud_model.specs.text.Scans.{Reading}
 use Rattle.ud_model.specs.sections.Items.{Options}
@@ -41,10 +41,14 @@ plain_piece blank j = if is_removed j.verdict then (if blank then j.line.ending 
 abbrev pub mark_of : Bool → Judged → ℕ
 mark_of blank j = if is_removed j.verdict && not blank then REMOVED else EDITED
 
--- `mark_piece blank j`: what is printed for `j` if that is the line, else its mark as a line.
+-- `stays_by blank j`: what is printed for `j` is its line.
+abbrev pub stays_by : Bool → Judged → Bool
+stays_by blank j = bytes_eq (plain_piece blank j) (text_of j.line)
+
+-- `mark_piece blank j`: the line of `j` if it stays, else the line after its mark.
 abbrev pub mark_piece : Bool → Judged → List ℕ
-mark_piece blank j = if bytes_eq (plain_piece blank j) (text_of j.line) then plain_piece blank j
-    else mark_of blank j ∷ newline ∷ []
+mark_piece blank j =
+    if stays_by blank j then plain_piece blank j else mark_of blank j ∷ text_of j.line
 
 -- `verdict_by s v`: the verdict `v`, under `-c` if the settings `s` have that.
 abbrev pub verdict_by : Settings → Verdict → Verdict
@@ -74,10 +78,9 @@ abbrev pub read_marks : List (List ℕ) → List (List ℕ) → List ℕ
 read_marks ls [] = []
 read_marks ls (p ∷ ps) = read_mark (first_text ls) p ∷ read_marks (later_texts ls) ps
 
--- `mark_by s j`: the mark of the judged line `j` under the settings `s`. A line that is removed or
--- replaced, and is the line of its own mark, counts as the same.
+-- `mark_by s j`: the mark of the judged line `j` under the settings `s`: `=` if it stays.
 abbrev pub mark_by : Settings → Judged → ℕ
-mark_by s j = read_mark (text_of j.line) (mark_piece s.blank (judged_by s j))
+mark_by s j = if stays_by s.blank (judged_by s j) then SAME else mark_of s.blank (judged_by s j)
 
 -- `AreMarks o text ms`: the text has no fault. It is read as some judged lines, which are all of
 -- its lines, and `ms` has the mark of each of them.

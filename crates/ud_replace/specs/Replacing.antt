@@ -28,7 +28,7 @@ use Rattle.ud_replace.specs.declared.replacement.Target.{Target}
 use Rattle.ud_replace.specs.Calls.{Call, was_read, asked, made, overwrote, removed}
 use Rattle.ud_replace.specs.Stats.{is_of}
 use Rattle.ud_replace.specs.declared.kept.Kept.{Kept}
-use Rattle.ud_replace.specs.KeptTexts.{output_of}
+use Rattle.ud_replace.specs.MadeOutcomes.{output_of}
 use Rattle.ud_replace.specs.TextOutcomes.{TextOptions, TextOutcome, HasTextOutcome, IsOutputOf}
 use Rattle.ud_replace.specs.Filling.{Confirms, Fills}
 
@@ -153,4 +153,4 @@ abbrev pub KeepsAt : TextOptions → Target → List Call → List Call → Resu
     Kept → Type 0
 KeepsAt o t old new r kept =
     Keeps o t.write_into t.id t.name.now t.fresh.now old new r kept.text.items (output_of kept)
-    kept.edited
+    kept.outcome.edited

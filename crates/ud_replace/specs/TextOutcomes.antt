@@ -1,36 +1,39 @@
 -- TextOutcomes: the outcome of a text: of the run over it and, if wanted, of the passes over its
--- output that remove decided operands and blank lines.
+-- output that remove decided operands and blank lines. A text has exactly one.
 --
 --   TextOptions               the options of the run, and which passes go over its output
 --   IsPlanned plan o          `o` has the options of a plan
 --   TextOutcome               the output, the fault, whether it differs, and the edited conditions
 --   unpruned a, pruned o a    the outcome of a run, without and with pruned conditions
+--   printed o a               the one that the options want
+--   HasMarks o text f ms      the marks of the lines of a text, if its run has no fault
 --   may_fold s                a run with the settings `s` reads C, and counts no lines
 --   goes_back lines text      the folded text `lines` isn't `text`, and is restored to it
 --   comes_back bytes          the restored text is folded to `bytes`
 --   IsFolded o text a         the output for `text` comes from the outcome `a` of the folded text
 --   StaysUnfolded o text      the output for `text` doesn't come from the folded text
 --   folded o a                the outcome `a` of a folded text, restored and with pruned conditions
---   HasUnsqueezed o text r    `r` is the outcome of `text`, with all blank lines
---   RunsUnsqueezed, FailsUnsqueezed   such a run appended its output, or failed
---   AreMarksFor o text output ms   the marks of the lines of `text`, with its output
+--   HasPrinted o text r ms    the outcome and the marks of the run over `text` as it is
+--   HasUnsqueezed o text r ms   the outcome and the marks of `text`, with all blank lines
 --   squeezed ms r             the outcome `r` without the blank lines that go
+--   HasMarkedOutcome o text r ms   the outcome and the marks of `text`
 --   HasTextOutcome o text r   `r` is the outcome of `text`
---   TextRun                   what a run over a text returns
---   RunsOver o text old new ran   the output for a text was appended to `old`
---   same_run                  what a run returns if the output is the text itself
+--   RunsOver o text output differs edited   `text` has no fault, and this is its outcome
 --   error_of f                the error of a file, by the fault of a run over its text
+--   FailsBy has e             an outcome has the fault of `e`, or memory couldn't be allocated
 --   FailsOver o text e        the run over a text failed
 --   IsOutputOf o text output edited   the output of the outcome of a text
 --
 -- Example: under `-UA`, the output for the line `#if A || X` is that line. If conditions are
 -- pruned, it is `#if X`. The lines `#if A || \` and `X` are read as one, with the same output.
-use Rattle.std.specs.Prelude.{◌≡◌, ℕ, List, ◌++◌, Bool, true, false, ◌||◌, Option, None, nat_lt}
-use Rattle.std.specs.Prelude.{not, ◌&&◌, ◌⊎◌, bytes_eq, is_none}
+use Rattle.std.specs.Prelude.{◌≡◌, ℕ, List, [], Bool, true, false, ◌||◌, Option, Some, None, nat_lt}
+use Rattle.std.specs.Prelude.{not, ◌&&◌, bytes_eq, is_none, if◌then◌else◌}
+use Rattle.ud_model.specs.text.Lines.{texts_of}
 use Rattle.ud_model.specs.sections.Faults.{Fault}
 use Rattle.ud_model.specs.sections.Items.{Options, rules_of}
 use Rattle.ud_model.specs.declared.settings.Settings.{Settings}
-use Rattle.ud_model.specs.declared.settings.Listing.TheVariants.{Off}
+use Rattle.ud_model.specs.declared.settings.Listing.{Listing}
+use Rattle.ud_model.specs.declared.settings.Listing.TheVariants.{Off, Names, Depths}
 use Rattle.ud_simplified.specs.FoldedTexts.{folded_text, restored_text}
 use Rattle.ud_model.specs.answer.Outcomes.{Outcome, HasOutcome}
 use Rattle.ud_cond.specs.symbols.SymbolTable.{TableRepresents}
@@ -39,13 +42,12 @@ use Rattle.ud_engine.specs.declared.fault.RunFault.TheVariants.{Text as TextFaul
 use Rattle.ud_engine.specs.declared.fault.RunFault.TheVariants.{Read as ReadFault, Write}
 use Rattle.ud_engine.specs.Finishing.{text_fault_of}
 use Rattle.ud_passes.specs.pruning.PrunedTexts.{pruned_text, edited_count}
-use Rattle.ud_passes.specs.squeezing.SqueezedTexts.{squeezed_text}
+use Rattle.ud_passes.specs.squeezing.SqueezedTexts.{squeezed_text, squeezed_marks}
 use Rattle.ud_replace.specs.Marks.{AreMarks}
-use Rattle.ud_replace.specs.FoldedMarks.{AreFoldedMarks}
+use Rattle.ud_replace.specs.FoldedMarks.{unfolded}
 use Rattle.ud_replace.specs.declared.error.ReplaceError.{ReplaceError}
 use Rattle.ud_replace.specs.declared.error.ReplaceError.TheVariants.{Text, OutOfMemory}
 use Rattle.ud_replace.specs.declared.text_plan.TextPlan.{TextPlan}
-use Rattle.ud_replace.specs.declared.text_plan.TextRun.{TextRun}
 
 -- `TextOptions`: the options of the run over a text, whether the conditions of its output are
 -- pruned, and whether its blank lines are squeezed.
@@ -84,6 +86,17 @@ pruned o a = record {
   edited = edited_count o.table (rules_of o.settings) a.output;
 }
 
+-- `printed o a`: the outcome `a` of a run as the options `o` want it: with pruned conditions if
+-- they prune, unless the text has a fault.
+abbrev pub printed : TextOptions → Outcome → TextOutcome
+printed o a = if o.prunes && is_none a.fault then pruned o.run a else unpruned a
+
+-- `HasMarks o text f ms`: `ms` are the marks of the lines of `text`, whose run has the fault `f`;
+-- none if it has one.
+abbrev pub HasMarks : Options → List ℕ → Option Fault → List ℕ → Type 0
+HasMarks o text None ms = AreMarks o text ms
+HasMarks o text (Some f) ms = ms ≡ []
+
 -- `may_fold s`: a run with the settings `s` reads C, and neither blanks nor numbers lines.
 abbrev pub may_fold : Settings → Bool
 may_fold s = not s.plain && not s.blank && not s.renumber
@@ -115,73 +128,60 @@ StaysUnfolded o text = (a : Outcome) → ¬ IsFolded o text a
 abbrev pub folded : Options → Outcome → TextOutcome
 folded o a = record (pruned o a) { output = restored_text (pruned o a).output }
 
--- `HasUnsqueezed o text r`: `r` is the outcome of `text`, with all blank lines. If `text` is
--- folded, it is the outcome of the folded text. Else it is the outcome of the run over `text`, with
--- pruned conditions if pruning is on and the text has no fault.
-pub data HasUnsqueezed (o : TextOptions) (text : List ℕ) : TextOutcome → Type 0 where
-  as_run : {a : Outcome} → o.prunes ≡ false → HasOutcome o.run text a →
-      HasUnsqueezed o text (unpruned a)
-  as_faulty : {a : Outcome} → ¬ (a.fault ≡ None) → HasOutcome o.run text a →
-      StaysUnfolded o text → HasUnsqueezed o text (unpruned a)
-  as_pruned : {a : Outcome} → o.prunes ≡ true → a.fault ≡ None → HasOutcome o.run text a →
-      StaysUnfolded o text → HasUnsqueezed o text (pruned o.run a)
-  as_folded : {a : Outcome} → IsFolded o text a → HasUnsqueezed o text (folded o.run a)
+-- `HasPrinted o text r ms`: `r` is the outcome of the run over `text` as it is, with pruned
+-- conditions if the options want that, and `ms` are the marks of its lines.
+pub data HasPrinted (o : TextOptions) (text : List ℕ) : TextOutcome → List ℕ → Type 0 where
+  as_printed : {a : Outcome} {ms : List ℕ} → HasOutcome o.run text a →
+      HasMarks o.run text a.fault ms → HasPrinted o text (printed o a) ms
 
--- `RunsUnsqueezed o text old new ran`: `text` has no fault, and the output for it, with all blank
--- lines, was appended to the bytes `old`, which are then `new`. `ran` has whether it differs, and
--- the edited conditions.
-pub record RunsUnsqueezed (o : TextOptions) (text old new : List ℕ) (ran : TextRun) : Type 0 where
-  pub outcome : TextOutcome
-  pub runs : HasUnsqueezed o text outcome
-  pub faultless : outcome.fault ≡ None
-  pub appended : new ≡ old ++ outcome.output
-  pub differs_is : ran.differs ≡ outcome.differs
-  pub edited_is : ran.edited ≡ outcome.edited
+-- `HasUnsqueezed o text r ms`: `r` is the outcome of `text`, with all blank lines, and `ms` are the
+-- marks of its lines: those of the folded text, if the output comes from that.
+pub data HasUnsqueezed (o : TextOptions) (text : List ℕ) : TextOutcome → List ℕ → Type 0 where
+  as_read : {r : TextOutcome} {ms : List ℕ} → StaysUnfolded o text → HasPrinted o text r ms →
+      HasUnsqueezed o text r ms
+  as_folded : {a : Outcome} {ms : List ℕ} → IsFolded o text a →
+      AreMarks o.run (folded_text text) ms → HasUnsqueezed o text (folded o.run a)
+      (unfolded ms (texts_of (folded_text text)) (texts_of (pruned o.run a).output))
 
--- `FailsUnsqueezed o text e`: such an outcome of `text` has the fault of `e`. Or memory couldn't be
--- allocated.
-pub data FailsUnsqueezed (o : TextOptions) (text : List ℕ) : ReplaceError → Type 0 where
-  unsqueezed_faulty : (outcome : TextOutcome) (f : RunFault) → HasUnsqueezed o text outcome →
-      outcome.fault ≡ text_fault_of f → ¬ (outcome.fault ≡ None) → FailsUnsqueezed o text (Text f)
-  unsqueezed_memory : FailsUnsqueezed o text OutOfMemory
+-- `is_off listing`: no names are listed.
+abbrev pub is_off : Listing → Bool
+is_off Off = true
+is_off Names = false
+is_off Depths = false
 
--- `AreMarksFor o text output ms`: unless names are listed, `ms` are the marks of the lines of
--- `text`: those of the run over it, or over the folded text, with the output `output`.
-abbrev pub AreMarksFor : TextOptions → List ℕ → List ℕ → List ℕ → Type 0
-AreMarksFor o text output ms = o.run.settings.listing ≡ Off →
-    AreMarks o.run text ms ⊎ AreFoldedMarks o.run text output ms
-
--- `goes_squeezed o r`: the outcome `r` is to be squeezed: it has no fault, and differs.
+-- `goes_squeezed o r`: the outcome `r` is to be squeezed: it has no fault, differs, and lists no
+-- names.
 abbrev pub goes_squeezed : TextOptions → TextOutcome → Bool
-goes_squeezed o r = o.squeezes && r.differs && is_none r.fault
+goes_squeezed o r = o.squeezes && is_off o.run.settings.listing && r.differs && is_none r.fault
 
 -- `squeezed ms r`: the outcome `r` without the blank lines that go. The lines of the text have the
 -- marks `ms`.
 abbrev pub squeezed : List ℕ → TextOutcome → TextOutcome
 squeezed ms r = record r { output = squeezed_text ms r.output }
 
--- `HasTextOutcome o text r`: `r` is the outcome of `text`: the one with all blank lines or, if that
--- is to be squeezed, the squeezed one.
-pub data HasTextOutcome (o : TextOptions) (text : List ℕ) : TextOutcome → Type 0 where
-  as_it_is : {r : TextOutcome} → HasUnsqueezed o text r → goes_squeezed o r ≡ false →
-      HasTextOutcome o text r
-  as_squeezed : {r : TextOutcome} (ms : List ℕ) → HasUnsqueezed o text r →
-      goes_squeezed o r ≡ true → AreMarksFor o text r.output ms →
-      HasTextOutcome o text (squeezed ms r)
+-- `HasMarkedOutcome o text r ms`: `r` is the outcome of `text`, and `ms` are the marks of its lines:
+-- those with all blank lines or, if that outcome is to be squeezed, the squeezed ones.
+pub data HasMarkedOutcome (o : TextOptions) (text : List ℕ) : TextOutcome → List ℕ → Type 0 where
+  as_it_is : {r : TextOutcome} {ms : List ℕ} → HasUnsqueezed o text r ms →
+      goes_squeezed o r ≡ false → HasMarkedOutcome o text r ms
+  as_squeezed : {r : TextOutcome} {ms : List ℕ} → HasUnsqueezed o text r ms →
+      goes_squeezed o r ≡ true →
+      HasMarkedOutcome o text (squeezed ms r) (squeezed_marks ms r.output)
 
--- `RunsOver o text old new ran`: `text` has no fault, and the output for it was appended to the
--- bytes `old`, which are then `new`. `ran` has whether it differs, and the edited conditions.
-pub record RunsOver (o : TextOptions) (text old new : List ℕ) (ran : TextRun) : Type 0 where
+-- `HasTextOutcome o text r`: `r` is the outcome of `text`.
+abbrev pub HasTextOutcome : TextOptions → List ℕ → TextOutcome → Type 0
+HasTextOutcome o text r = (ms : List ℕ) × HasMarkedOutcome o text r ms
+
+-- `RunsOver o text output differs edited`: `text` has no fault, and `output` is the output for it.
+-- It differs from the text or doesn't, and so many of its conditions were edited.
+pub record RunsOver (o : TextOptions) (text output : List ℕ) (differs : Bool) (edited : ℕ) :
+    Type 0 where
   pub outcome : TextOutcome
   pub runs : HasTextOutcome o text outcome
   pub faultless : outcome.fault ≡ None
-  pub appended : new ≡ old ++ outcome.output
-  pub differs_is : ran.differs ≡ outcome.differs
-  pub edited_is : ran.edited ≡ outcome.edited
-
--- `same_run`: what a run returns if the output is the text itself.
-abbrev pub same_run : TextRun
-same_run = record { differs = false; edited = 0 }
+  pub output_is : output ≡ outcome.output
+  pub differs_is : differs ≡ outcome.differs
+  pub edited_is : edited ≡ outcome.edited
 
 -- `error_of f`: the error of a file, by the fault of a run over its text. The text and the output
 -- are in memory, so a fault other than the text's means that memory ran out.
@@ -191,12 +191,16 @@ error_of (Section f) = Text (Section f)
 error_of ReadFault = OutOfMemory
 error_of Write = OutOfMemory
 
--- `FailsOver o text e`: the outcome of `text` has the fault of `e`. Or memory couldn't be
--- allocated.
-pub data FailsOver (o : TextOptions) (text : List ℕ) : ReplaceError → Type 0 where
-  over_faulty : (outcome : TextOutcome) (f : RunFault) → HasTextOutcome o text outcome →
-      outcome.fault ≡ text_fault_of f → ¬ (outcome.fault ≡ None) → FailsOver o text (Text f)
-  over_memory : FailsOver o text OutOfMemory
+-- `FailsBy has e`: an outcome of those that `has` is true of has the fault of `e`. Or memory couldn't
+-- be allocated.
+pub data FailsBy (has : TextOutcome → List ℕ → Type 0) : ReplaceError → Type 0 where
+  over_faulty : (r : TextOutcome) (ms : List ℕ) (f : RunFault) → has r ms →
+      r.fault ≡ text_fault_of f → ¬ (r.fault ≡ None) → FailsBy has (Text f)
+  over_memory : FailsBy has OutOfMemory
+
+-- `FailsOver o text e`: the outcome of `text` has the fault of `e`, or memory couldn't be allocated.
+abbrev pub FailsOver : TextOptions → List ℕ → ReplaceError → Type 0
+FailsOver o text = FailsBy (HasMarkedOutcome o text)
 
 -- `IsOutputOf o text output edited`: `output` is the output of the outcome of `text`, and `edited`
 -- is the number of its edited conditions.

@@ -5,7 +5,6 @@ use Rattle.ud_model.specs.answer.Outcomes.{Outcome, HasOutcome}
 use Rattle.ud_engine.specs.declared.fault.RunFault.{RunFault}
 use Rattle.ud_engine.specs.Finishing.{text_fault_of}
 use Rattle.ud_passes.specs.UntouchedTexts.{IsUntouched}
-use Rattle.ud_passes.specs.pruning.PrunedTexts.{pruned_text, edited_count}
 use Rattle.ud_replace.specs.declared.error.ReplaceError.{ReplaceError}
 use Rattle.ud_replace.specs.declared.error.ReplaceError.TheVariants.{Text, OutOfMemory}
 use Rattle.ud_replace.specs.TextOutcomes.{TextOptions}
@@ -25,12 +24,6 @@ pub data FailsUnpruned (o : Options) (text : List ℕ) : ReplaceError → Type 0
   run_faulty : (outcome : Outcome) (f : RunFault) → HasOutcome o text outcome →
       outcome.fault ≡ text_fault_of f → ¬ (outcome.fault ≡ None) → FailsUnpruned o text (Text f)
   no_memory_left : FailsUnpruned o text OutOfMemory
-
--- `PrunesInto o text old new edited`: `text` was appended to `old` without the operands that the
--- options decide, and `edited` conditions of it were edited.
-pub record PrunesInto (o : Options) (text old new : List ℕ) (edited : ℕ) : Type 0 where
-  pub appended : new ≡ old ++ pruned_text o.table (rules_of o.settings) text
-  pub edited_is : edited ≡ edited_count o.table (rules_of o.settings) text
 
 -- `IsSpared o text`: pruning, if it is on, leaves `text` as it is.
 abbrev pub IsSpared : TextOptions → List ℕ → Type 0

@@ -1,5 +1,6 @@
 //! What happened to a file.
 
+use std::alloc::AllocError;
 use thiserror::Error;
 use ud_engine::RunFault;
 
@@ -55,4 +56,15 @@ pub enum ReplaceError {
     /// have parts of either.
     #[error("the file is half written")]
     HalfWritten,
+}
+
+impl From<AllocError> for ReplaceError {
+    ghost use Rattle.std.specs.Prelude.{◌≡◌};
+    ghost use Rattle.ud_replace.specs.declared.error.ReplaceError.TheVariants.{OutOfMemory};
+
+    ghost from_gives = { λ _ error. error ≡ OutOfMemory };
+
+    fn from(_error: AllocError) -> ReplaceError {
+        ReplaceError::OutOfMemory
+    }
 }

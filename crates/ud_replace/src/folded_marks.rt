@@ -4,21 +4,15 @@
 //! the lines that the folded line represents.
 
 ghost use Rattle.std.specs.Prelude.{◌≡◌, ◌-◌, ◌<◌, ◌++◌, [], ◌∷◌, ◌==◌};
-ghost use Rattle.std.specs.Prelude.{length, IfOk, IfSome, OnOk, if◌then◌else◌};
+ghost use Rattle.std.specs.Prelude.{length, IfOk, OnOk, if◌then◌else◌};
 ghost use Rattle.ud_model.specs.text.Lines.{texts_of};
-ghost use Rattle.ud_model.specs.declared.settings.Listing.TheVariants.{Off};
-ghost use Rattle.ud_simplified.specs.FoldedTexts.{folded_text};
-ghost use Rattle.ud_args.specs.Plans.{ForOptionsOf};
-ghost use Rattle.ud_replace.specs.FoldedMarks.{AreFoldedMarks, first_stay, represented, unfolded};
+ghost use Rattle.ud_replace.specs.FoldedMarks.{first_stay, represented, unfolded};
 ghost use Rattle.ud_passes.specs.squeezing.SqueezedTexts.{stays};
 ghost use Rattle.ud_replace.specs.Marks.{first_text, later_texts};
 
-use crate::folded_run::may_fold;
-use crate::line_marks::marks_of;
 use crate::marked::REMOVED;
-use crate::text_plan::TextPlan;
 use std::alloc::{AllocError, Global};
-use ud_passes::{EDITED, SAME, fold};
+use ud_passes::{EDITED, SAME};
 use ud_text::line_in;
 
 /// The vertical tab, which represents a newline that continues a directive.
@@ -70,7 +64,10 @@ fn push_marks(folded: &[u8], stay: usize, marks: &mut Vec<u8>) -> Result<(), All
 }
 
 /// Returns the marks of a text, by the marks of the folded text and the folded output.
-fn marks_by(
+///
+/// # Errors
+/// Fails if memory runs out.
+pub(crate) fn marks_by(
     alloc: Global,
     folded_marks: &[u8],
     folded: &[u8],
@@ -101,37 +98,4 @@ fn stays(mark: u8) -> bool
     ensures { result ≡ stays mark }
 {
     mark == SAME || mark == EDITED
-}
-
-/// Returns the marks of a text that is folded; `None` if it isn't folded, or if memory runs out.
-pub(crate) fn folded_marks(
-    alloc: Global,
-    plan: &TextPlan,
-    text: &[u8],
-    output: &[u8],
-) -> Option<Vec<u8>>
-    ensures { IfSome result (λ marks. ForOptionsOf plan.now.run (λ o.
-        o.settings.listing ≡ Off → AreFoldedMarks o text.now output.now marks.items)) }
-{
-    if !plan.prunes || !may_fold(plan.run.settings()) {
-        return None;
-    }
-    let mut folded = Vec::new(alloc);
-    let mut printed = Vec::new(alloc);
-    if fold(text, &mut folded).is_err() || fold(output, &mut printed).is_err() {
-        return None;
-    }
-    if folded.as_slice() == text {
-        return None;
-    }
-    let marks = marks_of(alloc, &plan.run, folded.as_slice())?;
-    match marks_by(
-        alloc,
-        marks.as_slice(),
-        folded.as_slice(),
-        printed.as_slice(),
-    ) {
-        Ok(marks) => Some(marks),
-        Err(_) => None,
-    }
 }

@@ -8,7 +8,14 @@ ghost use Rattle.ud_replace.specs.Calls.{Call};
 ghost use Rattle.ud_replace.specs.Replacing.{Replaces};
 ghost use Rattle.ud_replace.specs.Moments.{Files, AreTrue, EachCall, StaysOldOrNew};
 ghost use Rattle.ud_replace.specs.Moments.{TouchesFreshOnly};
-ghost use Rattle.ud_replace.specs.TextOutcomes.{TextOptions};
+ghost use Rattle.ud_replace.specs.TextOutcomes.{TextOptions, TextOutcome, HasMarkedOutcome};
+
+/// A text has one outcome at most, with its marks: the output, the fault, whether it differs, how
+/// many conditions were edited, and what became of each line.
+pub fn law_one_outcome()
+    ensures { (o : TextOptions) (text : List ℕ) (r s : TextOutcome) (ms ns : List ℕ) →
+        HasMarkedOutcome o text r ms → HasMarkedOutcome o text s ns → (r ≡ s) × (ms ≡ ns) }
+{}
 
 /// Whatever a directory answers, only the rename touches a file other than `fresh`. The rename
 /// comes after `fresh` got the whole output and its bytes reached the disk, and after the file was

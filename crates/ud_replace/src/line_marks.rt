@@ -1,6 +1,6 @@
 //! The marks of the lines of a text: what a run makes of each.
 
-ghost use Rattle.std.specs.Prelude.{◌≡◌, ◌≤◌, ◌++◌, IfOk, IfSome, OnOk, length, replicate};
+ghost use Rattle.std.specs.Prelude.{◌≡◌, ◌≤◌, ◌++◌, IfOk, OnOk, length, replicate};
 ghost use Rattle.std.specs.Prelude.{take, true};
 ghost use Rattle.ud_model.specs.text.Lines.{texts_of};
 ghost use Rattle.ud_model.specs.declared.settings.Listing.TheVariants.{Off};
@@ -19,13 +19,16 @@ use ud_text::{count_lines, last_line_start};
 /// The most bytes of lines that are compared at once.
 const BLOCK_BYTES: usize = 512;
 
-/// Returns the marks of the lines of a text without a fault; `None` if memory runs out.
-pub(crate) fn marks_of(alloc: Global, plan: &Plan, text: &[u8]) -> Option<Vec<u8>>
-    ensures { IfSome result (λ marks. ForOptionsOf plan.now (λ o.
+/// Returns the marks of the lines of a text without a fault.
+///
+/// # Errors
+/// Fails if memory runs out.
+pub(crate) fn marks_of(alloc: Global, plan: &Plan, text: &[u8]) -> Result<Vec<u8>, AllocError>
+    ensures { IfOk result (λ marks. ForOptionsOf plan.now (λ o.
         o.settings.listing ≡ Off → AreMarks o text.now marks.items)) }
 {
     let marked = print_marked(alloc, plan, text)?;
-    marks_in(alloc, text, marked.inner().as_slice()).ok()
+    marks_in(alloc, text, marked.inner().as_slice())
 }
 
 /// Returns the mark of a line, by what `Marked` printed for it.

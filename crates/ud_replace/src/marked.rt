@@ -11,10 +11,10 @@ use ud_text::Line;
 /// The mark of a line that is removed.
 pub(crate) const REMOVED: u8 = 0;
 
-/// A printer that prints each line that stays as it is, and a mark in place of each other one:
-/// `EDITED` for a line that another one replaces, and `REMOVED` if nothing is printed. So many
-/// lines that stay are printed at once. A newline follows each mark, so the output has as many
-/// lines as the text. It applies `-c` itself, since a `Complement` can't be copied.
+/// A printer that prints each line of the text, those that don't stay as they are after a mark:
+/// `EDITED` if another line replaces it, and `REMOVED` if nothing is printed. So many lines that
+/// stay are printed at once, and no marked line is the line of the text. It applies `-c` itself,
+/// since a `Complement` can't be copied.
 #[derive(Clone, Copy)]
 pub(crate) struct Marked {
     /// The settings of the run.
@@ -68,15 +68,15 @@ impl Show for Marked {
             return pieces;
         }
         let mark: &'a [u8] = if step.verdict.is_removed() && !self.settings.blank {
-            &[REMOVED, b'\n']
+            &[REMOVED]
         } else {
-            &[EDITED, b'\n']
+            &[EDITED]
         };
-        let alone = Step {
-            verdict: Verdict::Remove,
+        let whole = Step {
+            verdict: Verdict::Keep,
             keyword: step.keyword,
         };
-        Pieces::for_line(line, alone, mark)
+        Pieces::for_line(line, whole, &[]).prepend(mark, line)
     }
 
     fn line_output(&self, verdict: Verdict) -> LineOutput {

@@ -5,13 +5,13 @@
 //! line is longer than these, it is printed anew.
 
 ghost use Rattle.std.specs.Prelude.{◌≡◌, ◌<◌, ◌≤◌, [], false, true, length, None};
-ghost use Rattle.std.specs.Prelude.{IfOk, IfSome, OnOk};
+ghost use Rattle.std.specs.Prelude.{IfOk, OnOk};
 ghost use Rattle.ud_args.specs.Plans.{ForOptionsOf};
 ghost use Rattle.ud_replace.specs.Marks.{PrintsBy, PrintsMarks};
 ghost use Rattle.ud_replace.specs.Printing.{HasFed};
 
 use crate::marked::Marked;
-use std::alloc::Global;
+use std::alloc::{AllocError, Global};
 use ud_args::Plan;
 use ud_engine::{Engine, EngineOf, RunFault, Watched};
 use ud_sections::Show;
@@ -109,21 +109,28 @@ fn print_long<S: Show>(
     engine.finish_in_place(out)
 }
 
-/// Returns what the printer of marks prints for a text without a fault; `None` if memory runs out.
-pub(crate) fn print_marked(alloc: Global, plan: &Plan, text: &[u8]) -> Option<Watched<Vec<u8>>>
-    ensures { IfSome result (λ out. ForOptionsOf plan.now (λ o.
+/// Returns what the printer of marks prints for a text without a fault.
+///
+/// # Errors
+/// Fails if memory runs out.
+pub(crate) fn print_marked(
+    alloc: Global,
+    plan: &Plan,
+    text: &[u8],
+) -> Result<Watched<Vec<u8>>, AllocError>
+    ensures { IfOk result (λ out. ForOptionsOf plan.now (λ o.
         PrintsMarks o text.now out.inner.items)) }
 {
     let printer = Marked::new(plan.settings());
     let mut out = Watched::new(Vec::<u8>::new(alloc));
     match print_short(plan, printer, text, &mut out) {
-        Ok(true) => return Some(out),
+        Ok(true) => return Ok(out),
         Ok(false) => {}
-        Err(_) => return None,
+        Err(_) => return Err(AllocError),
     }
     let mut out = Watched::new(Vec::<u8>::new(alloc));
     match print_long(plan, printer, text, &mut out) {
-        Ok(_) => Some(out),
-        Err(_) => None,
+        Ok(_) => Ok(out),
+        Err(_) => Err(AllocError),
     }
 }

@@ -8,7 +8,7 @@
 ghost use Rattle.std.specs.Prelude.{◌≡◌, ◌<◌, ℕ, List, [], true, false, is_ok};
 ghost use Rattle.ud_replace.specs.Calls.{Call};
 ghost use Rattle.ud_replace.specs.Filling.{LooksAgain, Confirms, Fills};
-ghost use Rattle.ud_replace.specs.KeptTexts.{IsFresh, output_of};
+ghost use Rattle.ud_replace.specs.MadeOutcomes.{IsFresh, output_of};
 ghost use Rattle.ud_replace.specs.Replacing.{Overwrites, RenamesAt, PutsAt, JudgesAt, ReplacesAt};
 ghost use Rattle.ud_replace.specs.Replacing.{KeepsAt};
 ghost use Rattle.ud_replace.specs.TextOutcomes.{TextOptions, IsPlanned, IsOutputOf};
@@ -128,15 +128,13 @@ fn replace_text<F: Directory>(
     stat: FileStat,
     kept: &mut Kept,
 ) -> Result<Update, ReplaceError>
-    requires empty { kept.old.output.inner.items ≡ [] }
-    requires not_failed { kept.old.output.failed ≡ false }
     ensures text { kept.new.text.items ≡ kept.old.text.items }
     ensures calls { (o : TextOptions) → IsPlanned plan.now o → JudgesAt o target.now
         kept.new.text.items stat (F.history directory.old) (F.history directory.new) result }
     ensures output { (o : TextOptions) → IsPlanned plan.now o → is_ok result ≡ true →
-        IsOutputOf o kept.new.text.items (output_of kept.new) kept.new.edited }
+        IsOutputOf o kept.new.text.items (output_of kept.new) kept.new.outcome.edited }
 {
-    let differs = kept.run_sparing(alloc, plan)?;
+    let differs = kept.run(alloc, plan)?;
     if !differs {
         return Ok(Update::Unchanged);
     }

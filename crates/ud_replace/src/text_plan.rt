@@ -1,4 +1,4 @@
-//! The options for each text, and the result for one.
+//! The options for each text.
 
 use ud_args::Plan;
 
@@ -11,13 +11,6 @@ pub struct TextPlan {
     pub prunes: bool,
     /// True if blank lines of the output go that only stood there because of lines that went.
     pub squeezes: bool,
-}
-
-/// The result for a text without a fault.
-#[derive(Clone, Copy, Debug, PartialEq, Eq)]
-pub struct TextRun {
-    /// True if the output differs.
-    pub differs: bool,
-    /// The number of conditions of the output that lost operands.
-    pub edited: usize,
+    /// True if the marks of the lines are wanted, for a diff.
+    pub marks: bool,
 }

@@ -8,9 +8,11 @@ use Rattle.ud_replace.specs.declared.error.ReplaceError.TheVariants.{OutOfMemory
 use Rattle.ud_engine.specs.declared.fault.RunFault.{RunFault}
 use Rattle.ud_replace.specs.declared.stat.FileStat.{FileStat}
 use Rattle.ud_replace.specs.declared.text_plan.TextPlan.{TextPlan}
-use Rattle.ud_replace.specs.declared.text_plan.TextRun.{TextRun}
+use Rattle.ud_replace.specs.declared.kept.Kept.{Kept}
 use Rattle.ud_replace.specs.Calls.{Call}
 use Rattle.ud_replace.specs.TextOutcomes.{TextOptions, IsPlanned, RunsOver, FailsOver, over_memory}
+use Rattle.ud_replace.specs.MadeOutcomes.{RunsKept, output_of}
+use Rattle.ud_replace.specs.UnprunedRuns.{RunsUnpruned, FailsUnpruned, no_memory_left}
 use Rattle.ud_model.specs.declared.kind.Mode.{Mode}
 use Rattle.ud_tree.specs.declared.arguments.Arguments.{Arguments}
 use Rattle.ud_tree.specs.Reports.{ReportState}
@@ -28,29 +30,41 @@ use Rattle.ud_tree.specs.Writing.{WritesOne}
 use Rattle.ud_io.proofs.StreamLemmas.{sends_none}
 
 -- A file was read, and memory couldn't be allocated.
-pub no_memory : (o : TextOptions) {name text : List ℕ} {stat : FileStat} {calls calls' : List Call} → WasRead name text stat calls calls' → Fails o name calls calls' OutOfMemory
+pub no_memory : (o : TextOptions) {name text : List ℕ} {stat : FileStat} {calls calls' : List Call} → WasRead name text stat calls calls' →
+    Fails (FailsOver o) name calls calls' OutOfMemory
 no_memory o {text = text} {stat = stat} was = fails_over text stat was over_memory
 
+-- The outcome that was kept is that of the text.
+pub runs_over : {o : TextOptions} {plan : TextPlan} {k : Kept} {d b : Bool} → RunsKept o plan k d → d ≡ b → RunsOver o k.text.items (output_of k) b k.outcome.edited
+runs_over h is = record {
+  outcome = h.made.outcome;
+  runs = (h.made.marks, h.made.runs);
+  faultless = h.made.faultless;
+  output_is = h.made.output_is;
+  differs_is = sym is ∙ h.differs_is ∙ h.made.differs_is;
+  edited_is = h.made.edited_is;
+}
+
 -- The list of a file that was read, and whose text has no fault.
-pub lists_into : (args : Arguments) {name text seen output shown : List ℕ} {ran : TextRun} {stat : FileStat} {calls calls' : List Call} {old new : Names} (update : Result Update ReplaceError) →
-    ReadsOne name text calls calls' → WasRead name text stat calls calls' → ((o : TextOptions) → IsPlanned args.plan o → RunsOver o text [] output ran) →
+pub lists_into : (args : Arguments) {name text seen output shown : List ℕ} {d : Bool} {stat : FileStat} {calls calls' : List Call} {old new : Names} (update : Result Update ReplaceError) →
+    ReadsOne name text calls calls' → WasRead name text stat calls calls' → ((o : TextOptions) → IsPlanned args.plan o → RunsUnpruned o.run text [] output d) →
     seen ≡ text → shown ≡ output → ListsTextInto args name seen shown old new update → ListsInto args.plan args.list_hidden name calls calls' old new update
-lists_into args {name = name} {text = text} {seen = seen} {output = output} {ran = ran} {stat = stat} {calls = calls} {calls' = calls'} {old = old} {new = new} (Ok u) read was runs p q t =
+lists_into args {name = name} {text = text} {seen = seen} {output = output} {d = d} {stat = stat} {calls = calls} {calls' = calls'} {old = old} {new = new} (Ok u) read was runs p q t =
     subst (λ (x : Update). ListsInto args.plan args.list_hidden name calls calls' old new (Ok x)) (sym t.adds.0) (record {
       listed = t.listed;
       does = record {
         text = text;
         reads = read;
-        lists_file = λ o k. names_listed text output ran stat was (runs o k)
+        lists_file = λ o k. names_listed text output d stat was (runs o k)
             (subst (λ (x : List ℕ). ListsText o (mode_of args) args.list_hidden name x output t.listed) p
             (subst (λ (x : List ℕ). ListsText o (mode_of args) args.list_hidden name seen x t.listed) q (t.lists o k)));
       };
       adds = t.adds.1;
     })
-lists_into args {name = name} {text = text} {calls = calls} {calls' = calls'} {old = old} {new = new} (Err e) read was runs p q t =
+lists_into args {name = name} {text = text} {stat = stat} {calls = calls} {calls' = calls'} {old = old} {new = new} (Err e) read was runs p q t =
     subst (λ (x : ReplaceError). ListsInto args.plan args.list_hidden name calls calls' old new (Err x)) (sym t.adds.0) (record {
       listed = record { names = t.adds.1.0; hidden = 0; hidden_list = [] };
-      does = record { text = text; reads = read; lists_file = λ o k. unlisted t.adds.1.0 (no_memory o was) };
+      does = record { text = text; reads = read; lists_file = λ o k. unlisted t.adds.1.0 (fails_over text stat was no_memory_left) };
       adds = t.adds.1.1;
     })
 
@@ -82,9 +96,9 @@ lists_folded args {name = name} {text = text} {output = output} {lines = lines} 
 
 -- The folded text has a fault.
 pub read_faulty : (o : TextOptions) (mode : Mode) {text lines seen : List ℕ} {e : ReplaceError} {f : RunFault} → lines ≡ folded_text text → seen ≡ lines → e ≡ Text f →
-    FailsOver o seen e → ListsAsRead o mode text
+    FailsUnpruned o.run seen e → ListsAsRead o mode text
 read_faulty o mode {seen = seen} {f = f} is eq fault h =
-    fold_faulty (subst (λ (x : List ℕ). FailsOver o x (Text f)) (eq ∙ is) (subst (λ (x : ReplaceError). FailsOver o seen x) fault h))
+    fold_faulty (subst (λ (x : List ℕ). FailsUnpruned o.run x (Text f)) (eq ∙ is) (subst (λ (x : ReplaceError). FailsUnpruned o.run seen x) fault h))
 
 -- Nothing was added, since memory couldn't be allocated.
 pub lists_nothing : (args : Arguments) {name text output : List ℕ} (names : Names) → ListsTextInto args name text output names names (Err OutOfMemory)
@@ -96,9 +110,8 @@ added true old more = refl
 added false old more = sym (append-nil old)
 
 -- The diff of a text and its output is the diff of the outcome.
-pub has_diff : (o : TextOptions) (name text output seen diff : List ℕ) (ran : TextRun) → RunsOver o text [] output ran → ran.differs ≡ true → seen ≡ output →
-    IsDiff name text seen diff → HasDiff o name text diff ran.edited
-has_diff o name text output seen diff ran h e p is = grind arith
+pub has_diff : (o : TextOptions) (name text output diff : List ℕ) {edited : ℕ} → RunsOver o text output true edited → IsDiff name text output diff → HasDiff o name text diff edited
+has_diff o name text output diff h is = grind arith
 
 -- Nothing was written of a file.
 pub shows_none : {args : Arguments} {plan : TextPlan} {into : Bool} {r r' : ReportState} {outputs : List Output}
@@ -120,12 +133,10 @@ shows_none {into = into} {outputs = outputs} {name = name} {text = text} {calls 
 }
 
 -- A file whose output differs is shown by its diff.
-pub shows_changed : (o : TextOptions) (into : Bool) (name text read output seen diff : List ℕ) (ran : TextRun) (stat : FileStat) (calls calls' : List Call) →
-    ran.differs ≡ true → WasRead name text stat calls calls' → RunsOver o text [] output ran → (stat.links ≤ 1) ⊎ (into ≡ true) →
-    read ≡ text → seen ≡ output → IsDiff name read seen diff → (lines : ℕ) → lines ≡ removed_by Replaced text seen →
-    ShowsFile o into name calls calls' (Ok Replaced) diff (record { conditions = ran.edited; lines = lines }) (made name seen)
+pub shows_changed : (o : TextOptions) (into : Bool) (name text output seen diff : List ℕ) {edited : ℕ} (stat : FileStat) (calls calls' : List Call) →
+    WasRead name text stat calls calls' → RunsOver o text output true edited → (stat.links ≤ 1) ⊎ (into ≡ true) →
+    seen ≡ output → IsDiff name text output diff → (lines : ℕ) → lines ≡ removed_by Replaced text seen →
+    ShowsFile o into name calls calls' (Ok Replaced) diff (record { conditions = edited; lines = lines }) (made name seen)
 unfolding has_diff
-shows_changed o into name text read output seen diff ran stat calls calls' is was h may r q diffs lines fewer =
-    changed text seen diff (record { conditions = ran.edited; lines = lines }) stat was may
-    (has_diff o name text output seen diff ran h is q (subst (λ (x : List ℕ). IsDiff name x seen diff) r diffs))
-    (q ∙ h.appended) fewer
+shows_changed o into name text output seen diff {edited = edited} stat calls calls' was h may q diffs lines fewer =
+    changed text seen diff (record { conditions = edited; lines = lines }) stat was may (has_diff o name text output diff h diffs) (q ∙ h.output_is) fewer

@@ -8,8 +8,9 @@
 --
 -- `calls` and `calls'` are the calls before and after, the newest first.
 use Rattle.std.specs.Prelude.{◌≡◌, ℕ, ◌+◌, ◌<◌, ◌^◌, List, [], ◌++◌, Bool, Result, OnOk}
-use Rattle.std.specs.Prelude.{MatchResult, MatchOption, Option}
+use Rattle.std.specs.Prelude.{IfOk, MatchResult, MatchOption, Option}
 use Rattle.std.specs.Global.{Vec}
+use Rattle.std.specs.declared.alloc.AllocError.{AllocError}
 use Rattle.ud_simplified.specs.FoldedTexts.{folded_text}
 use Rattle.ud_passes.specs.declared.names.Names.{Names}
 use Rattle.ud_replace.specs.declared.error.Update.{Update}
@@ -42,13 +43,11 @@ AddsListed listed old new update =
 
 -- `FoldsToList args text listed result`: `text` is listed by the folded text, which is the
 -- result, with the names `listed`; or it is listed by itself. Or memory couldn't be allocated.
-abbrev pub FoldsToList : Arguments → List ℕ → List ℕ → Result (Option (Vec ℕ)) ReplaceError →
-    Type 0
+abbrev pub FoldsToList : Arguments → List ℕ → List ℕ → Result (Option (Vec ℕ)) AllocError → Type 0
 FoldsToList args text listed result =
-    (o : TextOptions) → IsPlanned args.plan o → MatchResult result (λ folded. MatchOption folded
+    (o : TextOptions) → IsPlanned args.plan o → IfOk result (λ folded. MatchOption folded
     (ListsAsRead o (mode_of args) text)
     (λ lines. (lines.items ≡ folded_text text) × ListsFolded o (mode_of args) text listed))
-    (λ e. e ≡ OutOfMemory)
 
 -- `ListsTextInto args name text output old new update`: what is listed of the text of the file
 -- `name`, for which the run lists `output`, was added to `old`.

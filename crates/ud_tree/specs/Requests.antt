@@ -3,6 +3,7 @@
 --   task_of gs              the task
 --   HasNoChange gs          no flag says how files are changed
 --   AreFitting gs           the options are compatible
+--   shows_diffs gs          the diffs of files are shown
 --   decides gs              conditions are to be decided, or their names listed
 --   IsArgumentsOf gs args   the arguments of a run
 --   IsRequestOf gs r        the request
@@ -78,6 +79,10 @@ pub record AreFitting (gs : List Parsed) : Type 0 where
 abbrev pub decides : List Parsed → Bool
 decides gs = has_symbols gs || has_flag (codes "k") gs || has_flag (codes "s") gs
 
+-- `shows_diffs gs`: the diffs of files are shown.
+abbrev pub shows_diffs : List Parsed → Bool
+shows_diffs gs = has_flag (codes "n") gs || has_flag (codes "d") gs
+
 -- `IsArgumentsOf gs args`: `args` has what is given: the options of unifdef(1), each other option,
 -- the patterns and the paths. `-r` asks for the conditions that still name a symbol or, with `-s`,
 -- for those whose names can't be listed. The options are compatible, and ask for something. No
@@ -87,6 +92,7 @@ pub record IsArgumentsOf (gs : List Parsed) (args : Arguments) : Type 0 where
   pub plan : PlanRepresents args.plan.run (unifdef_args gs)
   pub prunes : args.plan.prunes ≡ has_flag (codes "p") gs
   pub squeezes : args.plan.squeezes ≡ has_flag (codes "B") gs
+  pub marks : args.plan.marks ≡ shows_diffs gs
   pub patterns : map string_bytes args.patterns.items ≡ patterns_in gs
   pub right_patterns : first_bad (patterns_in gs) ≡ None
   pub paths : map string_bytes args.paths.items ≡ paths_in gs

@@ -1,7 +1,8 @@
 -- Shown: what is shown or listed for a file that isn't replaced.
 --
 --   WasRead name text stat old new   a file was read, and `text` are its bytes
---   Fails o name calls calls' e      a file couldn't be read, or the run over its text failed
+--   IsUnread name calls calls' e     a file couldn't be read, or wasn't the one that was met
+--   Fails fails name calls calls' e  so it is, or what is done with its text failed
 --   RunsFile plan name calls calls' kept result   a run over the text of a file
 --   HasDiff o name text diff edited  the diff of a text and its output
 --   ShowsFile o into name calls calls' update shown edits outputs   a file was read, and its diff
@@ -31,9 +32,9 @@ use Rattle.ud_replace.specs.declared.error.ReplaceError.TheVariants.{Read, Text}
 use Rattle.ud_replace.specs.declared.error.ReplaceError.TheVariants.{ChangedMeanwhile, SeveralLinks}
 use Rattle.ud_replace.specs.declared.stat.FileStat.{FileStat}
 use Rattle.ud_replace.specs.declared.text_plan.TextPlan.{TextPlan}
-use Rattle.ud_replace.specs.declared.text_plan.TextRun.{TextRun}
 use Rattle.ud_replace.specs.declared.kept.Kept.{Kept}
-use Rattle.ud_replace.specs.KeptTexts.{RunsKept}
+use Rattle.ud_replace.specs.MadeOutcomes.{RunsKept}
+use Rattle.ud_replace.specs.UnprunedRuns.{RunsUnpruned, FailsUnpruned}
 use Rattle.ud_replace.specs.Calls.{Call, was_read}
 use Rattle.ud_replace.specs.TextOutcomes.{TextOptions, IsPlanned, TextOutcome, HasTextOutcome}
 use Rattle.ud_replace.specs.TextOutcomes.{RunsOver, FailsOver, goes_back}
@@ -48,16 +49,21 @@ use Rattle.ud_tree.specs.Runs.{FileResult, ReadsOne, Listed, Output, made}
 abbrev pub WasRead : List ℕ → List ℕ → FileStat → List Call → List Call → Type 0
 WasRead name text stat old new = new ≡ was_read name text (Some stat) ∷ old
 
--- `Fails o name calls calls' e`: the file `name` couldn't be read. Or it was read, but it wasn't
--- the file that the walk met, its text has the fault of `e`, or memory couldn't be allocated.
-pub data Fails (o : TextOptions) (name : List ℕ) (calls calls' : List Call) :
-    ReplaceError → Type 0 where
+-- `IsUnread name calls calls' e`: the file `name` couldn't be read. Or it was read, but it wasn't
+-- the file that the walk met.
+pub data IsUnread (name : List ℕ) (calls calls' : List Call) : ReplaceError → Type 0 where
   unread : (text : List ℕ) → calls' ≡ was_read name text None ∷ calls →
-      Fails o name calls calls' Read
+      IsUnread name calls calls' Read
   other_file : (text : List ℕ) (stat : FileStat) → WasRead name text stat calls calls' →
-      Fails o name calls calls' ChangedMeanwhile
+      IsUnread name calls calls' ChangedMeanwhile
+
+-- `Fails fails name calls calls' e`: the file `name` couldn't be read, or wasn't the one that was
+-- met. Or it was read, and `fails` is true of its text and the error `e`.
+pub data Fails (fails : List ℕ → ReplaceError → Type 0) (name : List ℕ) (calls calls' : List Call) :
+    ReplaceError → Type 0 where
+  not_read : {e : ReplaceError} → IsUnread name calls calls' e → Fails fails name calls calls' e
   fails_over : {e : ReplaceError} (text : List ℕ) (stat : FileStat) →
-      WasRead name text stat calls calls' → FailsOver o text e → Fails o name calls calls' e
+      WasRead name text stat calls calls' → fails text e → Fails fails name calls calls' e
 
 -- `RunsFile plan name calls calls' kept result`: the file `name` was read, and the output for its
 -- text was kept. Or `Fails` is true of the error.
@@ -65,7 +71,8 @@ abbrev pub RunsFile : TextPlan → List ℕ → List Call → List Call → Kept
     Type 0
 RunsFile plan name calls calls' kept result =
     (o : TextOptions) → IsPlanned plan o →
-    MatchResult result (λ ran. RunsKept o kept ran.differs) (Fails o name calls calls')
+    MatchResult result (λ ran. RunsKept o plan kept ran.differs)
+    (Fails (FailsOver o) name calls calls')
 
 -- `HasDiff o name text diff edited`: `text` has no fault, and its output differs, with `edited`
 -- edited conditions. `diff` turns the text into the output, and back.
@@ -83,15 +90,14 @@ pub record HasDiff (o : TextOptions) (name text diff : List ℕ) (edited : ℕ) 
 -- links, which a run leaves alone unless `into`, or if `Fails` is true of the error.
 pub data ShowsFile (o : TextOptions) (into : Bool) (name : List ℕ) (calls calls' : List Call) :
     Result Update ReplaceError → List ℕ → Edits → List Output → Type 0 where
-  faulty : {e : ReplaceError} → Fails o name calls calls' e →
+  faulty : {e : ReplaceError} → Fails (FailsOver o) name calls calls' e →
       ShowsFile o into name calls calls' (Err e) [] no_edits []
-  several : (text output : List ℕ) (stat : FileStat) (ran : TextRun) →
-      WasRead name text stat calls calls' → RunsOver o text [] output ran →
-      ran.differs ≡ true → 1 < stat.links → into ≡ false →
+  several : (text output : List ℕ) (stat : FileStat) (edited : ℕ) →
+      WasRead name text stat calls calls' → RunsOver o text output true edited →
+      1 < stat.links → into ≡ false →
       ShowsFile o into name calls calls' (Err SeveralLinks) [] no_edits []
-  same : (text output : List ℕ) (stat : FileStat) (ran : TextRun) →
-      WasRead name text stat calls calls' → RunsOver o text [] output ran →
-      ran.differs ≡ false →
+  same : (text output : List ℕ) (stat : FileStat) (edited : ℕ) →
+      WasRead name text stat calls calls' → RunsOver o text output false edited →
       ShowsFile o into name calls calls' (Ok Unchanged) [] no_edits (made name output)
   changed : (text output diff : List ℕ) (edits : Edits) (stat : FileStat) →
       WasRead name text stat calls calls' → (stat.links ≤ 1) ⊎ (into ≡ true) →
@@ -128,13 +134,14 @@ folds Plain text = false
 -- over it lists `names`.
 pub record ListsFolded (o : TextOptions) (mode : Mode) (text names : List ℕ) : Type 0 where
   pub is_folded : folds mode text ≡ true
-  pub ran : TextRun
-  pub runs : RunsOver o (folded_text text) [] names ran
+  pub differs : Bool
+  pub runs : RunsUnpruned o.run (folded_text text) [] names differs
 
 -- `ListsAsRead o mode text`: the text isn't folded, or the folded text has a fault.
 pub data ListsAsRead (o : TextOptions) (mode : Mode) (text : List ℕ) : Type 0 where
   not_folded : folds mode text ≡ false → ListsAsRead o mode text
-  fold_faulty : {f : RunFault} → FailsOver o (folded_text text) (Text f) → ListsAsRead o mode text
+  fold_faulty : {f : RunFault} → FailsUnpruned o.run (folded_text text) (Text f) →
+      ListsAsRead o mode text
 
 -- `ListsText o mode lists name text output listed`: what is listed for the file `name` with this
 -- text: by the folded text, if that has no fault; else by the text itself, for which the run lists
@@ -152,11 +159,11 @@ pub data ListsText (o : TextOptions) (mode : Mode) (lists : Bool) (name text out
 -- no condition is listed, and the names up to the fault may be any bytes.
 pub data ListsFile (o : TextOptions) (mode : Mode) (lists : Bool) (name : List ℕ)
     (calls calls' : List Call) : Result Update ReplaceError → Listed → Type 0 where
-  unlisted : {e : ReplaceError} (names : List ℕ) → Fails o name calls calls' e →
+  unlisted : {e : ReplaceError} (names : List ℕ) → Fails (FailsUnpruned o.run) name calls calls' e →
       ListsFile o mode lists name calls calls' (Err e)
       (record { names = names; hidden = 0; hidden_list = [] })
-  names_listed : (text output : List ℕ) (ran : TextRun) (stat : FileStat) {listed : Listed} →
-      WasRead name text stat calls calls' → RunsOver o text [] output ran →
+  names_listed : (text output : List ℕ) (differs : Bool) (stat : FileStat) {listed : Listed} →
+      WasRead name text stat calls calls' → RunsUnpruned o.run text [] output differs →
       ListsText o mode lists name text output listed →
       ListsFile o mode lists name calls calls' (Ok Unchanged) listed
 

@@ -9,13 +9,13 @@ ghost use Rattle.ud_args.specs.TreeWords.{unifdef_args};
 ghost use Rattle.ud_tree.specs.PatternFaults.{first_bad};
 ghost use Rattle.ud_tree.specs.Requests.{IsRequestOf, IsArgumentsOf, IsFaultIn};
 ghost use Rattle.ud_tree.specs.Requests.{AreFitting, HasNoChange, LeavesLines, decides, is_one_of};
-ghost use Rattle.ud_tree.specs.Requests.{task_of};
+ghost use Rattle.ud_tree.specs.Requests.{shows_diffs, task_of};
 
 use crate::patterns::faults::{PatternFault, first_bad};
 use std::alloc::Global;
 use ud_args::{
-    ParsedArg, Usage, given_by, has_flag, has_symbols, paths, patterns, plan_among, symbol_names,
-    word_at,
+    ParsedArg, Plan, Usage, given_by, has_flag, has_symbols, paths, patterns, plan_among,
+    symbol_names, word_at,
 };
 use ud_replace::TextPlan;
 
@@ -297,16 +297,10 @@ fn run_of(alloc: Global, given: &[ParsedArg<'_>]) -> Result<Arguments, ArgumentF
     let Ok(symbols) = symbol_names(alloc, given) else {
         return Err(ArgumentFault::OutOfMemory);
     };
-    let prunes = has_flag(given, 'p');
-    let squeezes = has_flag(given, 'B');
     let names = has_flag(given, 's');
     let lists = has_flag(given, 'r');
     Ok(Arguments {
-        plan: TextPlan {
-            run,
-            prunes,
-            squeezes,
-        },
+        plan: text_plan(run, given),
         patterns,
         paths,
         task: task_of(given),
@@ -319,6 +313,22 @@ fn run_of(alloc: Global, given: &[ParsedArg<'_>]) -> Result<Arguments, ArgumentF
         has_symbols: has_symbols(given),
         names: symbols,
     })
+}
+
+/// Returns the plan for each text: the run over it, the passes over its output, and whether diffs are
+/// shown.
+fn text_plan(run: Plan, given: &[ParsedArg<'_>]) -> TextPlan
+    ensures run { result.run ≡ run }
+    ensures prunes { result.prunes ≡ has_flag (codes "p") (parsed given.now) }
+    ensures squeezes { result.squeezes ≡ has_flag (codes "B") (parsed given.now) }
+    ensures marks { result.marks ≡ shows_diffs (parsed given.now) }
+{
+    TextPlan {
+        run,
+        prunes: has_flag(given, 'p'),
+        squeezes: has_flag(given, 'B'),
+        marks: has_flag(given, 'n') || has_flag(given, 'd'),
+    }
 }
 
 /// Returns the patterns.

@@ -9,13 +9,14 @@ ghost use Rattle.ud_tree.specs.Remainders.{mode_of};
 ghost use Rattle.ud_tree.specs.Shown.{listed_by};
 
 use crate::job::Job;
-use crate::run_file::run_file;
+use crate::run_file::read_file;
 use crate::tree::Tree;
 use crate::walk::FileAt;
+use std::alloc::AllocError;
 use ud_engine::Watched;
 use ud_model::Mode;
 use ud_passes::Names;
-use ud_replace::{Kept, ReplaceError, Update, folded, goes_back, run_text};
+use ud_replace::{ReplaceError, Update, folded, run_over};
 
 /// Adds the names of a file to `names`, and its conditions whose names can't be listed. If its text
 /// has a fault, the names up to the fault count.
@@ -23,7 +24,7 @@ use ud_replace::{Kept, ReplaceError, Update, folded, goes_back, run_text};
 /// The only call reads the file, once.
 ///
 /// # Errors
-/// As `run_file`. `OutOfMemory` also if memory for the names can't be allocated.
+/// As `read_file` and `run_over`. `OutOfMemory` also if memory for the names can't be allocated.
 pub(crate) fn list_file<T: Tree>(
     job: &Job<'_>,
     tree: &mut T,
@@ -34,11 +35,15 @@ pub(crate) fn list_file<T: Tree>(
     ensures { ListsInto job.now.arguments.now.plan job.now.arguments.now.list_hidden
         file.entry.name.now (T.history tree.old) (T.history tree.new) names.old names.new result }
 {
-    let mut kept = Kept::new(job.alloc);
-    match run_file(job, tree, file, &mut kept) {
-        Ok(_) => list_text(job, file.name, kept.text.as_slice(), kept.output(), names),
+    let mut text = Vec::new(job.alloc);
+    let _stat = read_file(tree, file, &mut text)?;
+    let mut listed = Watched::new(Vec::<u8>::new(job.alloc));
+    let ran = run_over(&job.arguments.plan.run, text.as_slice(), &mut listed);
+    let output = listed.inner().as_slice();
+    match ran {
+        Ok(_) => list_text(job, file.name, text.as_slice(), output, names),
         Err(error) => {
-            let _added = names.add(kept.output());
+            let _added = names.add(output);
             Err(error)
         }
     }
@@ -61,17 +66,13 @@ fn list_text(
         names.old names.new result }
 {
     let mut listed = Watched::new(Vec::<u8>::new(job.alloc));
-    match list_folded(job, text, &mut listed) {
-        Ok(Some(lines)) => add_listed(
-            job,
-            name,
-            lines.as_slice(),
-            true,
-            listed.inner().as_slice(),
-            names,
-        ),
-        Ok(None) => add_listed(job, name, text, false, output, names),
-        Err(_) => Err(ReplaceError::OutOfMemory),
+    let folded = list_folded(job, text, &mut listed)?;
+    match folded {
+        Some(lines) => {
+            let lines = lines.as_slice();
+            add_listed(job, name, lines, true, listed.inner().as_slice(), names)
+        }
+        None => add_listed(job, name, text, false, output, names),
     }
 }
 
@@ -79,12 +80,12 @@ fn list_text(
 /// file is listed by its text itself.
 ///
 /// # Errors
-/// `OutOfMemory` if memory can't be allocated.
+/// Fails if memory runs out.
 fn list_folded(
     job: &Job<'_>,
     text: &[u8],
     listed: &mut Watched<Vec<u8>>,
-) -> Result<Option<Vec<u8>>, ReplaceError>
+) -> Result<Option<Vec<u8>>, AllocError>
     requires not_failed { listed.old.failed ≡ false }
     requires none { listed.old.inner.items ≡ [] }
     ensures { FoldsToList job.now.arguments.now text.now listed.new.inner.items result }
@@ -92,14 +93,13 @@ fn list_folded(
     if matches!(job.mode(), Mode::Plain) {
         return Ok(None);
     }
-    let lines = folded(job.alloc, text)?;
-    if !goes_back(job.alloc, lines.as_slice(), text)? {
+    let Some(lines) = folded(job.alloc, text)? else {
         return Ok(None);
-    }
-    match run_text(job.alloc, &job.arguments.plan, lines.as_slice(), listed) {
+    };
+    match run_over(&job.arguments.plan.run, lines.as_slice(), listed) {
         Ok(_) => Ok(Some(lines)),
         Err(ReplaceError::Text(_)) => Ok(None),
-        Err(_) => Err(ReplaceError::OutOfMemory),
+        Err(_) => Err(AllocError),
     }
 }
 
@@ -121,11 +121,7 @@ fn add_listed(
         job.now.arguments.now.list_hidden name.now lines.now listed.now)
         names.old names.new result }
 {
-    if names.add(listed).is_err() {
-        return Err(ReplaceError::OutOfMemory);
-    }
-    match names.add_hidden(name, lines, job.mode(), folded) {
-        Ok(()) => Ok(Update::Unchanged),
-        Err(_) => Err(ReplaceError::OutOfMemory),
-    }
+    names.add(listed)?;
+    names.add_hidden(name, lines, job.mode(), folded)?;
+    Ok(Update::Unchanged)
 }

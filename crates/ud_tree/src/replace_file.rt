@@ -1,7 +1,7 @@
 //! Replacing one file.
 
 ghost use Rattle.std.specs.Prelude.{◌≡◌, true, false, Ok, is_ok};
-ghost use Rattle.ud_replace.specs.KeptTexts.{IsFresh, output_of};
+ghost use Rattle.ud_replace.specs.MadeOutcomes.{IsFresh, output_of};
 ghost use Rattle.ud_tree.specs.Changes.{KeepsAs, ShowsChange};
 ghost use Rattle.ud_tree.specs.Fates.{fate_of, is_changed, no_edits, removed_by};
 ghost use Rattle.ud_tree.specs.Runs.{ReplacesOne};
@@ -56,11 +56,11 @@ pub(crate) fn replace_file<T: Tree, W: Write, E: Write>(
     let text = kept.text.as_slice();
     let output = kept.output();
     *edits = Edits {
-        conditions: kept.edited,
+        conditions: kept.outcome.edited,
         lines: removed_by(update, text, output),
     };
-    report.find(job, file.name, text, output, kept.same);
-    let diff = change_of(job, file.name, update, text, output, report);
+    report.find(job, file.name, text, output, kept.outcome.output.is_none());
+    let diff = change_of(job, file.name, update, &kept, report);
     send(out, diff.as_slice());
     Ok(update)
 }
@@ -71,12 +71,11 @@ fn change_of<E: Write>(
     job: &Job<'_>,
     name: &[u8],
     update: Update,
-    text: &[u8],
-    output: &[u8],
+    kept: &Kept,
     report: &mut Report<E>,
 ) -> Vec<u8>
-    ensures change { ShowsChange job.now.arguments.now.show_changes name.now update text.now
-        output.now report.new.has_lost result.items }
+    ensures change { ShowsChange job.now.arguments.now.show_changes name.now update
+        kept.now.text.items (output_of kept.now) report.new.has_lost result.items }
     ensures remaining { report.new.remaining ≡ report.old.remaining }
     ensures lost { report.old.has_lost ≡ true → report.new.has_lost ≡ true }
     ensures unnamed { report.new.unnamed ≡ report.old.unnamed }
@@ -89,9 +88,9 @@ fn change_of<E: Write>(
     if !is_change(update) {
         return nothing;
     }
-    match diff_of(job, name, text, output) {
-        Some(diff) => diff,
-        None => {
+    match diff_of(job.alloc, name, kept) {
+        Ok(diff) => diff,
+        Err(_) => {
             report.lose();
             nothing
         }
@@ -135,7 +134,7 @@ fn replace_named<T: Tree>(
         file.entry.name.now kept.new.text.items (T.history tree.old) (T.history tree.new) result }
     ensures keeps { is_ok result ≡ true → KeepsAs job.now.arguments.now.plan
         job.now.arguments.now.write_into file.entry.name.now (T.history tree.old)
-        (T.history tree.new) result kept.new.text.items (output_of kept.new) kept.new.edited }
+        (T.history tree.new) result kept.new.text.items (output_of kept.new) kept.new.outcome.edited }
 {
     let name = file.name;
     match fresh_name(job.alloc, name) {

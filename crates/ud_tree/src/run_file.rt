@@ -1,9 +1,9 @@
 //! Reads a file, and runs over its text.
 
-ghost use Rattle.std.specs.Prelude.{IfOk};
-ghost use Rattle.ud_replace.specs.KeptTexts.{IsFresh};
+ghost use Rattle.std.specs.Prelude.{◌≡◌, [], IfOk, MatchResult};
+ghost use Rattle.ud_replace.specs.MadeOutcomes.{IsFresh};
 ghost use Rattle.ud_tree.specs.Runs.{ReadsOne};
-ghost use Rattle.ud_tree.specs.Shown.{RunsFile, WasRead};
+ghost use Rattle.ud_tree.specs.Shown.{IsUnread, RunsFile, WasRead};
 
 use crate::job::Job;
 use crate::tree::Tree;
@@ -19,15 +19,40 @@ pub(crate) struct Ran {
     pub differs: bool,
 }
 
-/// Reads a file, runs over its text, and keeps the text and the output for it.
-///
-/// The only call reads the file. What was read is kept, whatever the result.
+/// Reads a file by one call. What was read is kept, whatever the result. Returns the facts about
+/// the file from before.
 ///
 /// # Errors
 /// - `Read` if the file can't be read.
 /// - `ChangedMeanwhile` if it isn't the file that the walk met.
-/// - `Text` if the text has a fault. The output up to it was kept.
-/// - `OutOfMemory` if memory for the output can't be allocated.
+pub(crate) fn read_file<T: Tree>(
+    tree: &mut T,
+    file: FileAt<'_>,
+    text: &mut Vec<u8>,
+) -> Result<FileStat, ReplaceError>
+    requires empty { text.old.items ≡ [] }
+    ensures reads { ReadsOne file.entry.name.now text.new.items (T.history tree.old)
+        (T.history tree.new) }
+    ensures read { MatchResult result
+        (λ stat. WasRead file.entry.name.now text.new.items stat (T.history tree.old)
+        (T.history tree.new)) (IsUnread file.entry.name.now (T.history tree.old)
+        (T.history tree.new)) }
+{
+    match tree.read(file.name, text) {
+        None => Err(ReplaceError::Read),
+        Some(stat) => {
+            if !stat.is_of(file.id) {
+                return Err(ReplaceError::ChangedMeanwhile);
+            }
+            Ok(stat)
+        }
+    }
+}
+
+/// Reads a file, as `read_file` does, and keeps its text and the outcome.
+///
+/// # Errors
+/// As `read_file` and `Kept::run`.
 pub(crate) fn run_file<T: Tree>(
     job: &Job<'_>,
     tree: &mut T,
@@ -42,14 +67,7 @@ pub(crate) fn run_file<T: Tree>(
     ensures ran { RunsFile job.now.arguments.now.plan file.entry.name.now (T.history tree.old)
         (T.history tree.new) kept.new result }
 {
-    match tree.read(file.name, &mut kept.text) {
-        None => Err(ReplaceError::Read),
-        Some(stat) => {
-            if !stat.is_of(file.id) {
-                return Err(ReplaceError::ChangedMeanwhile);
-            }
-            let differs = kept.run(job.alloc, &job.arguments.plan)?;
-            Ok(Ran { stat, differs })
-        }
-    }
+    let stat = read_file(tree, file, &mut kept.text)?;
+    let differs = kept.run(job.alloc, &job.arguments.plan)?;
+    Ok(Ran { stat, differs })
 }

@@ -55,18 +55,16 @@ pub(crate) fn show_file<T: Tree, W: Write, E: Write>(
     let text = kept.text.as_slice();
     let output = kept.output();
     if !ran.differs {
-        report.find(job, name, text, output, kept.same);
+        report.find(job, name, text, output, kept.outcome.output.is_none());
         return Ok(Update::Unchanged);
     }
     report.find_names(job, text);
     if is_left_alone(&ran.stat, job.arguments.write_into) {
         return Err(ReplaceError::SeveralLinks);
     }
-    let Some(diff) = diff_of(job, name, text, output) else {
-        return Err(ReplaceError::OutOfMemory);
-    };
+    let diff = diff_of(job.alloc, name, &kept)?;
     *edits = Edits {
-        conditions: kept.edited,
+        conditions: kept.outcome.edited,
         lines: removed_by(Update::Replaced, text, output),
     };
     report.search(job, name, output);

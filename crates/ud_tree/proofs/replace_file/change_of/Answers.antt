@@ -8,8 +8,8 @@ returns-then-not-job-clause-change g c = unwanted c.new-nothing.ensures.items c.
 pub returns-then-not-is_change-clause-change : goal.returns-then-not-is_change-clause-change
 returns-then-not-is_change-clause-change g c = unchanged c.new-nothing.ensures.items (sym c.if-not-is_change.ensures)
 
-pub returns-in-Some-clause-change : goal.returns-in-Some-clause-change
-returns-in-Some-clause-change g c = change_shown c.if-not-job.false (sym c.if-not-is_change.ensures) c.in-Some.ensures
+pub returns-in-Ok-clause-change : goal.returns-in-Ok-clause-change
+returns-in-Ok-clause-change g c = change_shown c.if-not-job.false (sym c.if-not-is_change.ensures) c.in-Ok.ensures
 
-pub returns-in-None-clause-change : goal.returns-in-None-clause-change
-returns-in-None-clause-change g c = no_memory c.new-nothing.ensures.items c.lose.ensures.lost
+pub returns-in-Err-clause-change : goal.returns-in-Err-clause-change
+returns-in-Err-clause-change g c = no_memory c.new-nothing.ensures.items c.lose.ensures.lost

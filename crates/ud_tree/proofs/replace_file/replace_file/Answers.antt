@@ -1,5 +1,5 @@
 use Rattle.std.proofs.Common.{[], ◌∷◌, false, refl, sym, subst, Err}
-use Rattle.ud_replace.specs.KeptTexts.{output_of}
+use Rattle.ud_replace.specs.MadeOutcomes.{output_of}
 use Rattle.ud_tree.specs.Changes.{ShowsUpdate, after_error, after_update}
 use Rattle.ud_tree.specs.declared.counts.Edits.{Edits}
 use Rattle.ud_tree.specs.Runs.{made}
@@ -39,7 +39,7 @@ returns-clause-writes g c = record {
     does = c.in-Ok.ensures.replaces;
     change = after_update _ _ _ (λ o p. c.in-Ok.ensures.keeps refl o p)
         (rw (c.as_slice-text.ensures.value, c.output-output.ensures) at c.removed_by.ensures)
-        (rw (c.as_slice-text.ensures.value, c.output-output.ensures) at c.change_of-diff.ensures.change);
+        c.change_of-diff.ensures.change;
   };
   sent = sends_same c.as_slice-2.ensures.value c.send.ensures;
   finds = finds_then _ [] _ [] (rw (c.as_slice-text.ensures.value, c.output-output.ensures) at c.find.ensures.finds)
