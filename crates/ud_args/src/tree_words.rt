@@ -5,7 +5,7 @@ ghost use Rattle.ud_args.specs.ParsedArgs.{as_parsed, parsed};
 ghost use Rattle.ud_args.specs.ParsedSettings.{IsUsageOf};
 ghost use Rattle.ud_args.specs.Plans.{PlanRepresents};
 ghost use Rattle.ud_args.specs.TreeWords.{given_in, has_flag, has_symbols, paths_in, patterns_in};
-ghost use Rattle.ud_args.specs.TreeWords.{has_name, symbol_of, symbol_names};
+ghost use Rattle.ud_args.specs.TreeWords.{symbol_of, symbol_names};
 ghost use Rattle.ud_args.specs.TreeWords.{is_unifdef_option, unifdef_args, option_word, word_at};
 
 use crate::command_line::{CommandLine, ParsedArg};
@@ -14,6 +14,7 @@ use crate::plans::{Plan, PlanDraft};
 use crate::programs::Program;
 use crate::usage::Usage;
 use std::alloc::{AllocError, Global};
+use std::collections::BTreeSet;
 
 /// Returns what the words of a command line give, in reading order. They exclude the program's
 /// name.
@@ -62,18 +63,6 @@ pub fn has_symbols(given: &[ParsedArg<'_>]) -> bool
     false
 }
 
-/// Returns whether a name is among some names.
-fn has_name(names: &[Vec<u8>], name: &[u8]) -> bool
-    ensures { result ≡ has_name (map (λ n. n.items) names.now) name.now }
-{
-    for other in names {
-        if name == other.as_slice() {
-            return true;
-        }
-    }
-    false
-}
-
 /// Returns the name of an option's symbol, if the option is valid and names one.
 fn symbol_of<'a>(given: ParsedArg<'a>) -> Option<&'a [u8]>
     ensures { option_map (λ n. n.now) result ≡ symbol_of (as_parsed given.entry) }
@@ -99,11 +88,13 @@ pub fn symbol_names(alloc: Global, given: &[ParsedArg<'_>]) -> Result<Vec<Vec<u8
         map (λ n. n.items) names.items ≡ symbol_names (parsed given.now)) }
 {
     let mut names = Vec::new(alloc);
+    let mut seen = BTreeSet::new(alloc);
     for item in given {
-        if let Some(name) = symbol_of(*item) {
-            if !has_name(names.as_slice(), name) {
-                names.push(Vec::from_slice(alloc, name)?)?;
-            }
+        let Some(name) = symbol_of(*item) else {
+            continue;
+        };
+        if seen.insert(name)? {
+            names.push(Vec::from_slice(alloc, name)?)?;
         }
     }
     Ok(names)
