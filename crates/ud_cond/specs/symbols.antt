@@ -2,3 +2,4 @@
 pub mod SymbolTable
 pub mod Keys
 pub mod NameFilters
+pub mod Marks

@@ -15,6 +15,7 @@ ghost use Rattle.ud_model.specs.conditions.Table.{Argument, entry_in};
 ghost use Rattle.ud_model.specs.answer.SymbolArguments as names;
 ghost use Rattle.ud_model.specs.conditions.Symbols as ends;
 ghost use Rattle.ud_cond.specs.symbols.Keys as spec;
+ghost use Rattle.ud_cond.specs.symbols.Marks as marked;
 ghost use Rattle.ud_cond.specs.symbols.SymbolTable.{TableRepresents, SetsEntry, name_cmp};
 ghost use Rattle.ud_cond.specs.symbols.SymbolTable.{same_key_cmp, IsRowOf, IsGapFor, name_at};
 ghost use Rattle.ud_cond.specs.symbols.SymbolTable.{AreSorted, LacksNames, MustSearch};
@@ -31,6 +32,7 @@ use ud_model::bytes::{is_identifier, is_name};
 mod calls;
 mod fault;
 mod keys;
+mod marks;
 mod name_filter;
 
 pub use calls::SymbolCalls;
@@ -260,12 +262,24 @@ impl Symbols {
         ensures represents { (calls : List Argument) → TableRepresents self.now calls →
             option_map as_entry result ≡ entry_in calls name.now }
     {
+        let i = self.row_of(name)?;
+        Some(self.rows[i].entry())
+    }
+
+    /// Returns the position of the row of `name`, or `None` if it has none.
+    #[inline(always)]
+    fn row_of(&self, name: &[u8]) -> Option<usize>
+        ensures found { IfSome result (λ i. IsRowOf self.now i name.now) }
+        ensures first { IfSome result (λ i. i ≡ marked.row_of self.now name.now) }
+        ensures absent { IfNone result (entry_in self.now name.now ≡ None) }
+        ensures sorted { AreSorted self.now }
+    {
         let key = key_of(name);
         if !self.filter.may_contain(key) {
             return None;
         }
         match self.binary_search(key, name) {
-            Ok(i) => Some(self.rows[i].entry()),
+            Ok(i) => Some(i),
             Err(_) => None,
         }
     }

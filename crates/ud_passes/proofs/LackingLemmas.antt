@@ -49,7 +49,7 @@ use Rattle.ud_passes.specs.declared.remaining.mentions.Class.TheVariants.{Condit
 use Rattle.ud_passes.specs.declared.remaining.mentions.Class.TheVariants.{Definition}
 use Rattle.ud_passes.specs.declared.remaining.search.Search.{Search}
 use Rattle.ud_passes.proofs.NameLemmas.{has_word-other, has_word-seam}
-use Rattle.ud_passes.proofs.SearchLemmas.{appends_more}
+use Rattle.ud_passes.proofs.SearchLemmas.{appends_more, appends_none}
 
 -- 1. Words of masked bytes.
 
@@ -458,19 +458,19 @@ module _ (table : List Argument) where
       by (Some m) u inside others = (u, inside)
 
 -- 6. What is appended: nothing.
-unnamed_append : (table : List Argument) (name : List ℕ) (ms : List Mention) (now : Search) →
-    AreUnnamed table ms → Appends table name ms now now
-unnamed_append table name [] now u = grind (arith, common_steps, append-nil)
-unnamed_append table name (m ∷ ms) now u =
-    appends_more table name (m ∷ []) ms now now now
+unnamed_append : (rows table : List Argument) (name : List ℕ) (ms : List Mention)
+    (now : Search) → AreUnnamed table ms → Appends rows table name ms now now
+unnamed_append rows table name [] now u = appends_none rows table name now
+unnamed_append rows table name (m ∷ ms) now u =
+    appends_more rows table name (m ∷ []) ms now now now
     (grind (arith, u.0, append-nil, and_right, common_steps))
-    (unnamed_append table name ms now u.1)
+    (unnamed_append rows table name ms now u.1)
 
 -- So nothing is appended for such a text.
-pub appends_nothing : (table : List Argument) (mode : Mode) (name t : List ℕ) (now : Search) →
-    LacksNames table t → splits_word false t ≡ false →
-    Appends table name (mentions_of table mode t) now now
-appends_nothing table mode name t now h u =
-    unnamed_append table name (mentions_of table mode t) now
+pub appends_nothing : (rows table : List Argument) (mode : Mode) (name t : List ℕ)
+    (now : Search) → LacksNames table t → splits_word false t ≡ false →
+    Appends rows table name (mentions_of table mode t) now now
+appends_nothing rows table mode name t now h u =
+    unnamed_append rows table name (mentions_of table mode t) now
     (are_unnamed table false (read_as mode t) (all_lacking table t h u mode [] 1 [] (texts_of t) tt
     (lines_exist t).joined))

@@ -1,11 +1,12 @@
 -- Searches: text lines are passed, a line is taken, and a mention ends.
-use Rattle.std.proofs.Common.{◌≡◌, ℕ, ◌+◌, ◌&&◌, ◌-◌, ◌≤◌, List, [], ◌∷◌, ◌++◌, length, min, take, drop, ◌^◌, length-append, length-drop, take-append-drop, Bool, true, false, Option, None, Some, is_some, refl, sym, ◌∙◌, ap, subst, append_assoc, append-nil, arith, ap₂}
-use Rattle.std.specs.Prelude.{bytes_eq, map, filter}
-use Rattle.std.specs.List.{concat, flat_map, list_any}
+use Rattle.std.proofs.Common.{◌≡◌, ℕ, ◌+◌, ◌&&◌, ◌-◌, ◌≤◌, List, [], ◌∷◌, ◌++◌, length, take, drop, ◌^◌, length-append, length-drop, take-append-drop, Bool, true, false, Option, None, Some, is_some, refl, sym, ◌∙◌, ap, subst, append_assoc, append-nil, arith, ap₂}
+use Rattle.std.specs.Prelude.{map, filter, if◌then◌else◌, ◌<◌}
+use Rattle.std.specs.List.{concat}
 use Rattle.std.proofs.lemmas.Bool.{and_right}
 use Rattle.std.proofs.lemmas.Grind.{common_steps, flat_map-append}
 use Rattle.std.proofs.lemmas.List.{map-append, length-map}
 use Rattle.std.proofs.lemmas.List.Elements.{filter-append}
+use Rattle.std.proofs.lemmas.List.Folds.{list_any-append}
 use Rattle.ud_model.specs.text.Lines.{Line, whole_lines}
 use Rattle.ud_model.specs.text.Scans.{Reading}
 use Rattle.ud_model.specs.text.Scanning.{scan_after}
@@ -13,24 +14,23 @@ use Rattle.ud_model.specs.conditions.Table.{Argument}
 use Rattle.ud_model.specs.aids.ReadAs.{read_as}
 use Rattle.ud_model.specs.declared.kind.Mode.{Mode}
 use Rattle.ud_model.proofs.text.LinesLemmas.{are_whole}
+use Rattle.ud_cond.specs.symbols.Marks.{Unmarks}
 use Rattle.ud_text.proofs.lemmas.bulk.QuietLineLemmas.{ended_lines}
 use Rattle.ud_passes.specs.Passes.{fits}
 use Rattle.ud_passes.specs.Walks.{reading_at, read_after, AreTexts, HaveBytes, Walked}
 use Rattle.ud_passes.specs.remaining.Definitions.{IsClear}
 use Rattle.ud_passes.specs.remaining.Mentions.{Mention, mentions_in, mentions_of, joins_next, joined_text}
-use Rattle.ud_passes.specs.remaining.ListedNames.{names_by, has_word, names_listed}
-use Rattle.ud_passes.specs.remaining.RemainingLists.{RemainingState, AddsAll, is_condition, is_defining, lines_for, named_count, defining_count, line_of, has_name, is_named, remaining_text}
-use Rattle.ud_passes.specs.remaining.Searches.{rest_from, ended, Appends, Counts, EndsLine, Searched, IsTaken, begun_as, IsClearTo, shown_number, as_listed}
+use Rattle.ud_passes.specs.remaining.ListedNames.{names_by, names_listed}
+use Rattle.ud_passes.specs.remaining.RemainingLists.{is_condition, is_defining, line_of, lines_for, named_by, named_count, defining_count, has_name}
+use Rattle.ud_passes.specs.remaining.Searches.{rest_from, as_mention, ended, Appends, EndsLine, Searched, IsTaken, begun_as, IsClearTo, shown_number, as_listed}
 use Rattle.ud_passes.specs.declared.remaining.mentions.Begun.{Begun}
 use Rattle.ud_passes.specs.declared.remaining.listing.Listing.{Listing}
-use Rattle.ud_passes.specs.declared.remaining.listing.Listing.TheVariants.{Counted, Texts}
 use Rattle.ud_passes.specs.declared.remaining.mentions.Class.{Class}
 use Rattle.ud_passes.specs.declared.remaining.search.Search.{Search}
 use Rattle.ud_passes.specs.declared.remaining.search.Place.{Place}
 use Rattle.ud_passes.specs.declared.walk.Walk.{Walk}
 use Rattle.ud_passes.proofs.DefinitionLemmas.{clear_drop, DefineNothing, lines_clear}
 use Rattle.ud_passes.proofs.MentionLemmas.{end_of_text, taken_long}
-use Rattle.ud_passes.proofs.NameLemmas.{has_word-other}
 use Rattle.ud_passes.proofs.WalkLemmas.{walk_ends}
 
 -- 1. The mentions of more lines.
@@ -104,74 +104,66 @@ count_seen l p h ms = ap (λ (xs : List Mention). length xs) (sym (kept_names (a
 
 -- 3. What is appended.
 
-module _ (table : List Argument) (name : List ℕ) where
-  -- An unlisted mention.
+module _ (rows table : List Argument) (name : List ℕ) where
+  pub appends_none : (now : Search) → Appends rows table name [] now now
+  appends_none now = grind (arith, common_steps, append-nil)
+
+  -- A mention that names a listed symbol.
+  pub appends_listed : (found : Option Begun) (b : Begun) (after : List ℕ) (old new : Search) → found ≡ Some b → names_by table b.class after ≡ true →
+      new.list.items ≡ old.list.items ++ line_of table old.listing name (as_mention b after) →
+      (old.count + (if is_condition b.class then 1 else 0) < 2 ^ 64 → new.count ≡ old.count + (if is_condition b.class then 1 else 0)) →
+      (0 < old.count + (if is_condition b.class then 1 else 0) → 0 < new.count) →
+      (old.defined + (if is_defining b.class then 1 else 0) < 2 ^ 64 → new.defined ≡ old.defined + (if is_defining b.class then 1 else 0)) →
+      new.listing ≡ old.listing → Unmarks rows (λ n. has_name n b.class after) old.unnamed.items new.unnamed.items →
+      Appends rows table name (ended (begun_as found after)) old new
+  appends_listed found b after old new e named l c some d g u =
+      grind (arith, common_steps, append-nil, u)
+
+  -- One that names none.
   pub appends_unlisted : (found : Option Begun) (b : Begun) (after : List ℕ) (old new : Search) → found ≡ Some b → names_by table b.class after ≡ false →
-      new.list.items ≡ old.list.items → new.count ≡ old.count → new.defined ≡ old.defined → new.listing ≡ old.listing → Appends table name (ended (begun_as found after)) old new
-  appends_unlisted found b after old new e none l c d g = grind (arith, and_right, common_steps)
+      new.list.items ≡ old.list.items → new.count ≡ old.count → new.defined ≡ old.defined → new.listing ≡ old.listing → new.unnamed.items ≡ old.unnamed.items →
+      Appends rows table name (ended (begun_as found after)) old new
+  appends_unlisted found b after old new e none l c d g u =
+      grind (arith, and_right, common_steps)
 
-  pub appends_kept : (ms : List Mention) (start old new : Search) → Appends table name ms start old →
-      new.list.items ≡ old.list.items → new.count ≡ old.count → new.defined ≡ old.defined → new.listing ≡ old.listing → Appends table name ms start new
-  appends_kept ms start old new a l c d g = grind arith
+  pub appends_kept : (ms : List Mention) (start old new : Search) → Appends rows table name ms start old →
+      new.list.items ≡ old.list.items → new.count ≡ old.count → new.defined ≡ old.defined → new.listing ≡ old.listing → new.unnamed.items ≡ old.unnamed.items → Appends rows table name ms start new
+  appends_kept ms start old new a l c d g u = grind arith
 
-  pub appends_more : (ms ns : List Mention) (start mid new : Search) → Appends table name ms start mid → Appends table name ns mid new → Appends table name (ms ++ ns) start new
-  appends_more ms ns start mid new a b = grind (arith, common_steps, filter-append, flat_map-append)
+  pub appends_more : (ms ns : List Mention) (start mid new : Search) → Appends rows table name ms start mid → Appends rows table name ns mid new → Appends rows table name (ms ++ ns) start new
+  appends_more ms ns start mid new a b = grind (arith, common_steps, filter-append, flat_map-append, list_any-append)
+
+named_seen : (table : List Argument) (l : Listing) (name : List ℕ) (ms : List Mention) → named_by table (map (as_shown l) ms) name ≡ named_by table ms name
+named_seen table l name [] = refl
+named_seen table l name (m ∷ ms) = grind (arith, named_seen table l name ms)
 
 -- The mentions of lines with other numbers, which the list doesn't show.
-pub appends_seen : (table : List Argument) (name : List ℕ) (start new : Search) (seen read : List Reading) → map (as_listed start.listing) seen ≡ map (as_listed start.listing) read →
-    Appends table name (mentions_in table false seen) start new → Appends table name (mentions_in table false read) start new
-appends_seen table name start new seen read e a =
+pub appends_seen : (rows table : List Argument) (name : List ℕ) (start new : Search) (seen read : List Reading) → map (as_listed start.listing) seen ≡ map (as_listed start.listing) read →
+    Appends rows table name (mentions_in table false seen) start new → Appends rows table name (mentions_in table false read) start new
+appends_seen rows table name start new seen read e a =
     let l : Listing = start.listing in
     let lines = same (lines_for table l name) (lines_seen table l name) in
     let named = same (named_count table) (count_seen l (λ m. is_condition m.class && names_listed table m) (λ m. refl)) in
     let defining = same defining_count (count_seen l (λ m. is_defining m.class) (λ m. refl)) in
-    grind arith
+    let names = λ (n : List ℕ). same (λ ms. named_by table ms n) (named_seen table l n) in
+    grind (arith, names)
   where
     same : {A : Type 0} (f : List Mention → A) → ((ms : List Mention) → f (map (as_shown start.listing) ms) ≡ f ms) → f (mentions_in table false seen) ≡ f (mentions_in table false read)
     same f h = sym (h (mentions_in table false seen)) ∙ ap f (sym (mentions_seen table start.listing false seen)) ∙ ap (λ (rs : List Reading). f (mentions_in table false rs)) e
         ∙ ap f (mentions_seen table start.listing false read) ∙ h (mentions_in table false read)
-
--- A word of the texts of some mentions is a word of a condition among them.
-pub texts_have : (table : List Argument) (name file : List ℕ) (ms : List Mention) → has_word (bytes_eq name) false (flat_map (line_of table Texts file) ms) ≡ list_any (has_name name) ms
-texts_have table name file [] = refl
-texts_have table name file (m ∷ ms) = grind (arith, append_assoc, has_word-other, texts_have table name file ms)
-
--- So a word of the texts of all mentions is a word of a condition that names a listed symbol.
-pub texts_name : {table : List Argument} {file : List ℕ} {old new : Search} (mode : Mode) (bytes : List ℕ) → Appends table file (mentions_of table mode bytes) old new → old.list.items ≡ [] →
-    old.listing ≡ Texts → (name : List ℕ) → has_word (bytes_eq name) false new.list.items ≡ is_named table mode bytes name
-texts_name {table = table} {file = file} {old = old} mode bytes a none is name =
-    let ms = mentions_of table mode bytes in
-    ap (has_word (bytes_eq name) false) (a.list_is ∙ ap (λ (t : List ℕ). t ++ lines_for table old.listing file ms) none ∙ ap (λ (l : Listing). lines_for table l file ms) is)
-    ∙ texts_have table name file (filter (names_listed table) ms)
-
--- Mentions that are only counted have no lines.
-counted_lines : (table : List Argument) (name : List ℕ) (ms : List Mention) → flat_map (line_of table Counted name) ms ≡ []
-counted_lines table name [] = refl
-counted_lines table name (m ∷ ms) = counted_lines table name ms
-
--- The mentions of a text were counted by another search.
-pub counted_all : {table : List Argument} {mode : Mode} {bytes : List ℕ} (name : List ℕ) (found : Search) (old new : RemainingState) → Counts table mode bytes found → old.listing ≡ Counted →
-    new.list ≡ old.list → new.listing ≡ old.listing → new.count ≡ min (old.count + found.count) (2 ^ 64 - 1) → new.defined ≡ min (old.defined + found.defined) (2 ^ 64 - 1) → AddsAll table mode name bytes old new
-counted_all {table = table} {mode = mode} {bytes = bytes} name found old new h is list listing count defined = record {
-  list_is = list ∙ sym (append-nil old.list) ∙ ap (λ (t : List ℕ). old.list ++ t)
-      (sym (ap (λ (l : Listing). remaining_text table l mode name bytes) is ∙ counted_lines table name (filter (names_listed table) (mentions_of table mode bytes))));
-  count_is = λ small. grind (arith, common_steps);
-  defined_is = λ small. grind (arith, common_steps);
-  listing_is = listing;
-}
 
 -- 4. The places of a search.
 
 pub none_begun : (b : Option Begun) (bytes : List ℕ) → is_some b ≡ false → begun_as b bytes ≡ None
 none_begun b bytes e = grind arith
 
-module _ (table : List Argument) (mode : Mode) (name text : List ℕ) (start old : Search) (place : Place) (walk : Walk) (s : Searched table mode name text start old place walk)
+module _ (rows table : List Argument) (mode : Mode) (name text : List ℕ) (start old : Search) (place : Place) (walk : Walk) (s : Searched rows table mode name text start old place walk)
     (new : Search) (next : Place) (on : Walk) (clear : IsClearTo table next.until on.rest.now) where
   -- Text lines were passed.
   pub texts_searched : (bytes : List ℕ) (rs : List Reading) → AreTexts rs → DefineNothing table rs → HaveBytes bytes rs → Walked mode text (s.read ++ rs) on.rest.now on.scanner →
       is_some place.begun ≡ false → is_some next.begun ≡ false → (count : ℕ) → shown_number old.listing count ≡ shown_number old.listing (length (whole_lines bytes)) → next.number ≡ place.number + count →
-      new.list.items ≡ old.list.items → new.count ≡ old.count → new.defined ≡ old.defined → new.listing ≡ old.listing → Searched table mode name text start new next on
-  texts_searched bytes rs h undefined b w none none_then count c m l k d g =
+      new.list.items ≡ old.list.items → new.count ≡ old.count → new.defined ≡ old.defined → new.listing ≡ old.listing → new.unnamed.items ≡ old.unnamed.items → Searched rows table mode name text start new next on
+  texts_searched bytes rs h undefined b w none none_then count c m l k d g u =
       let parts : Goes table s.seen s.found None true = λ rs. s.parts rs ∙ ap (λ (x : Option Mention). s.found ++ rest_from table x true rs) (none_begun place.begun old.after.items none) in
       let n = b.count_is in let o = length-append s.read rs in
       record {
@@ -185,12 +177,12 @@ module _ (table : List Argument) (mode : Mode) (name text : List ℕ) (start old
         clear = clear;
         found = s.found;
         parts = λ more. goes_by_texts table s.seen s.found rs h undefined parts more ∙ ap (λ (x : Option Mention). s.found ++ rest_from table x true more) (sym (none_begun next.begun new.after.items none_then));
-        appends = appends_kept table name s.found start old new s.appends l k d g;
+        appends = appends_kept rows table name s.found start old new s.appends l k d g u;
       }
 
   -- A line was taken.
   module _ (k : Line) (w : Walked mode text (s.read ++ read_after mode s.read k ∷ []) on.rest.now on.scanner) (m : next.number ≡ place.number + 1)
-      (mid : Search) (same_list : mid.list.items ≡ old.list.items) (same_count : mid.count ≡ old.count) (same_defined : mid.defined ≡ old.defined) (same_listing : mid.listing ≡ old.listing) where
+      (mid : Search) (same_list : mid.list.items ≡ old.list.items) (same_count : mid.count ≡ old.count) (same_defined : mid.defined ≡ old.defined) (same_listing : mid.listing ≡ old.listing) (same_marks : mid.unnamed.items ≡ old.unnamed.items) where
     abbrev r : Reading
     r = read_after mode s.read k
 
@@ -202,7 +194,7 @@ module _ (table : List Argument) (mode : Mode) (name text : List ℕ) (start old
     begun_before = begun_as place.begun old.after.items
 
     pub line_searched : (c : Option Begun) (goes_on : Bool) → IsTaken table begun_before seen (begun_as c mid.after.items) goes_on →
-        EndsLine table name c goes_on mid new next.begun → Searched table mode name text start new next on
+        EndsLine rows table name c goes_on mid new next.begun → Searched rows table mode name text start new next on
     line_searched c goes_on i e = let after = by goes_on goes e in record {
       read = s.read ++ r ∷ [];
       walked = w;
@@ -219,29 +211,33 @@ module _ (table : List Argument) (mode : Mode) (name text : List ℕ) (start old
         q : Option Mention
         q = begun_as c mid.after.items
 
-        kept : Appends table name s.found start mid
-        kept = grind arith
+        kept : Appends rows table name s.found start mid
+        kept = appends_kept rows table name s.found start old mid s.appends same_list same_count same_defined same_listing same_marks
 
         goes : Goes table (s.seen ++ seen ∷ []) s.found q goes_on
         goes = grind (arith, common_steps)
 
-        by : (b : Bool) → Goes table (s.seen ++ seen ∷ []) s.found q b → EndsLine table name c b mid new next.begun →
-            (found : List Mention) × Goes table (s.seen ++ seen ∷ []) found (begun_as next.begun new.after.items) true × Appends table name found start new
-        by true g a = grind (arith, append-nil, appends_more, kept)
+        by : (b : Bool) → Goes table (s.seen ++ seen ∷ []) s.found q b → EndsLine rows table name c b mid new next.begun →
+            (found : List Mention) × Goes table (s.seen ++ seen ∷ []) found (begun_as next.begun new.after.items) true × Appends rows table name found start new
+        by true g a = (
+          s.found,
+          subst (λ (x : Option Mention). Goes table (s.seen ++ seen ∷ []) s.found x true) (sym a.1) g,
+          subst (λ (ms : List Mention). Appends rows table name ms start new) (append-nil s.found) (appends_more rows table name s.found [] start mid new kept a.0),
+        )
         by false g a = (
           s.found ++ ended q,
           subst (λ (x : Option Mention). Goes table (s.seen ++ seen ∷ []) (s.found ++ ended q) x true) (sym a.1) (goes_by_end table (s.seen ++ seen ∷ []) s.found q g),
-          appends_more table name s.found (ended q) start mid new kept a.0,
+          appends_more rows table name s.found (ended q) start mid new kept a.0,
         )
 
-    pub long_searched : fits k ≡ false → mid.after.items ≡ old.after.items → EndsLine table name place.begun false mid new next.begun → Searched table mode name text start new next on
+    pub long_searched : fits k ≡ false → mid.after.items ≡ old.after.items → EndsLine rows table name place.begun false mid new next.begun → Searched rows table mode name text start new next on
     long_searched f a e = line_searched place.begun false (ap (begun_as place.begun) a ∙ sym (taken_long table begun_before seen f), sym (grind (arith, f))) e
 
 -- 5. The whole text.
 
-pub first_place : (table : List Argument) (mode : Mode) (name all : List ℕ) (now : Search) (until : ℕ) (walk : Walk) → until ≡ length walk.rest.now → Walked mode all [] walk.rest.now walk.scanner →
-    Searched table mode name all now now (record { number = 1; begun = None; until = until }) walk
-first_place table mode name all now until walk e w =
+pub first_place : (rows table : List Argument) (mode : Mode) (name all : List ℕ) (now : Search) (until : ℕ) (walk : Walk) → until ≡ length walk.rest.now → Walked mode all [] walk.rest.now walk.scanner →
+    Searched rows table mode name all now now (record { number = 1; begun = None; until = until }) walk
+first_place rows table mode name all now until walk e w =
     record {
       read = [];
       walked = w;
@@ -251,15 +247,15 @@ first_place table mode name all now until walk e w =
       clear = subst (λ (n : ℕ). IsClear table n walk.rest.now) {x = 0} (omega arith) tt;
       found = [];
       parts = λ rs. refl;
-      appends = grind (arith, common_steps, append-nil);
+      appends = appends_none rows table name now;
     }
 
-pub all_searched : (table : List Argument) (mode : Mode) (name text : List ℕ) (start now new : Search) (place : Place) (walk : Walk) → Searched table mode name text start now place walk → walk.rest.now ≡ [] →
-    Appends table name (ended (begun_as place.begun now.after.items)) now new → Appends table name (mentions_of table mode text) start new
-all_searched table mode name text start now new place walk s e a =
+pub all_searched : (rows table : List Argument) (mode : Mode) (name text : List ℕ) (start now new : Search) (place : Place) (walk : Walk) → Searched rows table mode name text start now place walk → walk.rest.now ≡ [] →
+    Appends rows table name (ended (begun_as place.begun now.after.items)) now new → Appends rows table name (mentions_of table mode text) start new
+all_searched rows table mode name text start now new place walk s e a =
     let b : Option Mention = begun_as place.begun now.after.items in
     let all : s.read ≡ read_as mode text = walk_ends mode text s.read walk.rest.now walk.scanner s.walked e in
     let ms : s.found ++ ended b ≡ mentions_in table false s.seen =
     ap (λ (x : List Mention). s.found ++ x) (sym (end_of_text table b)) ∙ sym (s.parts []) ∙ ap (mentions_in table false) (append-nil s.seen) in
-    subst (λ (rs : List Reading). Appends table name (mentions_in table false rs) start new) all
-    (appends_seen table name start new s.seen s.read s.seen_is (subst (λ (x : List Mention). Appends table name x start new) ms (appends_more table name s.found (ended b) start now new s.appends a)))
+    subst (λ (rs : List Reading). Appends rows table name (mentions_in table false rs) start new) all
+    (appends_seen rows table name start new s.seen s.read s.seen_is (subst (λ (x : List Mention). Appends rows table name x start new) ms (appends_more rows table name s.found (ended b) start now new s.appends a)))

@@ -28,6 +28,6 @@ pub use diff::{EDITED, SAME, unified_diff};
 pub use folding::{fold, restore};
 pub use names::Names;
 pub use pruning::{law_pruned_text, prune};
-pub use remaining::{Listing, Remaining, remove_named};
+pub use remaining::{Listing, Remaining};
 pub use squeezing::{Squeezed, squeeze};
 pub use untouched::is_untouched;

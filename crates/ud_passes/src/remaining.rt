@@ -11,7 +11,7 @@
 //! reason for a mention, `RemainingLists.antt` the list and which names conditions have, and
 //! `Searches.antt` what a search keeps.
 
-ghost use Rattle.std.specs.Prelude.{◌≡◌, List, [], OnOk, OnErr, map};
+ghost use Rattle.std.specs.Prelude.{◌≡◌, List, [], OnOk, OnErr};
 ghost use Rattle.ud_model.specs.conditions.Table.{Argument};
 ghost use Rattle.ud_cond.specs.symbols.SymbolTable.{TableRepresents};
 ghost use Rattle.ud_passes.specs.remaining.RemainingLists.{AddsAll, LeavesUnnamed};
@@ -19,6 +19,7 @@ ghost use Rattle.ud_passes.specs.remaining.RemainingLists.{AddsAll, LeavesUnname
 use search::Search;
 use std::alloc::{AllocError, Global};
 use std::marker::Model;
+use std::mem;
 use ud_cond::Symbols;
 use ud_model::Mode;
 
@@ -29,11 +30,8 @@ mod mentions;
 mod names;
 mod reasons;
 mod search;
-mod unnamed;
 
 pub use listing::Listing;
-use unnamed::find_named;
-pub use unnamed::remove_named;
 
 /// The mentions of symbols in all texts so far: conditions, definitions, and words after an `#else`
 /// or `#endif`.
@@ -86,63 +84,41 @@ impl Remaining {
         self.search.list.as_slice()
     }
 
-    /// Adds a text's mentions of the symbols. `name` is the file's name.
+    /// Adds a text's mentions of the symbols. `name` is the file's name. `unnamed` has the marks of
+    /// the symbols that no condition has named so far, or none: the rows that a condition of the
+    /// text names lose theirs.
     ///
     /// `text` may have any length and any bytes. A condition whose comment never closes ends with
     /// the text. A line over `LINE_BYTES` has no condition and no definition, and joins no other
     /// line.
     ///
     /// # Errors
-    /// Fails if memory runs out. Then nothing was added.
+    /// Fails if memory runs out. Then nothing was added, but marks may be lost.
     pub fn add(
         &mut self,
         name: &[u8],
         text: &[u8],
         mode: Mode,
         symbols: &Symbols,
+        unnamed: &mut Vec<bool>,
     ) -> Result<(), AllocError>
         ensures added { OnOk result ((calls : List Argument) → TableRepresents symbols.now calls →
             AddsAll calls mode name.now text.now self.old self.new) }
+        ensures unnamed { OnOk result ((calls : List Argument) →
+            TableRepresents symbols.now calls → LeavesUnnamed calls mode text.now symbols.now
+            unnamed.old.items unnamed.new.items) }
         ensures unchanged { OnErr result (self.new ≡ self.old) }
     {
         let search = &mut self.search;
         let (count, defined, len) = (search.count, search.defined, search.list.len());
+        mem::swap(&mut search.unnamed, unnamed);
         let result = search.search(name, text, mode, symbols);
+        mem::swap(&mut search.unnamed, unnamed);
         if result.is_err() {
             search.count = count;
             search.defined = defined;
             search.list.truncate(len);
         }
         result
-    }
-
-    /// Adds a text's mentions, as `add` does, and removes the names that some condition of it has,
-    /// as `remove_named` does. If mentions are only counted, the text is read once.
-    ///
-    /// # Errors
-    /// Fails if memory runs out.
-    pub fn add_named(
-        &mut self,
-        name: &[u8],
-        text: &[u8],
-        mode: Mode,
-        symbols: &Symbols,
-        names: &mut Vec<Vec<u8>>,
-    ) -> Result<(), AllocError>
-        ensures added { OnOk result ((calls : List Argument) → TableRepresents symbols.now calls →
-            AddsAll calls mode name.now text.now self.old self.new) }
-        ensures removed { OnOk result ((calls : List Argument) →
-            TableRepresents symbols.now calls → LeavesUnnamed calls mode text.now
-            (map (λ n. n.items) names.old.items) (map (λ n. n.items) names.new.items)) }
-    {
-        if let Listing::Counted = self.search.listing {
-            let found = find_named(names, text, mode, symbols)?;
-            let all = &mut self.search;
-            all.count = all.count.saturating_add(found.count);
-            all.defined = all.defined.saturating_add(found.defined);
-            return Ok(());
-        }
-        self.add(name, text, mode, symbols)?;
-        remove_named(names, text, mode, symbols)
     }
 }

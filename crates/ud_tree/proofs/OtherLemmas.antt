@@ -18,9 +18,6 @@ use Rattle.std.specs.declared.cmp.Ordering.TheVariants.{Less, Equal, Greater}
 use Rattle.std.specs.Prelude.{string_bytes, filter, count_by}
 use Rattle.ud_model.specs.conditions.Table.{Argument}
 use Rattle.ud_cond.specs.symbols.SymbolTable.{TableRepresents}
-use Rattle.ud_passes.specs.declared.remaining.listing.Listing.TheVariants.{Texts}
-use Rattle.ud_passes.specs.remaining.Mentions.{Mention}
-use Rattle.ud_passes.specs.remaining.RemainingLists.{lines_for, named_count}
 use Rattle.ud_replace.specs.declared.node.Sample.{Sample}
 use Rattle.ud_replace.specs.Calls.{Call, sampled}
 use Rattle.ud_replace.specs.Moments.{EachCall, then_call}
@@ -120,11 +117,6 @@ module _ {args : Arguments} {files : List Found} where
       one : (b : Bool) → cond b (f ∷ []) [] ≡ map (λ l. l.file) (cond b (look ∷ []) [])
       one true = refl
       one false = refl
-
--- The list of a text's conditions is empty if none is counted.
-pub texts_count : (table : List Argument) (ms : List Mention) → (length (lines_for table Texts [] ms) == 0) ≡ (named_count table ms == 0)
-texts_count table [] = refl
-texts_count table (m ∷ ms) = grind (arith, common_steps, common_steps, texts_count table ms)
 
 -- 3. The walk over files of all names.
 

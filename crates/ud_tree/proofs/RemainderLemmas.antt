@@ -2,52 +2,32 @@
 use Rattle.std.proofs.Common.{◌≡◌, ℕ, List, [], ◌∷◌, ◌++◌, Bool, true, false, not, ◌||◌, refl, sym, ◌∙◌, ap, subst, append-nil, arith}
 use Rattle.std.proofs.lemmas.Grind.{flat_map-append, common_steps}
 use Rattle.std.proofs.lemmas.Bool.{false≢true}
+use Rattle.std.proofs.lemmas.List.Folds.{list_any-append}
 use Rattle.std.proofs.lemmas.List.Sums.{sum_by-append}
-use Rattle.std.specs.Prelude.{filter}
+use Rattle.std.specs.Prelude.{filter, map}
 use Rattle.std.specs.List.{list_any}
 use Rattle.ud_model.specs.conditions.Table.{Argument}
+use Rattle.ud_cond.specs.symbols.Marks.{is_marked, Unmarks}
 use Rattle.ud_cond.specs.symbols.SymbolTable.{TableRepresents}
-use Rattle.ud_passes.specs.remaining.RemainingLists.{RemainingState, AddsAll}
+use Rattle.ud_passes.specs.remaining.RemainingLists.{RemainingState, AddsAll, LeavesUnnamed}
 use Rattle.ud_tree.specs.declared.arguments.Arguments.{Arguments}
 use Rattle.ud_tree.specs.Reports.{ReportState, KeepsFinds}
-use Rattle.ud_tree.specs.Remainders.{mode_of, is_searched, Finds, AddsOutputs, FindsAll, has_condition, unnamed_in}
-use Rattle.ud_tree.specs.Unnamed.{FindsNames, RemovesNames}
+use Rattle.ud_tree.specs.Remainders.{mode_of, is_searched, Finds, AddsOutputs, FindsAll, has_condition, is_named_in, is_sought, unnamed_in}
+use Rattle.ud_tree.specs.Summaries.{still_unnamed}
+use Rattle.ud_tree.specs.Unnamed.{FindsNames}
 use Rattle.ud_tree.specs.Runs.{Output, made}
 use Rattle.unifdef.proofs.HeadlineLemmas.{false_before}
 
 -- 1. The names that no text has.
 
-any-append : {A : Type 0} (p : A → Bool) (xs ys : List A) → list_any p (xs ++ ys) ≡ (list_any p xs || list_any p ys)
-any-append p [] ys = refl
-any-append p (x ∷ xs) ys = grind (arith, any-append p xs ys)
-
 filter_alike : {A : Type 0} (p q : A → Bool) → ((x : A) → p x ≡ q x) → (xs : List A) → filter p xs ≡ filter q xs
 filter_alike p q h [] = refl
 filter_alike p q h (x ∷ xs) = grind (arith, h x, filter_alike p q h xs)
 
-filter_twice : {A : Type 0} (p q : A → Bool) (xs : List A) → filter (λ x. not (q x)) (filter (λ x. not (p x)) xs) ≡ filter (λ x. not (p x || q x)) xs
-filter_twice p q [] = refl
-filter_twice p q (x ∷ xs) = grind (arith, filter_twice p q xs)
-
-filter_all : {A : Type 0} (xs : List A) → filter (λ x. true) xs ≡ xs
-filter_all [] = refl
-filter_all (x ∷ xs) = grind (arith, filter_all xs)
-
-or_false : (b : Bool) → (b || false) ≡ b
-or_false true = refl
-or_false false = refl
-
-module _ (table : List Argument) (args : Arguments) where
-  unnamed_none : (names : List (List ℕ)) → unnamed_in table args [] names ≡ names
-  unnamed_none names = filter_all names
-
-  unnamed_then : (ts us names : List (List ℕ)) → unnamed_in table args us (unnamed_in table args ts names) ≡ unnamed_in table args (ts ++ us) names
-  unnamed_then ts us names =
-      filter_twice (λ n. list_any (λ t. has_condition table args t n) ts) (λ n. list_any (λ t. has_condition table args t n) us) names
-      ∙ filter_alike _ _ (λ n. ap not (sym (any-append (λ t. has_condition table args t n) ts us))) names
-
-  unnamed_one : (text : List ℕ) (names : List (List ℕ)) → filter (λ n. not (has_condition table args text n)) names ≡ unnamed_in table args (text ∷ []) names
-  unnamed_one text names = filter_alike _ _ (λ n. ap not (sym (or_false (has_condition table args text n)))) names
+-- The names that are marked after some texts are those that no condition of them has.
+pub names_left : (table : List Argument) (args : Arguments) (texts : List (List ℕ)) (start marks : List Bool) → ((name : List ℕ) → is_marked args.plan.run.symbols start name ≡ is_sought args name) →
+    Unmarks args.plan.run.symbols (is_named_in table args texts) start marks → still_unnamed args marks ≡ unnamed_in table args texts
+names_left table args texts start marks all left = filter_alike _ _ (λ n. (grind (arith, all n, left n))) (map (λ n. n.items) args.names.items)
 
 -- 2. What was found.
 
@@ -60,7 +40,7 @@ finds_none {args = args} {old = old} {new = new} same kept names = record {
   kept = kept;
   added = λ whole wanted calls r. subst (λ (t : RemainingState). AddsOutputs calls args [] old.remaining t) (sym same) (adds_same old.remaining);
   same = λ off. same;
-  unnamed = λ whole calls r. names ∙ sym (unnamed_none calls args old.unnamed);
+  unnamed = λ whole calls r n. (grind (arith, names));
 }
 
 -- The same, if whether some was lost stays too.
@@ -77,7 +57,7 @@ finds_output {args = args} {old = old} h = record {
   kept = h.kept;
   added = λ whole wanted calls r. adds_output (h.added whole wanted calls r);
   same = h.same;
-  unnamed = λ whole calls r. h.unnamed ∙ sym (unnamed_none calls args old.unnamed);
+  unnamed = λ whole calls r n. (grind (arith, h.unnamed));
 }
 
 -- The names of one text were looked for.
@@ -86,18 +66,41 @@ finds_text {args = args} {text = text} {old = old} h = record {
   kept = h.kept;
   added = λ whole wanted calls r. subst (λ (t : RemainingState). AddsOutputs calls args [] old.remaining t) (sym h.remaining) (adds_same old.remaining);
   same = λ off. h.remaining;
-  unnamed = λ whole calls r. h.removed whole calls r ∙ unnamed_one calls args text old.unnamed;
+  unnamed = λ whole calls r n. (grind (arith, h.removed whole calls r n));
 }
 
 -- A text that is its own output was searched at once.
 pub finds_at_once : {args : Arguments} {name text : List ℕ} {old new : ReportState} → is_searched args ≡ true → new.has_lost ≡ old.has_lost →
-    ((calls : List Argument) → TableRepresents args.plan.run.symbols calls → AddsAll calls (mode_of args) name text old.remaining new.remaining) → RemovesNames args text old.unnamed new.unnamed →
+    ((calls : List Argument) → TableRepresents args.plan.run.symbols calls → AddsAll calls (mode_of args) name text old.remaining new.remaining) →
+    ((calls : List Argument) → TableRepresents args.plan.run.symbols calls → LeavesUnnamed calls (mode_of args) text args.plan.run.symbols old.unnamed new.unnamed) →
     FindsAll args (text ∷ []) (made name text) old new
 finds_at_once {args = args} {text = text} {old = old} wanted lost adds removes = record {
   kept = λ gone. lost ∙ gone;
   added = λ whole on calls r. adds_output (adds calls r);
   same = λ off. absurd (false≢true (sym off ∙ wanted));
-  unnamed = λ whole calls r. removes calls r ∙ unnamed_one calls args text old.unnamed;
+  unnamed = λ whole calls r n. (grind (arith, removes calls r n));
+}
+
+-- Memory ran out for a text that is its own output.
+pub finds_lost : {args : Arguments} {ts : List (List ℕ)} {xs : List Output} {old new : ReportState} → is_searched args ≡ true → new.has_lost ≡ true → FindsAll args ts xs old new
+finds_lost wanted lost = record {
+  kept = λ gone. lost;
+  added = λ whole. absurd (false≢true (sym whole ∙ lost));
+  same = λ off. absurd (false≢true (sym off ∙ wanted));
+  unnamed = λ whole. absurd (false≢true (sym whole ∙ lost));
+}
+
+-- The names of a text were looked for.
+pub finds_named : {args : Arguments} {text : List ℕ} {old new : ReportState} → new.has_lost ≡ old.has_lost → new.remaining ≡ old.remaining →
+    ((calls : List Argument) → TableRepresents args.plan.run.symbols calls → LeavesUnnamed calls (mode_of args) text args.plan.run.symbols old.unnamed new.unnamed) → FindsNames args text old new
+finds_named lost same leaves = record { kept = λ gone. lost ∙ gone; removed = λ whole. leaves; remaining = same }
+
+-- No name is sought.
+pub finds_unsought : {args : Arguments} {text : List ℕ} {r : ReportState} → r.unnamed ≡ [] → FindsNames args text r r
+finds_unsought {args = args} {text = text} {r = r} none = record {
+  kept = λ lost. lost;
+  removed = λ whole calls h n. (grind (arith, none));
+  remaining = refl;
 }
 
 -- The names of an equal text were looked for.
@@ -110,9 +113,7 @@ finds_then {args = args} {a = a} ts us xs ys h k = record {
   kept = λ lost. k.kept (h.kept lost);
   added = λ whole wanted calls r. (grind (arith, common_steps, flat_map-append, sum_by-append, h.added (false_before k.kept whole) wanted calls r, k.added whole wanted calls r));
   same = λ off. k.same off ∙ h.same off;
-  unnamed = λ whole calls r.
-      k.unnamed whole calls r ∙ ap (unnamed_in calls args us) (h.unnamed (false_before k.kept whole) calls r)
-      ∙ unnamed_then calls args ts us a.unnamed;
+  unnamed = λ whole calls r n. (grind (arith, k.unnamed whole calls r n, h.unnamed (false_before k.kept whole) calls r n, list_any-append));
 }
 
 -- Equal texts and outputs are found alike.

@@ -18,17 +18,17 @@ use Rattle.ud_tree.specs.declared.arguments.Task.{Task}
 use Rattle.ud_tree.specs.declared.arguments.Task.TheVariants.{Names}
 use Rattle.ud_tree.specs.Fates.{fate_of, is_changed, is_same, is_faulty, no_edits}
 use Rattle.ud_tree.specs.Runs.{FileResult, Unshown, EachFile, no_file, then_file, changed_in, faulty_in, edited_in, removed_in, told_of, Counted, names_of, nothing_listed, listed_of, lost_in, outputs_of, texts_of}
-use Rattle.ud_tree.specs.Remainders.{FindsAll, listing_of, list_of, count_of, defined_of, unnamed_in}
+use Rattle.ud_tree.specs.Remainders.{FindsAll, listing_of, list_of, count_of, defined_of}
 use Rattle.ud_tree.specs.Unnamed.{Seeks}
 use Rattle.ud_tree.specs.Others.{FindsOthers}
-use Rattle.ud_tree.proofs.RemainderLemmas.{finds_none, finds_kept, finds_then, finds_same}
+use Rattle.ud_tree.proofs.RemainderLemmas.{finds_none, finds_kept, finds_then, finds_same, names_left}
 use Rattle.ud_tree.specs.Statuses.{tree_status}
 use Rattle.ud_tree.specs.Streams.{Source, ends_of}
 use Rattle.ud_io.specs.Streams.{Stream, Sends}
 use Rattle.ud_tree.specs.declared.job.Job.{Job}
 use Rattle.ud_tree.specs.Reports.{ReportState, new_report, IsPlain, KeepsScreen, Says, Writes, Tells, TellsOf}
 use Rattle.ud_tree.specs.Messages.{IsTold, TellsIf, list_message, write_message, output_messages}
-use Rattle.ud_tree.specs.Summaries.{last_lines, TellsEnd}
+use Rattle.ud_tree.specs.Summaries.{last_lines, still_unnamed, TellsEnd}
 use Rattle.ud_tree.specs.Unmatched.{LeavesRules, rule_lines}
 use Rattle.ud_tree.proofs.MessageLemmas.{output_told, output_count}
 use Rattle.ud_tree.proofs.ReportLemmas.{tells_none, tells_then, tells_same, writes_kept, writes_then}
@@ -270,7 +270,7 @@ pub ends : (job : Job) (files : List Found) (rules : List (List ℕ)) {old new :
     unheard ≡ new.err.failed →
     status ≡ tree_status job.arguments.now.task job.arguments.now.plan.run.settings.exit_mode unheard faults
     counts.changed → EndsWriting job in_walk old files rules new status
-ends job files rules {old = old} {new = new} {mid = mid} {sought_report = sought_report} {end_report = end_report} {counts = counts} {others = others} lost unwritten in_walk faults hidden
+ends job files rules {old = old} {new = new} {mid = mid} {seek_report = seek_report} {sought_report = sought_report} {end_report = end_report} {counts = counts} {others = others} lost unwritten in_walk faults hidden
     status start lists no_name none no_condition hidden_now whole_report sought_now d o l t f failed flushed u e unshown said silent stream few all
     unheard heard is =
     let w = d.does in
@@ -283,7 +283,7 @@ ends job files rules {old = old} {new = new} {mid = mid} {sought_report = sought
     let before = writes_then (writes_kept q.screen) w.writes in
     let finds = finds_same (append-nil (texts_of h.results)) (append-nil (outputs_of h.results))
     (finds_then (texts_of h.results) [] (outputs_of h.results) [] w.finds (finds_none {new = sought_report} o.remaining o.kept o.unnamed)) in
-    let last = last_lines args counts.changed counts.unchanged faults hidden counts.edits left.count left.defined end_report.unnamed (names_of others.named.items) others.unsearched ++ rule_lines args rules in
+    let last = last_lines args counts.changed counts.unchanged faults hidden counts.edits left.count left.defined (still_unnamed args end_report.unnamed) (names_of others.named.items) others.unsearched ++ rule_lines args rules in
     let ruled = rules_sent args rules args.quiet refl unshown said silent in
     let all_names = w.adds.names ∙ ap (λ (x : List ℕ). x ++ (listed_of h.results).names) no_name in
     let all_hidden = w.adds.hidden_list ∙ ap (λ (x : List ℕ). x ++ (listed_of h.results).hidden_list) no_condition in
@@ -298,7 +298,7 @@ ends job files rules {old = old} {new = new} {mid = mid} {sought_report = sought
           each = h.each;
         };
         is_lost = lost;
-        tally = record { faults = faults; hidden = hidden; edits = counts.edits; remaining = left.count; defined = left.defined; unnamed = end_report.unnamed; others = others; rules = rules };
+        tally = record { faults = faults; hidden = hidden; edits = counts.edits; remaining = left.count; defined = left.defined; unnamed = still_unnamed args end_report.unnamed; others = others; rules = rules };
         failed = mid.out.failed;
         stays_failed = λ is. still_failed f (still_failed l.sent is);
         seeks = record { touches = o.seeks.touches; unsought = o.seeks.unsought; found = λ whole. o.seeks.found (whole_report whole) };
@@ -331,8 +331,8 @@ ends job files rules {old = old} {new = new} {mid = mid} {sought_report = sought
               (finds.added (whole_report whole) wanted calls represents).defined_is small;
           none_defined = λ off. ap (λ (s : RemainingState). s.defined) (both.keeps.remaining ∙ finds.same off ∙ q.remaining);
           unnamed = λ whole calls represents.
-              both.keeps.unnamed ∙ finds.unnamed (whole_report whole) calls represents
-              ∙ ap (unnamed_in calls args (texts_of h.results)) (q.names refl (false_before finds.kept (whole_report whole)));
+              names_left calls args (texts_of h.results) seek_report.unnamed end_report.unnamed (q.marks refl (false_before finds.kept (whole_report whole)))
+              (rw both.keeps.unnamed (finds.unnamed (whole_report whole) calls represents));
         };
         has_status = record {
           faults_are = subst (λ (b : Bool). in_walk + length (output_messages lost b) + faulty_in h.results < 2 ^ 64 → faults ≡ in_walk + length (output_messages lost b) + faulty_in h.results) failed
@@ -344,8 +344,8 @@ ends job files rules {old = old} {new = new} {mid = mid} {sought_report = sought
         };
         tells = record {
           told_is = ap (λ (x : List ℕ). (x ++ of_output) ++ last) h.told_is ∙ ap (λ (b : Bool). (told_of h.results ++ joined (output_messages lost b)) ++ last) failed;
-          last_is = ap (λ (x : List ℕ). x ++ rule_lines args rules) (ap (λ (x : ℕ). last_lines args x counts.unchanged faults hidden counts.edits left.count left.defined end_report.unnamed (names_of others.named.items) others.unsearched) h.counts_are.changed
-              ∙ ap (λ (x : ℕ). last_lines args (changed_in h.results) x faults hidden counts.edits left.count left.defined end_report.unnamed (names_of others.named.items) others.unsearched) h.counts_are.unchanged);
+          last_is = ap (λ (x : List ℕ). x ++ rule_lines args rules) (ap (λ (x : ℕ). last_lines args x counts.unchanged faults hidden counts.edits left.count left.defined (still_unnamed args end_report.unnamed) (names_of others.named.items) others.unsearched) h.counts_are.changed
+              ∙ ap (λ (x : ℕ). last_lines args (changed_in h.results) x faults hidden counts.edits left.count left.defined (still_unnamed args end_report.unnamed) (names_of others.named.items) others.unsearched) h.counts_are.unchanged);
         };
       };
       rules_are = refl;

@@ -3,7 +3,8 @@ use Rattle.std.proofs.Common.{◌≡◌, ℕ, ◌+◌, ◌<◌, ◌≤◌, List,
 use Rattle.std.proofs.lemmas.Grind.{common_steps, flat_map-append}
 use Rattle.std.proofs.lemmas.List.{take_more, map-append, length-map}
 use Rattle.std.specs.List.{flat_map, slice_get}
-use Rattle.std.specs.Prelude.{string_bytes}
+use Rattle.std.specs.Prelude.{string_bytes, filter, if◌then◌else◌}
+use Rattle.std.proofs.lemmas.List.Elements.{filter-append}
 use Rattle.ud_tree.specs.Reports.{ReportState, Says}
 use Rattle.ud_tree.specs.declared.arguments.Arguments.{Arguments}
 use Rattle.ud_tree.specs.declared.counts.Counts.{Counts}
@@ -11,7 +12,7 @@ use Rattle.ud_tree.specs.declared.walk.Found.{Found}
 use Rattle.ud_tree.specs.Runs.{names_of}
 use Rattle.ud_tree.specs.declared.arguments.Task.TheVariants.{Names}
 use Rattle.ud_io.specs.Streams.{Stream, Sends}
-use Rattle.ud_tree.specs.Summaries.{line_of, changes_line, files_text, hidden_text, summary, remaining_text, remaining_line, removed_line, removed_text, edited_line, edited_text, defined_line, unnamed_line, unnamed_lines, others_line, others_text, unsearched_line, unsearched_text, TellsEnd}
+use Rattle.ud_tree.specs.Summaries.{line_of, changes_line, files_text, hidden_text, summary, remaining_text, remaining_line, removed_line, removed_text, edited_line, edited_text, defined_line, still_unnamed, unnamed_line, unnamed_lines, others_line, others_text, unsearched_line, unsearched_text, TellsEnd}
 use Rattle.ud_tree.specs.Visible.{visible}
 use Rattle.ud_io.proofs.StreamLemmas.{sends_none, sends_same, sends_then}
 
@@ -69,11 +70,29 @@ pub flat_push : {A : Type 0} (f : A → List ℕ) (g : List ℕ → List ℕ) (x
     flat_map g (map f (take i xs)) ++ g (f x) ≡ flat_map g (map f (take (i + 1) xs))
 flat_push f g xs i x within is = grind (arith, common_steps, take_more, map-append, flat_map-append)
 
--- The line of one name more was written.
-pub unnamed_sent : {A : Type 0} {a b c : Stream} (f : A → List ℕ) (names : List A) (i : ℕ) (x : A) (name : List ℕ) → i < length names → x ≡ get_or names i x → name ≡ f x →
-    Sends a b (flat_map unnamed_line (map f (take i names))) → Sends b c (line_of (codes "no condition names " ++ (name ++ []))) → Sends a c (flat_map unnamed_line (map f (take (i + 1) names)))
-unnamed_sent f names i x name within is named h k =
-    sends_same (ap (λ n. flat_map unnamed_line (map f (take i names)) ++ unnamed_line n) (append-nil name ∙ named) ∙ flat_push f unnamed_line names i x within is) (sends_then h k)
+-- One name more was tried.
+filter_push : {A : Type 0} (f : A → List ℕ) (p : List ℕ → Bool) (xs : List A) (i : ℕ) (x : A) → i < length xs → x ≡ get_or xs i x →
+    filter p (map f (take (i + 1) xs)) ≡ filter p (map f (take i xs)) ++ (if p (f x) then f x ∷ [] else [])
+filter_push f p xs i x within is = ap (λ ys. filter p (map f ys)) (take_more xs i x within) ∙ ap (λ y. filter p (map f (take i xs ++ y ∷ []))) (sym is) ∙ ap (filter p) (map-append f (take i xs) (x ∷ [])) ∙ filter-append p (map f (take i xs)) (f x ∷ [])
+
+-- It is marked, and its line was written.
+pub unnamed_sent : {A : Type 0} {a b c : Stream} (f : A → List ℕ) (p : List ℕ → Bool) (names : List A) (i : ℕ) (x : A) (name : List ℕ) → i < length names → x ≡ get_or names i x → name ≡ f x → p name ≡ true →
+    Sends a b (flat_map unnamed_line (filter p (map f (take i names)))) → Sends b c (line_of (codes "no condition names " ++ (name ++ []))) → Sends a c (flat_map unnamed_line (filter p (map f (take (i + 1) names))))
+unnamed_sent f p names i x name within is named marked h k = sends_same (sym lines) (sends_then h k)
+  where
+    before : List (List ℕ)
+    before = filter p (map f (take i names))
+
+    lines : flat_map unnamed_line (filter p (map f (take (i + 1) names))) ≡ flat_map unnamed_line before ++ line_of (codes "no condition names " ++ (name ++ []))
+    lines = ap (flat_map unnamed_line) (filter_push f p names i x within is ∙ ap (λ b. before ++ (if b then f x ∷ [] else [])) (ap p (sym named) ∙ marked))
+        ∙ flat_map-append unnamed_line before (f x ∷ [])
+        ∙ ap (λ t. flat_map unnamed_line before ++ t) (append-nil (unnamed_line (f x)) ∙ ap unnamed_line (sym (append-nil name ∙ named)))
+
+-- It isn't marked.
+pub unnamed_passed : {A : Type 0} {a b : Stream} (f : A → List ℕ) (p : List ℕ → Bool) (names : List A) (i : ℕ) (x : A) → i < length names → x ≡ get_or names i x → p (f x) ≡ false →
+    Sends a b (flat_map unnamed_line (filter p (map f (take i names)))) → Sends a b (flat_map unnamed_line (filter p (map f (take (i + 1) names))))
+unnamed_passed f p names i x within is unmarked h =
+    sends_same (ap (flat_map unnamed_line) (sym (filter_push f p names i x within is ∙ ap (λ b. filter p (map f (take i names)) ++ (if b then f x ∷ [] else [])) unmarked ∙ append-nil (filter p (map f (take i names)))))) h
 
 -- After a fault there are no such lines.
 pub unnamed_none : (faults : ℕ) (names : List (List ℕ)) → 0 < faults → unnamed_lines faults names ≡ []
@@ -106,6 +125,6 @@ ends_quiet args counts faults hidden others unsearched r quiet = rw quiet (recor
 -- Other runs end with the lines.
 pub ends_told : (args : Arguments) (counts : Counts) (faults hidden : ℕ) (others : List (List ℕ)) (unsearched : ℕ) {a b : ReportState} → args.quiet ≡ false →
     Says a b (summary args.task args.list_hidden counts.changed counts.unchanged faults hidden ++ removed_line counts.edits.lines ++ edited_line args.plan.prunes counts.edits.conditions ++
-    remaining_line args.list_remaining a.remaining.count ++ defined_line args.list_remaining a.remaining.defined ++ unnamed_lines faults a.unnamed ++ others_line others ++ unsearched_line unsearched) →
+    remaining_line args.list_remaining a.remaining.count ++ defined_line args.list_remaining a.remaining.defined ++ unnamed_lines faults (still_unnamed args a.unnamed) ++ others_line others ++ unsearched_line unsearched) →
     TellsEnd args counts faults hidden others unsearched a b
 ends_told args counts faults hidden others unsearched {a = a} {b = b} loud h = rw loud (record { told = (h.cleared, h.sent); alone = λ e. subst (λ (s : Stream). Sends s b.err _) (h.unshown e) h.sent })

@@ -4,25 +4,29 @@
 --   listing_of args   whether these mentions are counted, listed or explained
 --   mode_of args      the mode in which the lines of an output are read
 --   is_searched args  they are listed or counted
+--   is_sought args name   the run looks for this name of a symbol
 --   AddsMentions args name output old new   those of an output were counted, and listed
 --   Finds args name output old new   those of an output were added to a report
 --   list_of table listing args outputs   the list of them in some outputs
 --   count_of table args outputs   how many conditions there are in some outputs
 --   defined_of table args outputs   how many lines that define a symbol
 --   has_condition table args text name   a condition of the text names the symbol `name`
---   unnamed_in table args texts names   those of the names that no condition of the texts has
+--   is_named_in table args texts name   so does a condition of some text
+--   unnamed_in table args texts   the names that are sought and that no condition has
 --   AddsOutputs table args outputs old new   those of some outputs were counted, and listed
 --   FindsAll args texts outputs old new   those of some files were added to a report
 --
 -- The texts are those that were read, the outputs those for them.
 --
 -- Example: under `-r` and `-p` there is a line for each condition, with the reason why it stays.
-use Rattle.std.specs.Prelude.{◌≡◌, ℕ, ◌+◌, ◌<◌, ◌^◌, List, ◌++◌, sum_by, filter}
+use Rattle.std.specs.Prelude.{◌≡◌, ℕ, ◌+◌, ◌<◌, ◌^◌, List, ◌++◌, sum_by, filter, map}
 use Rattle.std.specs.List.{flat_map, list_any}
 use Rattle.std.specs.Prelude.{Bool, true, false, not, ◌&&◌, ◌||◌, if◌then◌else◌}
+use Rattle.ud_model.specs.conditions.Conditions.{is_listed}
 use Rattle.ud_model.specs.conditions.Table.{Argument}
 use Rattle.ud_model.specs.sections.Items.{mode_by}
 use Rattle.ud_model.specs.declared.kind.Mode.{Mode}
+use Rattle.ud_cond.specs.symbols.Marks.{Unmarks}
 use Rattle.ud_cond.specs.symbols.SymbolTable.{TableRepresents}
 use Rattle.ud_cond.specs.declared.conditions.Rules.{Rules}
 use Rattle.ud_passes.specs.declared.remaining.listing.Listing.{Listing}
@@ -56,6 +60,10 @@ mode_of args = mode_by args.plan.run.settings.plain
 -- `is_searched args`: some option names a symbol, and its mentions are listed or counted.
 abbrev pub is_searched : Arguments → Bool
 is_searched args = args.has_symbols && (args.list_remaining || not args.quiet)
+
+-- `is_sought args name`: the run looks for this name of a symbol, since it isn't quiet.
+abbrev pub is_sought : Arguments → List ℕ → Bool
+is_sought args name = not args.quiet && is_listed args.plan.run.symbols name
 
 -- `AddsMentions args name output old new`: the mentions in the output for the file `name` were
 -- counted, and listed.
@@ -95,10 +103,14 @@ module _ (table : List Argument) where
   abbrev pub has_condition : Arguments → List ℕ → List ℕ → Bool
   has_condition args text name = is_named table (mode_of args) text name
 
-  -- `unnamed_in args texts names`: those of the names that no condition of the texts has.
-  abbrev pub unnamed_in : Arguments → List (List ℕ) → List (List ℕ) → List (List ℕ)
-  unnamed_in args texts names =
-      filter (λ n. not (list_any (λ t. has_condition args t n) texts)) names
+  -- `is_named_in args texts name`: so does a condition of some text.
+  abbrev pub is_named_in : Arguments → List (List ℕ) → List ℕ → Bool
+  is_named_in args texts name = list_any (λ t. has_condition args t name) texts
+
+  -- `unnamed_in args texts`: the names that are sought and that no condition of the texts has.
+  abbrev pub unnamed_in : Arguments → List (List ℕ) → List (List ℕ)
+  unnamed_in args texts = filter (λ n. is_sought args n && not (is_named_in args texts n))
+      (map (λ n. n.items) args.names.items)
 
 -- `AddsOutputs table args outputs old new`: what the outputs say of a listed symbol was listed.
 -- Conditions and definitions were counted, unless their count is at its limit.
@@ -112,8 +124,8 @@ pub record AddsOutputs (table : List Argument) (args : Arguments) (outputs : Lis
   pub listing_is : new.listing ≡ old.listing
 
 -- `FindsAll args texts outputs old new`: the mentions in the outputs were added to the report, if
--- they are wanted. The names that a condition of the texts has were removed from those that the
--- report looks for. If memory ran out, the report records that.
+-- they are wanted. The rows whose names a condition of the texts has lost their marks, and no other
+-- row. If memory ran out, the report records that.
 pub record FindsAll (args : Arguments) (texts : List (List ℕ)) (outputs : List Output)
     (old new : ReportState) : Type 0 where
   pub kept : old.has_lost ≡ true → new.has_lost ≡ true
@@ -123,4 +135,4 @@ pub record FindsAll (args : Arguments) (texts : List (List ℕ)) (outputs : List
   pub same : is_searched args ≡ false → new.remaining ≡ old.remaining
   pub unnamed : new.has_lost ≡ false → (calls : List Argument) →
       TableRepresents args.plan.run.symbols calls →
-      new.unnamed ≡ unnamed_in calls args texts old.unnamed
+      Unmarks args.plan.run.symbols (is_named_in calls args texts) old.unnamed new.unnamed

@@ -20,15 +20,15 @@ use Rattle.ud_passes.specs.declared.remaining.listing.Listing.{Listing}
 use Rattle.ud_passes.specs.remaining.RemainingLists.{RemainingState}
 
 -- `ReportState`: the error stream, whether it is a terminal, whether that shows the number of
--- files, the number of faults, the mentions in outputs, the names that no condition has so far, and
--- whether memory ran out for some of these, or for a diff.
+-- files, the number of faults, the mentions in outputs, the marks of the rows whose names no
+-- condition has so far, and whether memory ran out for some of these, or for a diff.
 pub record ReportState : Type 0 where
   pub err : Stream
   pub is_terminal : Bool
   pub is_shown : Bool
   pub faulty : ℕ
   pub remaining : RemainingState
-  pub unnamed : List (List ℕ)
+  pub unnamed : List Bool
   pub has_lost : Bool
 
 -- `new_report is_terminal listing err`: a report without messages, whose error stream is `err`.
@@ -58,8 +58,8 @@ pub record KeepsScreen (old new : ReportState) : Type 0 where
   pub terminal : new.is_terminal ≡ old.is_terminal
   pub shown : new.is_shown ≡ old.is_shown
 
--- `KeepsFinds old new`: the conditions that still name a symbol stay, and so do the names that no
--- condition has, and whether memory ran out for some.
+-- `KeepsFinds old new`: the conditions that still name a symbol stay, and so do the marks of the
+-- names that no condition has, and whether memory ran out for some.
 pub record KeepsFinds (old new : ReportState) : Type 0 where
   pub remaining : new.remaining ≡ old.remaining
   pub unnamed : new.unnamed ≡ old.unnamed

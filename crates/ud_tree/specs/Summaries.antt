@@ -10,6 +10,7 @@
 --   defined_line listed count   how many lines define a symbol
 --   removed_line count        how many lines were removed
 --   edited_line prunes count   how many conditions were edited
+--   still_unnamed args marks  the names whose rows are marked
 --   unnamed_line name         no condition names this symbol
 --   unnamed_lines faults names   no condition names these, if every file was read
 --   others_line names         how many files of other names name a symbol
@@ -19,8 +20,9 @@
 --   TellsEnd args counts faults hidden others unsearched old new   they were written last
 --   EndsWith s bytes          the last bytes that were written to `s`
 use Rattle.std.specs.Prelude.{◌≡◌, ℕ, List, [], ◌∷◌, ◌++◌, Bool, false, not, ◌&&◌, ◌||◌, ◌==◌}
-use Rattle.std.specs.Prelude.{if◌then◌else◌, codes, decimal, length}
+use Rattle.std.specs.Prelude.{if◌then◌else◌, codes, decimal, length, map, filter}
 use Rattle.std.specs.List.{flat_map}
+use Rattle.ud_cond.specs.symbols.Marks.{is_marked}
 use Rattle.ud_tree.specs.declared.arguments.Task.{Task}
 use Rattle.ud_tree.specs.declared.arguments.Task.TheVariants.{Replace, Diff, Names}
 use Rattle.ud_tree.specs.declared.arguments.Arguments.{Arguments}
@@ -112,6 +114,11 @@ edited_text count = plural count (codes " condition edited") (codes " conditions
 abbrev pub edited_line : Bool → ℕ → List ℕ
 edited_line prunes count = if prunes then line_of (decimal count ++ edited_text count) else []
 
+-- `still_unnamed args marks`: the names of the symbols whose rows are marked.
+abbrev pub still_unnamed : Arguments → List Bool → List (List ℕ)
+still_unnamed args marks =
+    filter (is_marked args.plan.run.symbols marks) (map (λ n. n.items) args.names.items)
+
 -- `unnamed_line name`: the line of a symbol that no condition names.
 abbrev pub unnamed_line : List ℕ → List ℕ
 unnamed_line name = line_of (codes "no condition names " ++ name)
@@ -163,12 +170,13 @@ last_lines args changed unchanged faults hidden edits remaining defined unnamed 
     unnamed_lines faults unnamed ++ others_line others ++ unsearched_line unsearched
 
 -- `TellsEnd args counts faults hidden others unsearched old new`: the last lines were written, with
--- these numbers and files, those of conditions and definitions, and the names that the report has.
--- Nothing else was, unless a terminal showed the number of files.
+-- these numbers and files, those of conditions and definitions, and the names that the report has
+-- marked. Nothing else was, unless a terminal showed the number of files.
 pub record TellsEnd (args : Arguments) (counts : Counts) (faults hidden : ℕ)
     (others : List (List ℕ)) (unsearched : ℕ) (old new : ReportState) : Type 0 where
   pub told : EndsWith new.err (last_lines args counts.changed counts.unchanged faults hidden
-      counts.edits old.remaining.count old.remaining.defined old.unnamed others unsearched)
+      counts.edits old.remaining.count old.remaining.defined
+      (still_unnamed args old.unnamed) others unsearched)
   pub alone : old.is_shown ≡ false → Sends old.err new.err (last_lines args counts.changed
       counts.unchanged faults hidden counts.edits old.remaining.count old.remaining.defined
-      old.unnamed others unsearched)
+      (still_unnamed args old.unnamed) others unsearched)

@@ -47,7 +47,6 @@ use Rattle.ud_passes.specs.declared.names.Names.{Names as NameLists}
 use Rattle.ud_passes.specs.names.NameTables.{names_in, Tabulates}
 use Rattle.ud_tree.specs.Remainders.{is_searched, listing_of, count_of}
 use Rattle.ud_tree.specs.Remainders.{defined_of, list_of, unnamed_in}
-use Rattle.ud_tree.specs.Unnamed.{sought}
 use Rattle.ud_tree.specs.Runs.{FileResult, Unshown, EachFile, shown_of, told_of, listed_of}
 use Rattle.ud_tree.specs.Runs.{lost_in, outputs_of, texts_of, nothing_listed}
 use Rattle.ud_tree.specs.Runs.{changed_in, same_in, faulty_in, edited_in, removed_in, names_of}
@@ -198,7 +197,7 @@ pub record Totals (args : Arguments) (results : List FileResult) (is_lost : Bool
   pub none_defined : is_searched args ≡ false → tally.defined ≡ 0
   pub unnamed : is_lost ≡ false → (calls : List Argument) →
       TableRepresents args.plan.run.symbols calls →
-      tally.unnamed ≡ unnamed_in calls args (texts_of results) (sought args)
+      tally.unnamed ≡ unnamed_in calls args (texts_of results)
 
 -- `HasStatus args in_walk results is_lost faults ending`: there is one fault for each fault of the
 -- walk, each message about the output and each faulty file, if a machine can count these, and at

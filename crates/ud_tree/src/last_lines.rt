@@ -9,7 +9,8 @@ ghost use Rattle.ud_tree.specs.Summaries.{TellsEnd, changes_line, summary};
 ghost use Rattle.ud_tree.specs.Summaries.{edited_line, hidden_text, plural, remaining_line};
 ghost use Rattle.ud_tree.specs.Runs.{names_of};
 ghost use Rattle.ud_tree.specs.Summaries.{removed_line, defined_line, defined_text, line_of};
-ghost use Rattle.ud_tree.specs.Summaries.{others_line, unnamed_lines, unsearched_line};
+ghost use Rattle.ud_tree.specs.Summaries.{others_line, still_unnamed, unnamed_lines};
+ghost use Rattle.ud_tree.specs.Summaries.{unsearched_line};
 
 use crate::arguments::{Arguments, Task};
 use crate::counts::Counts;
@@ -44,7 +45,7 @@ pub(crate) fn report_end<E: Write>(
     report_edited(job.arguments.plan.prunes, report, counts.edits.conditions);
     report_remaining(job.arguments, report);
     report_defined(job.arguments, report);
-    report_unnamed(report, faults);
+    report_unnamed(job, report, faults);
     report_others(report, others.named.as_slice());
     report_unsearched(report, others.unsearched);
 }
@@ -231,14 +232,15 @@ fn defined_text(listed: bool, count: usize) -> &'static [u8]
 
 /// Writes a line for each symbol that no condition names, unless there are faults: a file that
 /// wasn't read may name it.
-fn report_unnamed<E: Write>(report: &mut Report<E>, faults: usize)
+fn report_unnamed<E: Write>(job: &Job<'_>, report: &mut Report<E>, faults: usize)
     ensures { report.old.is_shown ≡ false →
-        Says report.old report.new (unnamed_lines faults report.old.unnamed) }
+        Says report.old report.new (unnamed_lines faults
+        (still_unnamed job.now.arguments.now report.old.unnamed)) }
 {
     if faults > 0 {
         return;
     }
-    report.report_unnamed();
+    report.report_unnamed(job);
 }
 
 /// Writes how many files of other names name a symbol, if any, and the path of the first.

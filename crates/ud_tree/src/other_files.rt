@@ -84,10 +84,11 @@ fn names_symbol(job: &Job<'_>, text: &[u8]) -> Result<bool, AllocError>
         TableRepresents job.now.arguments.now.plan.run.symbols table →
         named ≡ names_symbol table text.now) }
 {
-    let mut remaining = Remaining::new(job.alloc, Listing::Texts);
+    let mut remaining = Remaining::new(job.alloc, Listing::Counted);
     let symbols = job.arguments.plan.run.symbols();
-    remaining.add(b"", without_mark(text), Mode::Plain, symbols)?;
-    Ok(!remaining.list().is_empty())
+    let mut none = Vec::new(job.alloc);
+    remaining.add(b"", without_mark(text), Mode::Plain, symbols, &mut none)?;
+    Ok(remaining.count() > 0)
 }
 
 /// Reads a file to search it. Returns what it is.

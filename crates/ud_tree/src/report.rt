@@ -5,7 +5,7 @@
 //! shown during the run, and removed before each message.
 
 ghost use Rattle.std.specs.Prelude.{◌≡◌, List, [], ◌++◌, true};
-ghost use Rattle.std.specs.Prelude.{codes, encode_utf8, if◌then◌else◌, OnOk};
+ghost use Rattle.std.specs.Prelude.{codes, encode_utf8, if◌then◌else◌};
 ghost use Rattle.std.specs.List.{flat_map};
 ghost use Rattle.unifdef.specs.RunMessages.{fault_message};
 ghost use Rattle.ud_replace.specs.Calls.{met};
@@ -14,7 +14,7 @@ ghost use Rattle.ud_tree.specs.ArgumentMessages.{in_its_place, mode_of, pattern_
 ghost use Rattle.ud_tree.specs.Messages.{IsFailureOf, IsTextMessage, fault_line, locked_line};
 ghost use Rattle.ud_tree.specs.Reports.{KeepsScreen, ReportsOf, ReportsOne, Says, Tells, TellsOf};
 ghost use Rattle.ud_tree.specs.Reports.{counted, new_report};
-ghost use Rattle.ud_tree.specs.Remainders.{listing_of, AddsMentions, Finds};
+ghost use Rattle.ud_tree.specs.Remainders.{listing_of, Finds};
 ghost use Rattle.ud_io.specs.Streams.{Sends, stream_of};
 ghost use Rattle.ud_tree.specs.Summaries.{line_of};
 ghost use Rattle.ud_tree.specs.WalkMessages.{IsRefusal};
@@ -29,7 +29,7 @@ use crate::patterns::after_sign;
 use crate::patterns::faults::{PatternFault, bare, sign_of};
 use crate::send::{send_visible, send_visible_parts};
 use itoa::Buffer;
-use std::alloc::{AllocError, Global};
+use std::alloc::Global;
 use std::io::{self, Write};
 use std::marker::Model;
 use ud_cond::Rules;
@@ -140,14 +140,14 @@ pub(crate) struct Report<E: Write> {
     faulty: usize,
     /// The mentions of symbols that outputs still have.
     remaining: Remaining,
-    /// The names that no condition has so far.
-    unnamed: Vec<Vec<u8>>,
+    /// For each row of the symbols, whether its name is sought: no condition has it so far. Or
+    /// nothing, if no name is sought.
+    unnamed: Vec<bool>,
     /// True if memory ran out for some of these, or for a diff.
     has_lost: bool,
 }
 
 impl<E: Write> Model for Report<E> {
-    ghost use Rattle.std.specs.Prelude.{map};
     ghost use Rattle.ud_io.specs.Streams.{stream_of};
     ghost use Rattle.ud_tree.specs.Reports.{ReportState};
 
@@ -159,7 +159,7 @@ impl<E: Write> Model for Report<E> {
       is_shown = r.is_shown;
       faulty = r.faulty;
       remaining = r.remaining;
-      unnamed = map (λ n. n.items) r.unnamed.items;
+      unnamed = r.unnamed.items;
       has_lost = r.has_lost;
     } };
 }
@@ -236,24 +236,12 @@ impl<E: Write> Report<E> {
         if !job.arguments.search_remaining() {
             return;
         }
-        if self.add(job, name, output).is_err() {
-            self.lose();
+        let (symbols, mode) = (job.arguments.plan.run.symbols(), job.mode());
+        let mut none = Vec::new(job.alloc);
+        match self.remaining.add(name, output, mode, symbols, &mut none) {
+            Ok(()) => {}
+            Err(_) => self.lose(),
         }
-    }
-
-    /// Adds what a file's output still says of a symbol.
-    ///
-    /// # Errors
-    /// Fails if memory runs out. Nothing is then added.
-    fn add(&mut self, job: &Job<'_>, name: &[u8], output: &[u8]) -> Result<(), AllocError>
-        ensures screen { KeepsScreen self.old self.new }
-        ensures lost { self.new.has_lost ≡ self.old.has_lost }
-        ensures unnamed { self.new.unnamed ≡ self.old.unnamed }
-        ensures added { OnOk result (AddsMentions job.now.arguments.now name.now output.now
-            self.old.remaining self.new.remaining) }
-    {
-        let symbols = job.arguments.plan.run.symbols();
-        self.remaining.add(name, output, job.mode(), symbols)
     }
 
     /// Records that memory ran out for something to be printed.

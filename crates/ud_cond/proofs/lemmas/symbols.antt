@@ -9,3 +9,4 @@ pub mod SortedLemmas
 pub mod FilterLemmas
 pub mod StableLemmas
 pub mod OccurrenceLemmas
+pub mod MarkLemmas

@@ -2,19 +2,20 @@
 --
 -- Example: if the table lists A, the list of `x.c` with the lines `int x;`, `#if A + X` and `#endif
 -- // A` has the line `x.c:2: #if A + X`, or with reasons `x.c:2: an operand is unknown: #if A + X`.
--- Then comes `x.c:3: a comment names it: #endif // A`. Its list of texts has the line ` A + X`.
+-- Then comes `x.c:3: a comment names it: #endif // A`.
 use Rattle.std.specs.Prelude.{◌≡◌, ℕ, ◌+◌, ◌<◌, ◌^◌, List, [], ◌∷◌, ◌++◌, length, Bool, true, false}
-use Rattle.std.specs.Prelude.{filter, not, ◌&&◌, bytes_eq}
+use Rattle.std.specs.Prelude.{filter, ◌&&◌, bytes_eq}
 use Rattle.std.specs.List.{flat_map, list_any}
 use Rattle.ud_model.specs.text.Bytes.{newline}
 use Rattle.ud_model.specs.conditions.Table.{Argument}
 use Rattle.ud_model.specs.declared.kind.Mode.{Mode}
+use Rattle.ud_cond.specs.symbols.Marks.{Unmarks}
 use Rattle.ud_passes.specs.Passes.{place_at}
 use Rattle.ud_passes.specs.remaining.Mentions.{Mention, mentions_of}
 use Rattle.ud_passes.specs.remaining.ListedNames.{has_word, names_listed}
 use Rattle.ud_passes.specs.remaining.Reasons.{reason_of, reason_text}
 use Rattle.ud_passes.specs.declared.remaining.listing.Listing.{Listing}
-use Rattle.ud_passes.specs.declared.remaining.listing.Listing.TheVariants.{Counted, Texts}
+use Rattle.ud_passes.specs.declared.remaining.listing.Listing.TheVariants.{Counted}
 use Rattle.ud_passes.specs.declared.remaining.mentions.Class.{Class}
 use Rattle.ud_passes.specs.declared.remaining.mentions.Class.TheVariants.{Condition, Definition}
 
@@ -28,21 +29,15 @@ abbrev pub is_defining : Class → Bool
 is_defining Definition = true
 is_defining class = false
 
--- `text_line class after`: the line with the text `after` of a mention of this class, if that is a
--- condition.
-abbrev pub text_line : Class → List ℕ → List ℕ
-text_line (Condition kind) after = after ++ newline ∷ []
-text_line class after = []
-
--- `has_name name m`: the mention `m` is a condition, and `name` is one of its words.
-abbrev pub has_name : List ℕ → Mention → Bool
-has_name name m = is_condition m.class && has_word (bytes_eq name) false m.after
+-- `has_name name class after`: a mention of this class is a condition, and `name` is a word of its
+-- text `after`.
+abbrev pub has_name : List ℕ → Class → List ℕ → Bool
+has_name name class after = is_condition class && has_word (bytes_eq name) false after
 
 module _ (table : List Argument) where
   -- `line_of listing name m`: the line for the mention `m` of the file `name`, if it is listed.
   abbrev pub line_of : Listing → List ℕ → Mention → List ℕ
   line_of Counted name m = []
-  line_of Texts name m = text_line m.class m.after
   line_of listing name m = place_at name m.number ++ reason_text (reason_of table listing m) ++
       m.body ++ newline ∷ []
 
@@ -62,16 +57,19 @@ module _ (table : List Argument) where
   abbrev pub remaining_count : Mode → List ℕ → ℕ
   remaining_count mode bytes = named_count (mentions_of table mode bytes)
 
-  -- `is_named mode bytes name`: a condition of the text that names a listed symbol has the word
+  -- `named_by ms name`: a condition among the mentions that names a listed symbol has the word
   -- `name`.
-  abbrev pub is_named : Mode → List ℕ → List ℕ → Bool
-  is_named mode bytes name =
-      list_any (has_name name) (filter (names_listed table) (mentions_of table mode bytes))
+  abbrev pub named_by : List Mention → List ℕ → Bool
+  named_by ms name = list_any (λ m. has_name name m.class m.after) (filter (names_listed table) ms)
 
-  -- `LeavesUnnamed mode bytes old new`: of the names `old`, those that no such condition has are
-  -- left.
-  abbrev pub LeavesUnnamed : Mode → List ℕ → List (List ℕ) → List (List ℕ) → Type 0
-  LeavesUnnamed mode bytes old new = new ≡ filter (λ n. not (is_named mode bytes n)) old
+  -- `is_named mode bytes name`: such a condition of the text has the word `name`.
+  abbrev pub is_named : Mode → List ℕ → List ℕ → Bool
+  is_named mode bytes name = named_by (mentions_of table mode bytes) name
+
+  -- `LeavesUnnamed mode bytes rows old new`: of the rows with the marks `old`, those whose name no
+  -- such condition has stay marked.
+  abbrev pub LeavesUnnamed : Mode → List ℕ → List Argument → List Bool → List Bool → Type 0
+  LeavesUnnamed mode bytes rows old new = Unmarks rows (is_named mode bytes) old new
 
 -- `defining_count ms`: the number of mentions that are definitions.
 abbrev pub defining_count : List Mention → ℕ
@@ -96,6 +94,7 @@ pub record AddsAll (table : List Argument) (mode : Mode) (name text : List ℕ)
   pub list_is : new.list ≡ old.list ++ remaining_text table old.listing mode name text
   pub count_is : old.count + remaining_count table mode text < 2 ^ 64 →
       new.count ≡ old.count + remaining_count table mode text
+  pub some : 0 < old.count + remaining_count table mode text → 0 < new.count
   pub defined_is : old.defined + defined_count table mode text < 2 ^ 64 →
       new.defined ≡ old.defined + defined_count table mode text
   pub listing_is : new.listing ≡ old.listing

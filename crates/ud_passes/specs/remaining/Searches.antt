@@ -10,13 +10,13 @@
 --   IsTaken table p r q goes_on  `q` is the mention after the line `r`
 --   MentionsNext table mode s ..    the line that the scanner `s` reads next was taken
 --   AppendsLine table ..         the line of a mention was appended
---   Appends table .. ms          the mentions among `ms` that name a listed symbol were counted
---                                and appended
---   EndsLine table ..            a line was taken, and its mention goes on or was appended
+--   Appends rows table .. ms     the mentions among `ms` that name a listed symbol were counted
+--                                and appended, and their rows lost their marks
+--   EndsLine rows table ..       a line was taken, and its mention goes on or was appended
 --   shown_number listing n       the number `n`, or 0 if the list shows no numbers
 --   as_listed listing r          the line `r` with its number so
---   Searched table ..            the text before a place was searched
---   SearchesOn table ..          the text before the next place was searched, too
+--   Searched rows table ..       the text before a place was searched
+--   SearchesOn rows table ..     the text before the next place was searched, too
 use Rattle.std.specs.Prelude.{◌≡◌, ℕ, ◌+◌, ◌-◌, ◌<◌, ◌^◌, List, [], ◌∷◌, ◌++◌, length, Bool, true}
 use Rattle.std.specs.Prelude.{false, Option, Some, None, map}
 use Rattle.ud_model.specs.text.Scans.{Reading}
@@ -28,16 +28,16 @@ use Rattle.ud_model.specs.declared.kind.Mode.{Mode}
 use Rattle.ud_model.specs.declared.line.Line.{Line as CodeLine}
 use Rattle.ud_model.specs.declared.scan.Scan.{Scan as CodeScan}
 use Rattle.ud_text.specs.scan.ScannerState.{ScannerState, ScannerRepresents}
+use Rattle.ud_cond.specs.symbols.Marks.{Unmarks}
 use Rattle.ud_passes.specs.Walks.{reading_at, Walked}
 use Rattle.ud_passes.specs.remaining.Definitions.{IsClear}
 use Rattle.ud_passes.specs.remaining.Mentions.{Mention, mention_by, mention_on, with_text}
 use Rattle.ud_passes.specs.remaining.Mentions.{shown_line, shown_of, joins_next, joined_text}
 use Rattle.ud_passes.specs.remaining.Mentions.{mentions_in}
-use Rattle.ud_passes.specs.remaining.RemainingLists.{line_of, lines_for, named_count}
-use Rattle.ud_passes.specs.remaining.RemainingLists.{defining_count, remaining_count}
-use Rattle.ud_passes.specs.remaining.RemainingLists.{defined_count}
+use Rattle.ud_passes.specs.remaining.RemainingLists.{line_of, lines_for, named_by, named_count}
+use Rattle.ud_passes.specs.remaining.RemainingLists.{defining_count}
 use Rattle.ud_passes.specs.declared.remaining.listing.Listing.{Listing}
-use Rattle.ud_passes.specs.declared.remaining.listing.Listing.TheVariants.{Counted, Texts}
+use Rattle.ud_passes.specs.declared.remaining.listing.Listing.TheVariants.{Counted}
 use Rattle.ud_passes.specs.declared.remaining.mentions.Begun.{Begun}
 use Rattle.ud_passes.specs.declared.remaining.search.Place.{Place}
 use Rattle.ud_passes.specs.declared.remaining.search.Search.{Search}
@@ -112,34 +112,28 @@ abbrev pub AppendsLine : List Argument → List ℕ → Begun → Search → Sea
 AppendsLine table name b old new = new.list.items ≡ old.list.items ++
     line_of table old.listing name (as_mention b old.after.items)
 
--- `Appends table name ms old new`: the mentions among `ms` of the file `name` that name a listed
--- symbol were appended. Conditions and definitions were counted, unless their count is at its
--- limit.
-pub record Appends (table : List Argument) (name : List ℕ) (ms : List Mention)
+-- `Appends rows table name ms old new`: the mentions among `ms` of the file `name` that name a
+-- listed symbol were appended. Conditions and definitions were counted, unless their count is at
+-- its limit. Of the rows that were marked, those that none of the conditions names are.
+pub record Appends (rows table : List Argument) (name : List ℕ) (ms : List Mention)
     (old new : Search) : Type 0 where
   pub list_is : new.list.items ≡ old.list.items ++ lines_for table old.listing name ms
   pub count_is : old.count + named_count table ms < 2 ^ 64 →
       new.count ≡ old.count + named_count table ms
+  pub some : 0 < old.count + named_count table ms → 0 < new.count
   pub defined_is : old.defined + defining_count ms < 2 ^ 64 →
       new.defined ≡ old.defined + defining_count ms
+  pub unnamed_are : Unmarks rows (named_by table ms) old.unnamed.items new.unnamed.items
   pub listing_is : new.listing ≡ old.listing
 
--- `Counts table mode bytes s`: the search has the numbers of conditions and definitions of a text,
--- unless they are over the limit.
-pub record Counts (table : List Argument) (mode : Mode) (bytes : List ℕ) (s : Search) : Type 0 where
-  pub count_is : remaining_count table mode bytes < 2 ^ 64 →
-      s.count ≡ remaining_count table mode bytes
-  pub defined_is : defined_count table mode bytes < 2 ^ 64 →
-      s.defined ≡ defined_count table mode bytes
-
--- `EndsLine table name b goes_on old new c`: a line with the mention `b` was taken. If it goes on,
--- `c` is this mention. Else the mention was appended, and `c` is none.
-abbrev pub EndsLine : List Argument → List ℕ → Option Begun → Bool → Search → Search →
-    Option Begun → Type 0
-EndsLine table name b true old new c = Appends table name [] old new ×
+-- `EndsLine rows table name b goes_on old new c`: a line with the mention `b` was taken. If it goes
+-- on, `c` is this mention. Else the mention was appended, and `c` is none.
+abbrev pub EndsLine : List Argument → List Argument → List ℕ → Option Begun → Bool → Search →
+    Search → Option Begun → Type 0
+EndsLine rows table name b true old new c = Appends rows table name [] old new ×
     (begun_as c new.after.items ≡ begun_as b old.after.items)
-EndsLine table name b false old new c =
-    Appends table name (ended (begun_as b old.after.items)) old new ×
+EndsLine rows table name b false old new c =
+    Appends rows table name (ended (begun_as b old.after.items)) old new ×
     (begun_as c new.after.items ≡ None)
 
 -- `IsClearTo table until t`: no `#` in the text `t`, except in its last `until` bytes, has a
@@ -150,7 +144,6 @@ IsClearTo table until t = IsClear table (length t - until) t
 -- `shown_number listing n`: the number `n`, or 0 if the list shows no numbers of lines.
 abbrev pub shown_number : Listing → ℕ → ℕ
 shown_number Counted n = 0
-shown_number Texts n = 0
 shown_number listing n = n
 
 -- `as_listed listing r`: the line `r` with this number.
@@ -158,10 +151,10 @@ abbrev pub as_listed : Listing → Reading → Reading
 as_listed listing r =
     record r { line = record r.line { number = shown_number listing r.line.number } }
 
--- `Searched table mode name text start now place walk`: the text before the walk's place was
+-- `Searched rows table mode name text start now place walk`: the text before the walk's place was
 -- searched. `start` is the search before it. The lines `seen` are those lines with the numbers that
 -- the search gave them, which may be wrong if the list shows none.
-pub record Searched (table : List Argument) (mode : Mode) (name text : List ℕ)
+pub record Searched (rows table : List Argument) (mode : Mode) (name text : List ℕ)
     (start now : Search) (place : Place) (walk : Walk) : Type 0 where
   pub read : List Reading
   pub walked : Walked mode text read walk.rest.now walk.scanner
@@ -173,12 +166,12 @@ pub record Searched (table : List Argument) (mode : Mode) (name text : List ℕ)
   pub found : List Mention
   pub parts : (rs : List Reading) → mentions_in table false (seen ++ rs) ≡
       found ++ rest_from table (begun_as place.begun now.after.items) true rs
-  pub appends : Appends table name found start now
+  pub appends : Appends rows table name found start now
 
--- `SearchesOn table mode name old place walk new next later`: if the text before the place of
+-- `SearchesOn rows table mode name old place walk new next later`: if the text before the place of
 -- `walk` was searched, then also the text before the place of `later`.
-abbrev pub SearchesOn : List Argument → Mode → List ℕ → Search → Place → Walk → Search → Place →
-    Walk → Type 0
-SearchesOn table mode name old place walk new next later = (text : List ℕ) (start : Search) →
-    Searched table mode name text start old place walk →
-    Searched table mode name text start new next later
+abbrev pub SearchesOn : List Argument → List Argument → Mode → List ℕ → Search → Place → Walk →
+    Search → Place → Walk → Type 0
+SearchesOn rows table mode name old place walk new next later = (text : List ℕ) (start : Search) →
+    Searched rows table mode name text start old place walk →
+    Searched rows table mode name text start new next later

@@ -3,10 +3,8 @@
 ghost use Rattle.std.specs.Prelude.{◌≡◌, ◌∷◌, [], ◌++◌, OnOk};
 ghost use Rattle.ud_passes.specs.Passes.{AppendsSome, place_at};
 ghost use Rattle.ud_passes.specs.remaining.Reasons.{reason_text};
-ghost use Rattle.ud_passes.specs.remaining.RemainingLists.{text_line};
 
 use crate::lines::{append_body, append_place};
-use crate::remaining::mentions::Class;
 use crate::remaining::reasons::Reason;
 use std::alloc::AllocError;
 
@@ -31,18 +29,4 @@ pub(crate) fn append_reason(
         list.extend_from_slice(b": ")?;
     }
     append_body(list, body)
-}
-
-/// Appends the text of a mention as a line, if that is a condition.
-///
-/// # Errors
-/// Fails if memory runs out.
-pub(crate) fn append_text(list: &mut Vec<u8>, class: Class, after: &[u8]) -> Result<(), AllocError>
-    ensures grows { AppendsSome list.old.items list.new.items }
-    ensures items { OnOk result (list.new.items ≡ list.old.items ++ text_line class after.now) }
-{
-    match class {
-        Class::Condition(_) => append_body(list, after),
-        Class::Definition | Class::Closing => Ok(()),
-    }
 }

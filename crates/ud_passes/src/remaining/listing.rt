@@ -14,8 +14,6 @@ pub enum Listing {
     Counted,
     /// These numbers, and a line for each mention.
     Listed,
-    /// These numbers, and the text of each condition in place of its line.
-    Texts,
     /// These numbers and lines, with the reason why each condition stays under these rules.
     Explained(Rules),
 }
@@ -28,7 +26,7 @@ impl Listing {
             shown_number self (length (whole_lines bytes.now)) }
     {
         match self {
-            Listing::Counted | Listing::Texts => 0,
+            Listing::Counted => 0,
             Listing::Listed | Listing::Explained(_) => count_lines(bytes),
         }
     }

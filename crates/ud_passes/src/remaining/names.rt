@@ -6,6 +6,7 @@ ghost use Rattle.ud_model.specs.conditions.Conditions.{is_listed};
 ghost use Rattle.ud_model.specs.conditions.Names.{names_of};
 ghost use Rattle.ud_model.specs.conditions.Table.{Argument};
 ghost use Rattle.ud_model.specs.declared.limits.TheConstants.{LINE_BYTES};
+ghost use Rattle.ud_cond.specs.symbols.Marks.{Unmarks};
 ghost use Rattle.ud_cond.specs.symbols.SymbolTable.{TableRepresents, LacksNames, MustSearch};
 ghost use Rattle.ud_passes.specs.remaining.ListedNames.{has_listed, has_word, ends_in_word};
 ghost use Rattle.ud_passes.specs.remaining.ListedNames.{begins_ending, splits_word};
@@ -43,23 +44,21 @@ pub(crate) fn has_listed(symbols: &Symbols, text: &[u8]) -> bool
     false
 }
 
-/// Returns whether a word of a text is this name.
-pub(crate) fn has_word(name: &[u8], text: &[u8]) -> bool
-    ensures { result ≡ has_word (bytes_eq name.now) false text.now }
+/// Takes away the marks of the rows whose names are words of a text.
+pub(crate) fn unmark_words(symbols: &Symbols, text: &[u8], marks: &mut Vec<bool>)
+    ensures { Unmarks symbols.now (λ n. has_word (bytes_eq n) false text.now) marks.old.items
+        marks.new.items }
 {
     let mut rest = text;
     while let Some((first, others)) = rest.split_first() {
         if is_word_byte(*first) {
             let (word, after) = rest.split_at(word_len(rest));
-            if name == word {
-                return true;
-            }
+            symbols.unmark(word, marks);
             rest = after;
         } else {
             rest = others;
         }
     }
-    false
 }
 
 /// Returns whether a word may go on over a backslash between these bytes: it ends a line, and a

@@ -161,7 +161,7 @@ pub(crate) fn reason_of(
         Class::Closing => Some(Reason::InComment),
         Class::Condition(kind) => match listing {
             Listing::Explained(rules) => Some(why_stays(kind, begun, after, symbols, rules)),
-            Listing::Counted | Listing::Texts | Listing::Listed => None,
+            Listing::Counted | Listing::Listed => None,
         },
     }
 }

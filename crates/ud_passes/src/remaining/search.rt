@@ -9,19 +9,20 @@ ghost use Rattle.ud_model.specs.aids.LineViews.{as_line};
 ghost use Rattle.ud_model.specs.declared.limits.TheConstants.{LINE_BYTES};
 ghost use Rattle.ud_model.specs.conditions.Table.{Argument};
 ghost use Rattle.ud_text.specs.scan.ScannerState.{ScannerRepresents};
+ghost use Rattle.ud_cond.specs.symbols.Marks.{Unmarks};
 ghost use Rattle.ud_cond.specs.symbols.SymbolTable.{TableRepresents};
 ghost use Rattle.ud_passes.specs.Passes.{AppendsSome};
 ghost use Rattle.ud_passes.specs.remaining.ListedNames.{names_by};
-ghost use Rattle.ud_passes.specs.remaining.RemainingLists.{is_condition, is_defining};
+ghost use Rattle.ud_passes.specs.remaining.RemainingLists.{has_name, is_condition, is_defining};
 ghost use Rattle.ud_passes.specs.remaining.Searches.{begun_as, MentionsNext, ended, EndsLine};
 ghost use Rattle.ud_passes.specs.remaining.Searches.{Appends, AppendsLine, SearchesOn, IsClearTo};
 ghost use Rattle.ud_passes.specs.remaining.Mentions.{mentions_of};
 
 use crate::remaining::definitions::clear_len;
-use crate::remaining::lines::{append_reason, append_text};
+use crate::remaining::lines::append_reason;
 use crate::remaining::listing::Listing;
 use crate::remaining::mentions::{Begun, Class, take_line};
-use crate::remaining::names::{has_listed, may_name};
+use crate::remaining::names::{has_listed, may_name, unmark_words};
 use crate::remaining::reasons::reason_of;
 use crate::walk::{LineScanner, Stretch, Walk};
 use std::alloc::{AllocError, Global};
@@ -38,6 +39,9 @@ pub(crate) struct Search {
     pub(crate) defined: usize,
     /// A line for each mention: the file, the line's number, and its text.
     pub(crate) list: Vec<u8>,
+    /// For each row of the symbols, whether its name is sought: no condition has it so far. Or
+    /// nothing, if no name is sought.
+    pub(crate) unnamed: Vec<bool>,
     /// The text of the current mention, joined lines included.
     after: Vec<u8>,
 }
@@ -132,6 +136,7 @@ impl Search {
         ensures none { result.count ≡ 0 }
         ensures undefined { result.defined ≡ 0 }
         ensures empty { result.list.items ≡ [] }
+        ensures unsought { result.unnamed.items ≡ [] }
         ensures listing { result.listing ≡ listing }
     {
         Search {
@@ -139,6 +144,7 @@ impl Search {
             count: 0,
             defined: 0,
             list: Vec::new(alloc),
+            unnamed: Vec::new(alloc),
             after: Vec::new(alloc),
         }
     }
@@ -149,7 +155,10 @@ impl Search {
             self.new.count ≡ self.old.count + (if is_condition class then 1 else 0) }
         ensures defined { self.old.defined + (if is_defining class then 1 else 0) < 2 ^ 64 →
             self.new.defined ≡ self.old.defined + (if is_defining class then 1 else 0) }
+        ensures some { 0 < self.old.count + (if is_condition class then 1 else 0) →
+            0 < self.new.count }
         ensures list { self.new.list ≡ self.old.list }
+        ensures unnamed { self.new.unnamed ≡ self.old.unnamed }
         ensures after { self.new.after ≡ self.old.after }
         ensures listing { self.new.listing ≡ self.old.listing }
     {
@@ -157,6 +166,24 @@ impl Search {
             Class::Condition(_) => self.count = self.count.saturating_add(1),
             Class::Definition => self.defined = self.defined.saturating_add(1),
             Class::Closing => {}
+        }
+    }
+
+    /// Takes away the marks of the rows whose names a mention has, if that is a condition.
+    fn unmark(&mut self, class: Class, symbols: &Symbols)
+        ensures unnamed { Unmarks symbols.now (λ n. has_name n class self.old.after.items)
+            self.old.unnamed.items self.new.unnamed.items }
+        ensures count { self.new.count ≡ self.old.count }
+        ensures defined { self.new.defined ≡ self.old.defined }
+        ensures list { self.new.list ≡ self.old.list }
+        ensures after { self.new.after ≡ self.old.after }
+        ensures listing { self.new.listing ≡ self.old.listing }
+    {
+        match class {
+            Class::Condition(_) => {
+                unmark_words(symbols, self.after.as_slice(), &mut self.unnamed);
+            }
+            Class::Definition | Class::Closing => {}
         }
     }
 
@@ -168,6 +195,7 @@ impl Search {
         ensures grows { AppendsSome self.old.list.items self.new.list.items }
         ensures count { self.new.count ≡ self.old.count }
         ensures defined { self.new.defined ≡ self.old.defined }
+        ensures unnamed { self.new.unnamed ≡ self.old.unnamed }
         ensures listing { self.new.listing ≡ self.old.listing }
         ensures line { OnOk result ((calls : List Argument) →
             TableRepresents symbols.now calls →
@@ -176,7 +204,6 @@ impl Search {
         let after = self.after.as_slice();
         match self.listing {
             Listing::Counted => Ok(()),
-            Listing::Texts => append_text(&mut self.list, begun.class, after),
             Listing::Listed | Listing::Explained(_) => {
                 let reason = reason_of(&begun, after, symbols, self.listing);
                 append_reason(&mut self.list, name, begun.number, reason, begun.body)
@@ -184,7 +211,8 @@ impl Search {
         }
     }
 
-    /// Ends a mention: counts it and appends its line if it names a symbol.
+    /// Ends a mention: counts it, takes away the marks of its names, and appends its line, if it
+    /// names a symbol.
     ///
     /// # Errors
     /// Fails if memory runs out.
@@ -197,7 +225,7 @@ impl Search {
         ensures grows { AppendsSome self.old.list.items self.new.list.items }
         ensures listing { self.new.listing ≡ self.old.listing }
         ensures appends { OnOk result ((calls : List Argument) →
-            TableRepresents symbols.now calls → Appends calls name.now
+            TableRepresents symbols.now calls → Appends symbols.now calls name.now
             (ended (begun_as begun.entry self.old.after.items)) self.old self.new) }
     {
         let Some(begun) = begun else {
@@ -207,6 +235,7 @@ impl Search {
             return Ok(());
         }
         self.tally(begun.class);
+        self.unmark(begun.class, symbols);
         self.append(name, symbols, begun)
     }
 
@@ -228,7 +257,7 @@ impl Search {
         ensures number { IfOk result (λ p. p.number ≡ place.entry.number + 1) }
         ensures until { IfOk result (λ p. p.until ≡ place.entry.until) }
         ensures ended { IfOk result (λ p. (calls : List Argument) →
-            TableRepresents symbols.now calls → EndsLine calls name.now taken.entry.begun
+            TableRepresents symbols.now calls → EndsLine symbols.now calls name.now taken.entry.begun
             taken.entry.goes_on self.old self.new p.begun) }
     {
         let number = place.number + 1;
@@ -267,7 +296,7 @@ impl Search {
         ensures room { IfOk result (λ p. p.number + length walk.new.rest.now ≤
             place.entry.number + length walk.old.rest.now) }
         ensures searched { IfOk result (λ p. (calls : List Argument) →
-            TableRepresents symbols.now calls → SearchesOn calls mode name.now
+            TableRepresents symbols.now calls → SearchesOn symbols.now calls mode name.now
             self.old place.entry walk.old self.new p walk.new) }
     {
         let until = clear_until(symbols, walk, place.until);
@@ -313,7 +342,7 @@ impl Search {
         ensures grows { AppendsSome self.old.list.items self.new.list.items }
         ensures listing { self.new.listing ≡ self.old.listing }
         ensures added { OnOk result ((calls : List Argument) → TableRepresents symbols.now calls →
-            Appends calls name.now (mentions_of calls mode text.now) self.old self.new) }
+            Appends symbols.now calls name.now (mentions_of calls mode text.now) self.old self.new) }
     {
         if !may_name(symbols, text) {
             return Ok(());

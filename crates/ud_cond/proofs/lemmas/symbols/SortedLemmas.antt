@@ -34,7 +34,7 @@ name_ties m n e =
     (bytes_eq-Decides m n).0 (sym (is_eq-slice_cmp m n) ∙ ap is_eq tied)
 
 -- names of which one comes before the other differ
-apart : (m n : List ℕ) (o : Ordering) → name_cmp m n ≡ o → is_eq o ≡ false → bytes_eq m n ≡ false
+pub apart : (m n : List ℕ) (o : Ordering) → name_cmp m n ≡ o → is_eq o ≡ false → bytes_eq m n ≡ false
 apart m n o e f = grind (arith, bytes_eq-Decides, tied_itself, name_total)
 
 -- the comparison the other way round

@@ -11,7 +11,7 @@ invariant-loop-mode l = record {
   grows : AppendsSome l.fn.self.list.items l.self.list.items;
   listing : l.self.listing ≡ l.fn.self.listing;
   room : l.place.number + length l.walk.rest.now ≤ 1 + length l.text;
-  searched : (calls : List Argument) → TableRepresents l.symbols calls → Searched calls l.mode l.name l.text l.fn.self l.self l.place l.walk;
+  searched : (calls : List Argument) → TableRepresents l.symbols calls → Searched l.symbols calls l.mode l.name l.text l.fn.self l.self l.place l.walk;
 }
 
 abbrev pub decreases-loop-mode : goal.decreases-loop-mode
