@@ -137,15 +137,16 @@ test_scale_diffs() {
   done <<< $'100000 1 1\n20000 45 20000'
 }
 
-# 1,000 symbols that none of 40,000 conditions names: each has a line of its own.
+# 20,000 symbols that none of 40,000 conditions names, beside one that each names: each of them has a
+# line of its own.
 test_scale_symbols() {
   local options
   fresh
-  seq -f '#if defined(S%.0f) || X' 2000 | sed 's/$/\nx\n#endif/' | tee src/{1..20}.c > /dev/null
-  mapfile -t options < <(seq -f '-DN%.0f' 1000)
-  under 0 timeout 30 -- -n "${options[@]}" src
+  yes '#if defined(S) || X' | head -n 2000 | sed 's/$/\nx\n#endif/' | tee src/{1..20}.c > /dev/null
+  mapfile -t options < <(seq -f '-DN%.0f' 20000)
+  under 0 timeout 30 -- -n -K -DS "${options[@]}" src
   says_first '0 would change, 20 unchanged, 0 faulty'
-  holds_that diff <(tail -n +2 "$work/err") <(seq -f 'unifdef-tree: no condition names N%.0f' 1000)
+  holds_that diff <(tail -n +3 "$work/err") <(seq -f 'unifdef-tree: no condition names N%.0f' 20000)
 }
 
 # An image of a disk and a text, of 400 MiB each, beside a source: -r reads neither into memory.
