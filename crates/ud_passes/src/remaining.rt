@@ -16,6 +16,7 @@ ghost use Rattle.ud_model.specs.conditions.Table.{Argument};
 ghost use Rattle.ud_cond.specs.symbols.SymbolTable.{TableRepresents};
 ghost use Rattle.ud_passes.specs.remaining.RemainingLists.{AddsAll, LeavesUnnamed};
 
+use names::drop_unset;
 use search::Search;
 use std::alloc::{AllocError, Global};
 use std::marker::Model;
@@ -114,6 +115,7 @@ impl Remaining {
         mem::swap(&mut search.unnamed, unnamed);
         let result = search.search(name, text, mode, symbols);
         mem::swap(&mut search.unnamed, unnamed);
+        drop_unset(unnamed);
         if result.is_err() {
             search.count = count;
             search.defined = defined;

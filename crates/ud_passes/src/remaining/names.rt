@@ -6,7 +6,7 @@ ghost use Rattle.ud_model.specs.conditions.Conditions.{is_listed};
 ghost use Rattle.ud_model.specs.conditions.Names.{names_of};
 ghost use Rattle.ud_model.specs.conditions.Table.{Argument};
 ghost use Rattle.ud_model.specs.declared.limits.TheConstants.{LINE_BYTES};
-ghost use Rattle.ud_cond.specs.symbols.Marks.{Unmarks};
+ghost use Rattle.ud_cond.specs.symbols.Marks.{Unmarks, is_marked};
 ghost use Rattle.ud_cond.specs.symbols.SymbolTable.{TableRepresents, LacksNames, MustSearch};
 ghost use Rattle.ud_passes.specs.remaining.ListedNames.{has_listed, has_word, ends_in_word};
 ghost use Rattle.ud_passes.specs.remaining.ListedNames.{begins_ending, splits_word};
@@ -42,6 +42,23 @@ pub(crate) fn has_listed(symbols: &Symbols, text: &[u8]) -> bool
         }
     }
     false
+}
+
+/// Returns whether a mark is set.
+fn has_mark(marks: &[bool]) -> bool
+    ensures { result ≡ list_any (λ m. m) marks.now }
+{
+    marks.iter().any(|mark| *mark)
+}
+
+/// Empties the marks if none is set, so that no later text is searched for a name.
+pub(crate) fn drop_unset(marks: &mut Vec<bool>)
+    ensures { (rows : List Argument) (name : List ℕ) →
+        is_marked rows marks.new.items name ≡ is_marked rows marks.old.items name }
+{
+    if !has_mark(marks.as_slice()) {
+        marks.clear();
+    }
 }
 
 /// Takes away the marks of the rows whose names are words of a text.
