@@ -167,6 +167,22 @@ options() {
   gives 1 $'\na' -dedb -DA in.c
   gives 1 $'#ifdef A\n#else\nb\n#endif' -cDA -I. in.c
   gives 0 "unifdef2 $version" -V -z
+  informs
+}
+
+# informs: the version and the usage, for which no program has to be there. A file may have the name
+# of a long option.
+informs() {
+  local option
+  UNIFDEF=none gives 0 "unifdef2 $version" --version -z
+  for option in -h --help; do
+    UNIFDEF=none run -DA "$option" -z
+    in_shell "$option" same "$status $(cat "$work/message"; head -n 1 "$work/out" | cut -c 1-15)" \
+      '0 usage: unifdef2'
+  done
+  cp in.c ./--help
+  gives 1 a -DA -- --help
+  rm ./--help
 }
 
 headers() {
@@ -346,6 +362,7 @@ without_proc() {
   fresh
   refuses 'unifdef2: a.c: Cannot be replaced without /proc' -m -DA a.c
   refuses 'unifdef2: new: Cannot be replaced without /proc' -o new -DA in.c
+  informs
 }
 
 # meanwhile COMMAND ACTION: makes a command that does an action before each call, as the owner of the
