@@ -186,7 +186,9 @@ def arguments() -> None:
     mode = "unifdef: Bad exit mode in word 1: '-x3'"
     refuses("a mode is named", unifdef.Trouble, lambda: unifdef.strip(b"", "-x3"), mode)
     both = "-DA -UB"
-    refuses("it is named", ValueError, lambda: unifdef.condition(b"A", both), repr(both), "unifdef")
+    kind = unifdef.Trouble
+    check("one `except` is for all wrong values", issubclass(kind, ValueError))
+    refuses("it is named", kind, lambda: unifdef.condition(b"A", both), repr(both), "unifdef")
 
 
 def wrong_types() -> None:

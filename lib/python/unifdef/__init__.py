@@ -74,7 +74,7 @@ class Answer(NamedTuple):
     status: int
 
 
-class Trouble(Exception):
+class Trouble(ValueError):
     """The arguments or the text have a fault. `answer` has the output for the text before it."""
 
     def __init__(self, answer: Answer, *arguments: Word) -> None:
@@ -270,13 +270,15 @@ def strip_chunks(chunks: Iterable[ReadableBuffer], *arguments: Word) -> Iterator
 def condition(expression: ReadableBuffer, *arguments: Word) -> Optional[bool]:
     """Returns whether the expression of an `#if` is true, or None if the arguments don't decide it.
 
+    Raises `Trouble` if the arguments have a fault.
+
     >>> condition(b"A && B", "-UA"), condition(b"A && B", "-DA")
     (False, None)
     """
     words, text = _words(arguments), _bytes(expression, "expression")
     found = library.unifdef_condition(words, len(words), text, len(text))
     if found == BAD_WORDS:
-        raise ValueError(str(Trouble(run(b"", *arguments), *arguments)))
+        raise Trouble(run(b"", *arguments), *arguments)
     if found < 0:
         raise _ERRORS[found](_REASONS[found])
     return {0: False, 1: True, 2: None}[found]
