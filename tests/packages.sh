@@ -99,6 +99,17 @@ else
   lacks git 'the tarball'
 fi
 
+# What is wrong if there is no tarball: no git, or no repository.
+mkdir -p "$work/no git" "$work/no repository"
+ln -s "$(type -P dirname)" "$work/no git"
+cp -R packaging "$work/no repository"
+check 'dist: without git' same "$(PATH="$work/no git" packaging/dist.sh 2>&1; echo $?)" \
+  $'dist: git is not there\n1'
+check_by git 'dist: without a repository' \
+  same "$("$work/no repository/packaging/dist.sh" 2>&1; echo $?)" \
+"dist: a tarball is made of a commit, and this directory is not under version control
+1"
+
 # The Debian packages.
 if lacks_none 'Debian packages' dpkg-deb objdump; then
   packages=({unifdef-tree,unifdef-proved}"_${version}_$(dpkg --print-architecture).deb")
