@@ -35,6 +35,8 @@ MODULE := $(addprefix lib/python/unifdef/,__init__.py __main__.py _library.py py
 PAGES := docs/PROVED.md
 
 .DELETE_ON_ERROR:
+# tools/prove.py uses all processors by itself. Under -j, two of them would need twice the memory.
+.NOTPARALLEL:
 # No file has the name of a target, but for the programs and what is in a directory.
 .PHONY: $(filter-out unifdef unifdef-tree,$(shell sed -n 's/^\([a-z-]*\):.*/\1/p' Makefile))
 
@@ -287,8 +289,12 @@ packages-test: unifdef unifdef-tree
 dist:
 	@packaging/dist.sh
 
+# What a release needs is checked before anything is proved.
+ready:
+	@packaging/release.sh --ready
+
 ## makes the directory release with all that its page needs
-release: unifdef unifdef-tree lib
+release: ready unifdef unifdef-tree lib
 	@$(TRIED) packaging/release.sh
 
 ## draws the pictures of README.md

@@ -1,11 +1,14 @@
 #!/usr/bin/env bash
 # Makes the directory release/ with everything that a release page needs, of the last commit: the
 # programs and the library for Linux on x86-64, the Debian packages, the source, what changed, and
-# the checksums. The same commit gives the same files, byte by byte.
+# the checksums. The same commit gives the same files, byte by byte. With --ready, only checks that
+# there can be a release.
 source "$(dirname "$0")/debian.sh"
 packaging/version.sh --released > /dev/null
-[ -z "$(git status --porcelain)" ] ||
+changes=$(git status --porcelain)
+[ -z "$changes" ] ||
   fail 'commit first: what is not committed would be in some of the files alone'
+[ "${1:-}" != --ready ] || exit 0
 name=unifdef-$version-linux-x86_64
 rm -rf release
 mkdir release

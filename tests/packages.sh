@@ -62,6 +62,14 @@ else
   skip 'a read-only directory, no /proc' 'nothing can be mounted here'
 fi
 
+# Under -j, one program is proved after the other.
+mkdir -p "$work/alone"/{crates,tools}
+cp Makefile HANDLES crates.txt "$work/alone"
+printf '#!/bin/sh\necho begins\nsleep 1\necho ends\n' > "$work/alone/tools/prove.py"
+chmod +x "$work/alone/tools/prove.py"
+check 'make -j8' same $'begins\nends\nbegins\nends' \
+  "$("$make" -s -k -j8 -C "$work/alone" unifdef unifdef-tree RT="$kit" 2> /dev/null)"
+
 # Installs before a released program on PATH.
 mkdir -p "$work/first/bin" "$work/second"
 printf '#!/bin/sh\necho "Version: unifdef-2.10" >&2\n' > "$work/second/unifdef"

@@ -26,9 +26,12 @@ make_elsewhere() { (umask 077 && TZ=Asia/Tokyo "$1/packaging/release.sh"); }
 
 check 'a clone' clone_to "$first" .
 check 'a version without a date' head_with 'not released yet'
+undated="version: $version isn't released yet"
+undated+=': its heading in CHANGELOG.md has no date, as (2026-12-01)'
 check 'a version without a date: release' same "$("$first/packaging/release.sh" 2>&1; echo $?)" \
-"version: $version isn't released yet: its heading in CHANGELOG.md has no date, as (2026-12-01)
-1"
+  "$undated"$'\n'1
+check 'a version without a date: nothing is proved' same "$undated" \
+  "$("$make" -s -j8 -C "$first" release RT=no-such-command 2>&1 | sed '/^make: \*\*\*/d')"
 check 'a version without a date: no directory' test ! -e "$first/release"
 check 'a date' head_with 2026-12-01
 check 'release' "$first/packaging/release.sh"
