@@ -108,7 +108,7 @@ install: unifdef unifdef-tree
 	ln -sfr "$(DESTDIR)$(BINDIR)/unifdef2" "$(DESTDIR)$(LIBDIR)/unifdef2/unifdef"
 	$(call into,644,$(MANDIR)/man1,docs/unifdef.1 docs/unifdef-tree.1 docs/unifdef2.1)
 	$(call into,644,$(DOCDIR),$(PAGES) LICENSE)
-	for name in unifdef unifdef-tree; do \
+	for name in unifdef unifdef-tree unifdef2; do \
 	  $(INSTALL) -Dm 644 $(COMPLETIONS)/unifdef.bash "$(DESTDIR)$(BASHDIR)/$$name" && \
 	  $(INSTALL) -Dm 644 $(COMPLETIONS)/_unifdef "$(DESTDIR)$(ZSHDIR)/_$$name" && \
 	  $(INSTALL) -Dm 644 $(COMPLETIONS)/unifdef.fish "$(DESTDIR)$(FISHDIR)/$$name.fish" || exit; \
@@ -128,9 +128,9 @@ uninstall:
 	$(call gone,$(LIBDIR)/unifdef2)
 	$(call rm,$(DOCDIR),$(notdir $(PAGES)) LICENSE)
 	$(call gone,$(DOCDIR))
-	$(call rm,$(BASHDIR),unifdef unifdef-tree)
-	$(call rm,$(ZSHDIR),_unifdef _unifdef-tree)
-	$(call rm,$(FISHDIR),unifdef.fish unifdef-tree.fish)
+	$(call rm,$(BASHDIR),unifdef unifdef-tree unifdef2)
+	$(call rm,$(ZSHDIR),_unifdef _unifdef-tree _unifdef2)
+	$(call rm,$(FISHDIR),unifdef.fish unifdef-tree.fish unifdef2.fish)
 
 # Only root, and only without DESTDIR, refreshes the list of the machine's libraries.
 REFRESH = [ -n "$(DESTDIR)" ] || [ "$$(id -u)" -ne 0 ] || [ ! -x "$(LDCONFIG)" ] || "$(LDCONFIG)"

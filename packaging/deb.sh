@@ -33,7 +33,8 @@ remove preprocessor conditionals from the files of a tree, proved
 END
 
 take_program unifdef-proved unifdef
-take unifdef-proved usr/bin/unifdef2 usr/share/man/man1/unifdef2.1.gz usr/lib/unifdef2/unifdef
+take_program unifdef-proved unifdef2
+take unifdef-proved usr/lib/unifdef2/unifdef
 build unifdef-proved "$architecture" devel "Depends: libc6 (>= $(newest unifdef))" \
   'Recommends: unifdef-tree' 'Conflicts: unifdef' 'Replaces: unifdef' << 'END'
 remove preprocessor conditionals from C source, proved

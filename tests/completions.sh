@@ -4,8 +4,8 @@ source "$(dirname "$0")/checks.sh"
 needs ./unifdef ./unifdef-tree
 completions=$here/packaging/completions
 mkdir -p "$work/bin" "$work/here/below"
-ln -s "$here/unifdef" "$here/unifdef-tree" "$work/bin"
-for it in unifdef unifdef-tree; do
+ln -s "$here/unifdef" "$here/unifdef-tree" "$here/packaging/unifdef2" "$work/bin"
+for it in unifdef unifdef-tree unifdef2; do
   cp "$here/packaging/completions/unifdef.fish" "$work/$it.fish"
 done
 export PATH=$work/bin:$PATH HOME=$work XDG_CONFIG_HOME=$work XDG_DATA_HOME=$work
@@ -28,7 +28,7 @@ in_bash() {
 }
 in_fish() {
   fish --no-config -c 'source $argv[1]/unifdef.fish; source $argv[1]/unifdef-tree.fish
-    complete -C $argv[2]' "$work" "$1"
+    source $argv[1]/unifdef2.fish; complete -C $argv[2]' "$work" "$1"
 }
 # zsh completes only at a terminal, so this script makes one. The shell announces that it is ready
 # and, by a second key, that it has completed. An hour for each is a guard against hanging.
@@ -76,6 +76,8 @@ for shell in bash zsh fish; do
   names=-U files=-x.h
   [ "$shell" != zsh ] || names=''
   offers "$shell" 'unifdef -UDE' "${names}DEBUG" "${names}OTHER"
+  offers "$shell" 'unifdef -kUDE' "${names/-/-k}DEBUG" "${names/-/-k}OTHER"
+  offers "$shell" 'unifdef-tree -kU ' OTHER a.h
   offers "$shell" 'unifdef-tree -U ' OTHER a.h
   offers "$shell" 'unifdef -x ' 2 3
   offers "$shell" 'unifdef -U ' OTHER a.h
@@ -85,12 +87,16 @@ for shell in bash zsh fish; do
   offers "$shell" 'unifdef-tree -D A -b -- -' "$files" '-[knrq]'
   [ "$shell" = zsh ] || offers "$shell" 'unifdef -bU A a.h -' "$files" '-[kn]'
   offers "$shell" 'unifdef-tree -DA=1 -bi DA -' -q OTHER
+  # Options of unifdef2 may follow files.
+  offers "$shell" 'unifdef2 -' -o -q
+  offers "$shell" 'unifdef2 -DA below/b.c -U ' OTHER a.h
   # A value may follow the name after -D, so no space does.
   case $shell in
     bash)
       offers bash 'unifdef -iDDE' -iDDEEP -iDOTHER
       offers bash 'unifdef -DDE' nospace -DOTHER
       offers bash 'unifdef-tree -D DE' nospace OTHER
+      offers bash 'unifdef -kDDE' nospace -kDOTHER
       offers bash 'unifdef -UDE' -UDEBUG nospace
       ;;
     zsh) offers zsh 'unifdef -iDDE' DEEP OTHER ;;

@@ -28,9 +28,9 @@ target="$work/a directory/with spaces" prefix='/opt/my tools'
 check install make_with install DESTDIR="$target" PREFIX="$prefix"
 works_in install "$target$prefix"
 check 'install: files' same "$(cd "$target$prefix" && files_in . -type f)" \
-  "$(lines bin/unifdef{,-tree,2} share/bash-completion/completions/unifdef{,-tree} \
-    share/doc/unifdef/{LICENSE,PROVED.md} share/fish/vendor_completions.d/unifdef{-tree,}.fish \
-    share/man/man1/unifdef{-tree,,2}.1 share/zsh/site-functions/_unifdef{,-tree})"
+  "$(lines bin/unifdef{,-tree,2} share/bash-completion/completions/unifdef{,-tree,2} \
+    share/doc/unifdef/{LICENSE,PROVED.md} share/fish/vendor_completions.d/unifdef{-tree,,2}.fish \
+    share/man/man1/unifdef{-tree,,2}.1 share/zsh/site-functions/_unifdef{,-tree,2})"
 
 # A file of somebody else stays, and so does a directory that others use.
 documents="$target$prefix/share/doc/unifdef"

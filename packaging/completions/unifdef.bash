@@ -1,4 +1,4 @@
-# Completions of unifdef and unifdef-tree for bash.
+# Completions of unifdef, unifdef-tree and unifdef2 for bash.
 
 # Prints names in conditions of the first C files below the directory, in two seconds at most.
 # One of them is for find, since unifdef-tree prints at its end. The program $1 lists them.
@@ -18,52 +18,54 @@ _unifdef_after() {
   mapfile -t COMPREPLY < <(compgen -P "$1" -W "$2" -- "${typed#"$1"}")
 }
 
-# Completes a name of the program $1 after the prefix $2. No space follows if it may have a value.
-_unifdef_symbol() {
-  _unifdef_after "$2" "$(_unifdef_names "$1")"
-  [[ $3 != *D ]] || compopt -o nospace 2> /dev/null || true
-}
-
-# Returns whether `--`, or a word that is no option and no value of one, precedes the typed word.
-_unifdef_ended() {
-  local line=${COMP_LINE:0:COMP_POINT} word value=no
+# Sets `wanted` to the letter of the option whose value is typed, and `prefix` to what precedes the
+# value in its word. Without such an option, `wanted` is `option`, or `path` after the options of
+# the program $1.
+_unifdef_wanted() {
+  local line=${COMP_LINE:0:COMP_POINT} typed=${COMP_WORDS[COMP_CWORD]} valued=DfgIiMoUx word
   local -a words
+  wanted=option prefix=''
   # COMP_WORDS would have the parts of -DA=1 one by one.
   read -ra words <<< "${line%"${line##*[[:space:]]}"}"
   for word in "${words[@]:1}"; do
-    if [ "$value" = yes ]; then
-      value=no
-    elif [[ $word =~ ^-[^DUixgj]*[DUixgj]$ ]]; then
-      value=yes
-    elif [[ $word == -- || $word != -?* ]]; then
-      return 0
+    if [[ $wanted != option ]]; then
+      wanted=option
+    elif [[ $word =~ ^-[^-$valued]*([$valued])$ ]]; then
+      wanted=${BASH_REMATCH[1]}
+    elif [[ $word == -- || $word != -?* && $1 != unifdef2 ]]; then
+      wanted=path
+      return
     fi
   done
-  return 1
+  if [[ $wanted == option && $typed =~ ^-[^-$valued]*([$valued]) ]]; then
+    wanted=${BASH_REMATCH[1]} prefix=${BASH_REMATCH[0]}
+  fi
+  if [[ $wanted == i && ${typed#"$prefix"} == [DU]* ]]; then
+    prefix=${typed:0:${#prefix}+1}
+    wanted=${prefix: -1}
+  fi
 }
 
 _unifdef() {
-  local typed=${COMP_WORDS[COMP_CWORD]} before=${COMP_WORDS[COMP_CWORD - 1]} command=${COMP_WORDS[0]##*/}
+  local options='-b -c -D -iD -iU -K -k -l -n -s -t -U -x0 -x1 -x2 --'
+  local command=${COMP_WORDS[0]##*/} wanted prefix
   COMPREPLY=()
-  ! _unifdef_ended || return 0
-  case "$before $typed" in
-    '-D '* | '-U '*) _unifdef_symbol "$command" '' "$before" ;;
-    '-i '*)
-      _unifdef_after '' 'D U'
-      compopt -o nospace 2> /dev/null || true
-      ;;
-    '-x '*) _unifdef_after '' '0 1 2' ;;
-    '-g '*) ;;
-    *' -i'[DU]*) _unifdef_symbol "$command" "${typed:0:3}" "${typed:0:3}" ;;
-    *' -'[DU]*) _unifdef_symbol "$command" "${typed:0:2}" "${typed:0:2}" ;;
-    *' -'*)
-      if [ "$command" = unifdef-tree ]; then
-        _unifdef_after '' '-0 -B -b -c -D -d -g -h -iD -iU -K -k -l -n -p -q -r -s -t -U -V -w -x0 -x1 -x2 -- --help --version'
-      else
-        _unifdef_after '' '-b -c -D -iD -iU -K -k -l -n -S -s -t -U -x0 -x1 -x2 --'
-      fi
+  _unifdef_wanted "$command"
+  case $wanted in
+    [DU]) _unifdef_after "$prefix" "$(_unifdef_names "$command")" ;;
+    i) _unifdef_after "$prefix" 'D U' ;;
+    x) _unifdef_after "$prefix" '0 1 2' ;;
+    option)
+      case $command in
+        unifdef) options+=' -S' ;;
+        unifdef-tree) options+=' -0 -B -d -g -h -p -q -r -V -w --help --version' ;;
+        unifdef2) options+=' -f -h -M -m -o -S -V --help --version' ;;
+      esac
+      [[ ${COMP_WORDS[COMP_CWORD]} != -* ]] || _unifdef_after '' "$options"
       ;;
   esac
+  # A value may follow a name after -D.
+  [[ $wanted != [Di] ]] || compopt -o nospace 2> /dev/null || true
 }
 
-complete -o bashdefault -o default -F _unifdef unifdef unifdef-tree
+complete -o bashdefault -o default -F _unifdef unifdef unifdef-tree unifdef2

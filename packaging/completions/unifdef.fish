@@ -1,4 +1,4 @@
-# Completions of unifdef for fish, and of unifdef-tree, if the file has its name.
+# Completions of unifdef for fish, and of unifdef-tree or unifdef2, if the file has its name.
 
 # Prints names in conditions of the first C files below the directory, in two seconds at most.
 # One of them is for find, since unifdef-tree prints at its end.
@@ -22,8 +22,9 @@ function __unifdef_ignoring -a program
     __unifdef_names $program | sed 's/^/U/'
 end
 
-# Returns whether no path precedes the typed word, since options come before it.
-function __unifdef_at_options
+# Returns whether no path precedes the typed word, since options come before it, but for unifdef2.
+function __unifdef_at_options -a program
+    test $program != unifdef2; or return 0
     set -l words (commandline -opc)
     set -e words[1]
     set -l value no
@@ -39,7 +40,7 @@ function __unifdef_at_options
 end
 
 set -l program (basename (status filename) .fish)
-set -l option complete -c $program -n __unifdef_at_options
+set -l option complete -c $program -n "__unifdef_at_options $program"
 $option -s b -d 'Leave removed lines blank'
 $option -s c -d 'Print only the lines that would be removed'
 $option -s D -x -a "(__unifdef_values $program)" -d 'Define a symbol'
@@ -50,11 +51,20 @@ $option -s l -d 'Leave removed lines blank'
 $option -s t -d 'Plain text'
 $option -s U -x -a "(__unifdef_names $program)" -d 'Undefine a symbol'
 $option -s x -x -a '0 1 2' -d 'Meaning of the exit status'
-if test $program = unifdef
+if test $program != unifdef-tree
     $option -s n -d 'Insert #line directives'
     $option -s S -d 'List the names in conditions with their depth'
     $option -s s -d 'List the names in conditions'
-else
+end
+if test $program = unifdef2
+    $option -s f -r -d 'Read settings from a header'
+    $option -s h -l help -d 'Print the usage'
+    $option -s M -x -d 'Replace each file, and keep it under a suffix'
+    $option -s m -d 'Replace each file'
+    $option -s o -r -d 'Write to a file'
+    $option -s V -l version -d 'Print the version'
+end
+if test $program = unifdef-tree
     $option -s B -d 'Leave out blank lines that only stood there because of removed ones'
     $option -s 0 -d 'Read paths from standard input'
     $option -s d -d 'Print a diff of what is changed'
