@@ -10,6 +10,7 @@ cd "$(dirname "${BASH_SOURCE[0]}")/.."
 fail() { echo "$(basename "$0" .sh): $1" >&2; exit 1; }
 command -v dpkg-deb > /dev/null || fail 'dpkg-deb is not there'
 version=$(packaging/version.sh)
+version=${version/-/\~} # 1.0~dev comes before 1.0.
 # shellcheck disable=SC2034 # It is for the scripts that read this file.
 architecture=$(dpkg --print-architecture)
 

@@ -7,7 +7,7 @@ command -v git > /dev/null || fail 'git is not there'
 [ -e .git ] ||
   fail 'a tarball is made of a commit, and this directory is not under version control'
 version=$(packaging/version.sh)
-committed=$(git show HEAD:CHANGELOG.md | sed -n 's/^## \([0-9][0-9.]*\).*/\1/p' | head -n 1)
+committed=$(git show HEAD:CHANGELOG.md | sed -n 's/^## \([0-9][^ ]*\).*/\1/p' | head -n 1)
 [ "$committed" = "$version" ] ||
   fail "the last commit has the version $committed, so commit $version first"
 [ -z "$(git status --porcelain)" ] || echo 'dist: changes that are not committed are left out' >&2

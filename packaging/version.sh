@@ -1,7 +1,7 @@
 #!/usr/bin/env bash
-# Prints the version: the first heading of CHANGELOG.md with a number has it, as "## 1.0". Fails if
-# a file or the commit's tag doesn't agree on it. With --released, it also fails if that heading has
-# no date, as "## 1.0 (2026-12-01)" has.
+# Prints the version: the first heading of CHANGELOG.md with a number has it, as "## 1.0-dev". Fails
+# if a file or the commit's tag doesn't agree on it. With --released, it also fails if that heading
+# isn't one of a release, as "## 1.0 (2026-12-01)".
 set -u
 cd "$(dirname "$0")/.." || exit 1
 result=0
@@ -19,7 +19,8 @@ read -r _ version date < <(grep -m 1 '^## [0-9]' CHANGELOG.md)
 for manual in docs/*.[13]; do
   has "$manual" ".Os unifdef $version"
 done
-IFS=. read -r major minor <<< "$version"
+number=${version%-dev}
+IFS=. read -r major minor <<< "$number"
 has lib/unifdef.h "#define UNIFDEF_VERSION $((major * 10000 + minor * 100))"
 has lib/unifdef.h "#define UNIFDEF_VERSION_STRING \"$version\""
 has lib/python/unifdef/__init__.py "__version__ = \"$version\""
@@ -27,13 +28,14 @@ has crates/unifdef_tree_cli/src/main.rt "const VERSION: &str = \"unifdef-tree $v
 has packaging/unifdef2 "echo 'unifdef2 $version'"
 code=crates/unifdef_c/src/version.rt
 numbers=$(sed -n 's/^pub(crate) const [A-Z]*: u16 = \([0-9]*\);/\1/p' "$code" | paste -sd .)
-[ "$numbers" = "$version" ] || wrong "$code has the version $numbers"
+[ "$numbers" = "$number" ] || wrong "$code has the version $numbers"
 # In a tarball there is no commit, and a repository around it has tags of its own.
 for tag in $([ ! -e .git ] || git tag --points-at HEAD 2> /dev/null | grep '^v[0-9]'); do
   [ "$tag" = "v$version" ] || wrong "the tag $tag isn't v$version"
 done
-if [ "${1:-}" = --released ] && [[ ! $date =~ ^\([0-9]{4}-[0-9]{2}-[0-9]{2}\)$ ]]; then
-  wrong "$version isn't released yet: its heading in CHANGELOG.md has no date, as (2026-12-01)"
+released='^[0-9.]+ \([0-9]{4}-[0-9]{2}-[0-9]{2}\)$'
+if [ "${1:-}" = --released ] && [[ ! "$version $date" =~ $released ]]; then
+  wrong "$version isn't released yet: the heading in CHANGELOG.md is to be as 1.0 (2026-12-01)"
 fi
 echo "$version"
 exit "$result"

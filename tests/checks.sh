@@ -69,6 +69,9 @@ finish() {
 # shows MANUAL: checks the version in the footer of a manual, whose form `make manuals` checks.
 shows() { gzip -cdf "$1" | grep -qx "\\.Os unifdef $version"; }
 
+# The version of packages: 1.0~dev comes before 1.0.
+deb_version=${version/-/\~}
+
 # A directory with a list of packages of its own, and what is tried of each package.
 root=$work/root
 new_root() {

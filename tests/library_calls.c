@@ -362,9 +362,11 @@ static void threads(void) {
 static void version(void) {
     char text[30];
     int number = unifdef_version();
-    snprintf(text, sizeof text, "%d.%d", number / 10000, number % 10000 / 100);
+    int len = snprintf(text, sizeof text, "%d.%d", number / 10000, number % 10000 / 100);
+    const char *rest = UNIFDEF_VERSION_STRING + len;
     check("the version as a number", number == UNIFDEF_VERSION);
-    check("the version as text", strcmp(text, UNIFDEF_VERSION_STRING) == 0);
+    check("the version as text", strncmp(text, UNIFDEF_VERSION_STRING, len) == 0);
+    check("the version before a release", *rest == '\0' || strcmp(rest, "-dev") == 0);
 }
 
 int main(void) {

@@ -107,8 +107,8 @@ check 'uninstall-lib: nothing' make_lib uninstall-lib PREFIX="$prefix"
 lacks_none 'Debian packages' dpkg-deb objdump || { finish; exit; }
 
 directory=usr/lib/$("${cc[@]}" -print-multiarch) architecture=$(dpkg --print-architecture)
-packages=({libunifdef1,libunifdef-dev}"_${version}_$architecture.deb"
-  "python3-unifdef_${version}_all.deb")
+packages=({libunifdef1,libunifdef-dev}"_${deb_version}_$architecture.deb"
+  "python3-unifdef_${deb_version}_all.deb")
 check deb-lib same "$(make_lib deb-lib)" "$(lines "${packages[@]}")"
 made_again deb-lib env CC="env ${cc[*]}" "$make" -s -o lib/libunifdef.a deb-lib
 
@@ -153,7 +153,7 @@ check 'symbols: each function' same "$(grep -c ' unifdef_.*@UNIFDEF_1 ' <<< "$sy
   "$(objdump -T lib/libunifdef.so.1 | grep -c ' UNIFDEF_1 *unifdef_')"
 check 'symbols: the rest' same "$(grep -v ' unifdef_' <<< "$symbols")" \
 "libunifdef.so.1 libunifdef1 #MINVER#
- UNIFDEF_1@UNIFDEF_1 $version"
+ UNIFDEF_1@UNIFDEF_1 $deb_version"
 
 # C and Python, as after an installation to /.
 example=$root/usr/share/doc/libunifdef-dev/examples/filter.c

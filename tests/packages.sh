@@ -120,7 +120,7 @@ check_by git 'dist: without a repository' \
 
 # The Debian packages.
 if lacks_none 'Debian packages' dpkg-deb objdump; then
-  packages=({unifdef-tree,unifdef-proved}"_${version}_$(dpkg --print-architecture).deb")
+  packages=({unifdef-tree,unifdef-proved}"_${deb_version}_$(dpkg --print-architecture).deb")
   check deb same "$(make_with deb)" "$(lines "${packages[@]}")"
   made_again deb make_with deb
   # Each file system counts its own blocks for a file.

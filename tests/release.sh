@@ -15,49 +15,61 @@ clone_to() {
   git clone -qs "$2" "$1" && cp -p unifdef unifdef-tree "$1" && cp -Pp lib/libunifdef.* "$1/lib"
 }
 
-# head_with WORDS: makes a commit in the first clone, with this after the version.
+# head_with HEADING: makes a commit in the first clone, with this heading of CHANGELOG.md.
 head_with() {
-  sed -i "s/^## $version .*/## $version ($1)/" "$first/CHANGELOG.md"
+  sed -i "0,/^## [0-9]/s/^## [0-9].*/## $1/" "$first/CHANGELOG.md"
   git -C "$first" -c user.name=They -c user.email=they@localhost commit -qa --allow-empty -m it
+}
+
+# version_is VERSION: gives all other files in the first clone this version.
+version_is() {
+  (cd "$first" && git grep -lF -e "$version" docs/*.[13] lib packaging crates/unifdef_tree_cli |
+    xargs sed -i "s/$version/$1/")
+}
+
+# refuses HEADING: there must be no release with this heading, and nothing is proved for one.
+refuses() {
+  local says="version: ${1%% *} isn't released yet: the heading in CHANGELOG.md is to be as 1.0"
+  head_with "$1"
+  check "$1" grep -qxF "$says (2026-12-01)" <<< "$("$first/packaging/release.sh" 2>&1)"
+  check "$1: no directory" test ! -e "$first/release"
+  check "$1: nothing is proved" same 0 \
+    "$("$make" -s -j8 -C "$first" release RT=no-such-command 2>&1 | grep -c no-such-command)"
 }
 
 # make_elsewhere DIRECTORY: makes the release in a clone, for another user and another time zone.
 make_elsewhere() { (umask 077 && TZ=Asia/Tokyo "$1/packaging/release.sh"); }
 
 check 'a clone' clone_to "$first" .
-check 'a version without a date' head_with 'not released yet'
-undated="version: $version isn't released yet"
-undated+=': its heading in CHANGELOG.md has no date, as (2026-12-01)'
-check 'a version without a date: release' same "$("$first/packaging/release.sh" 2>&1; echo $?)" \
-  "$undated"$'\n'1
-check 'a version without a date: nothing is proved' same "$undated" \
-  "$("$make" -s -j8 -C "$first" release RT=no-such-command 2>&1 | sed '/^make: \*\*\*/d')"
-check 'a version without a date: no directory' test ! -e "$first/release"
-check 'a date' head_with 2026-12-01
+released=${version%-dev}
+refuses "$released-dev (2026-12-01)"
+check 'a release in all files' version_is "$released"
+refuses "$released (not released yet)"
+check 'a date' head_with "$released (2026-12-01)"
 check 'release' "$first/packaging/release.sh"
 check 'another clone' clone_to "$second" "$first"
 check 'release elsewhere' make_elsewhere "$second"
 check 'the same files' diff -r "$first/release" "$second/release"
 cd "$first/release" || exit 1
 check 'files' same "$(ls)" \
-  "$(lines NOTES.md SHA256SUMS libunifdef{-dev,1}"_${version}_amd64.deb" \
-    "python3-unifdef_${version}_all.deb" unifdef-"$version"{-linux-x86_64,}.tar.gz \
-    unifdef-{proved,tree}"_${version}_amd64.deb")"
+  "$(lines NOTES.md SHA256SUMS libunifdef{-dev,1}"_${released}_amd64.deb" \
+    "python3-unifdef_${released}_all.deb" unifdef-"$released"{-linux-x86_64,}.tar.gz \
+    unifdef-{proved,tree}"_${released}_amd64.deb")"
 check 'checksums' sha256sum --quiet -c SHA256SUMS
 check 'checksums of all' same "$(wc -l < SHA256SUMS)" 8
-check 'what changed' same "$(grep '^## ' NOTES.md)" "## $version (2026-12-01)"
+check 'what changed' same "$(grep '^## ' NOTES.md)" "## $released (2026-12-01)"
 echo '//' >> "$second/lib/unifdef.h"
 check 'a change that is not committed' same "$("$second/packaging/release.sh" 2>&1; echo $?)" \
 "release: commit first: what is not committed would be in some of the files alone
 1"
 
-directory=$work/unpacked/unifdef-$version-linux-x86_64
+directory=$work/unpacked/unifdef-$released-linux-x86_64
 mkdir "$work/unpacked"
-check 'unpacks' tar -C "$work/unpacked" -xzf "unifdef-$version-linux-x86_64.tar.gz"
+check 'unpacks' tar -C "$work/unpacked" -xzf "unifdef-$released-linux-x86_64.tar.gz"
 echo "$text" > "$work/a.c"
 check 'unifdef' same "$("$directory/bin/unifdef" -DA "$work/a.c"; echo $?)" $'x\n1'
 check 'unifdef-tree' same "$("$directory/bin/unifdef-tree" -q -DA "$work/a.c"; cat "$work/a.c")" x
-check 'Python' same "$version" "$(PYTHONPATH=$directory/share/unifdef/python \
+check 'Python' same "$released" "$(PYTHONPATH=$directory/share/unifdef/python \
   LD_LIBRARY_PATH=$directory/lib python3 -Bc \
   'import unifdef; print(*unifdef.version(), sep=".")')"
 
