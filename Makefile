@@ -162,13 +162,11 @@ uninstall-lib:
 	$(call gone,$(PYTHONDIR)/unifdef)
 	@$(REFRESH)
 
-## makes the Debian packages of the programs
-deb: unifdef unifdef-tree
-	@$(TRIED) packaging/deb.sh
-
-## makes the Debian packages of the library and the module
-deb-lib: lib
-	@$(TRIED) packaging/deb-lib.sh
+## makes the Debian packages, by debhelper
+deb: unifdef unifdef-tree lib
+	@dpkg-checkbuilddeps -I
+	@DEBDIR=. debian/rules clean binary
+	@debian/rules clean
 
 ## removes what was built
 clean:

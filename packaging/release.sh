@@ -3,28 +3,37 @@
 # programs and the library for Linux on x86-64, the Debian packages, the source, what changed, and
 # the checksums. The same commit gives the same files, byte by byte. With --ready, only checks that
 # there can be a release.
-source "$(dirname "$0")/debian.sh"
-packaging/version.sh --released > /dev/null
+set -eu -o pipefail
+umask 022
+export LC_ALL=C
+cd "$(dirname "$0")/.."
+version=$(packaging/version.sh --released)
 changes=$(git status --porcelain)
-[ -z "$changes" ] ||
-  fail 'commit first: what is not committed would be in some of the files alone'
+if [ -n "$changes" ]; then
+  echo 'release: commit first: what is not committed would be in some of the files alone' >&2
+  exit 1
+fi
+dpkg-checkbuilddeps -I
 [ "${1:-}" != --ready ] || exit 0
 name=unifdef-$version-linux-x86_64
 rm -rf release
 mkdir release
+stage=$(mktemp -d)
+trap 'rm -rf "$stage"' EXIT
+SOURCE_DATE_EPOCH=$(git log -1 --format=%ct)
+export SOURCE_DATE_EPOCH
 
 # What `make install` and `make install-lib` install under /usr/local, as a directory of this name.
 # The module for Python is beside the other data, as no version of Python is known.
 "${MAKE:-make}" -s -o unifdef -o unifdef-tree -o lib/libunifdef.a install install-lib \
-  DESTDIR="$all" PREFIX=/usr/local PYTHONDIR=/usr/local/share/unifdef/python
-mv "$all/usr/local" "$stage/$name"
+  DESTDIR="$stage/all" PREFIX=/usr/local PYTHONDIR=/usr/local/share/unifdef/python
+mv "$stage/all/usr/local" "$stage/$name"
 tar --sort=name --owner=0 --group=0 --numeric-owner --mtime="@$SOURCE_DATE_EPOCH" --format=ustar \
   -C "$stage" -cf - "$name" | gzip -9n > "release/$name.tar.gz"
 
-for part in dist deb deb-lib; do
-  packaging/$part.sh > "$stage/made"
-  xargs -d '\n' mv -t release < "$stage/made"
-done
+mv "$(packaging/dist.sh)" release
+DEBDIR=release debian/rules clean binary
+debian/rules clean
 awk '/^## / { n++ } n == 1' CHANGELOG.md > release/NOTES.md
 (cd release && sha256sum -- * > "$stage/sums" && mv "$stage/sums" SHA256SUMS)
 ls release

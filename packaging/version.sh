@@ -26,6 +26,8 @@ has lib/unifdef.h "#define UNIFDEF_VERSION_STRING \"$version\""
 has lib/python/unifdef/__init__.py "__version__ = \"$version\""
 has crates/unifdef_tree_cli/src/main.rt "const VERSION: &str = \"unifdef-tree $version\";"
 has packaging/unifdef2 "echo 'unifdef2 $version'"
+# 1.0~dev comes before 1.0.
+has debian/changelog "unifdef-proved (${version/-/\~}) unstable; urgency=medium"
 code=crates/unifdef_c/src/version.rt
 numbers=$(sed -n 's/^pub(crate) const [A-Z]*: u16 = \([0-9]*\);/\1/p' "$code" | paste -sd .)
 [ "$numbers" = "$number" ] || wrong "$code has the version $numbers"

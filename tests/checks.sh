@@ -69,8 +69,10 @@ finish() {
 # shows MANUAL: checks the version in the footer of a manual, whose form `make manuals` checks.
 shows() { gzip -cdf "$1" | grep -qx "\\.Os unifdef $version"; }
 
-# The version of packages: 1.0~dev comes before 1.0.
+# The version of packages, in which 1.0~dev comes before 1.0. The library is for one architecture.
 deb_version=${version/-/\~}
+packages=({unifdef-{tree,proved},libunifdef{1,-dev}}"_${deb_version}_amd64.deb"
+  "python3-unifdef_${deb_version}_all.deb")
 
 # A directory with a list of packages of its own, and what is tried of each package.
 root=$work/root
@@ -84,12 +86,15 @@ in_root() {
 }
 quiet_lintian() { same "$(lintian --allow-root "$1" 2>&1 | grep '^[EW]:')" ''; }
 
-# made_again TARGET COMMAND..: ${packages[@]}, which are there, are the same if they are made again.
-made_again() {
+# makes_packages: makes ${packages[@]} of what is built. lintian must find nothing in them.
+makes_packages() {
   local it
-  sums=$(sha256sum "${packages[@]}")
-  check "$1: again" "${@:2}"
-  check "$1: the same bytes" same "$(sha256sum "${packages[@]}")" "$sums"
+  for it in ./unifdef ./unifdef-tree lib/libunifdef.a; do
+    [ -e "$it" ] || { skip 'Debian packages' "$it is not built"; return 1; }
+  done
+  lacks_none 'Debian packages' dh objdump || return
+  rm -f "${packages[@]}"
+  check deb "$make" -s -o unifdef -o unifdef-tree -o lib/libunifdef.a deb
   for it in "${packages[@]}"; do
     check_by lintian "$it: lintian" quiet_lintian "$it"
   done

@@ -90,7 +90,7 @@ if git rev-parse HEAD > /dev/null 2>&1; then
   unpacked=$work/unifdef-$version
   check dist "$make" -s dist
   check 'dist: unpacks' tar xzf "unifdef-$version.tar.gz" -C "$work"
-  check 'dist: files' same "$(cd "$unpacked" && files_in . -type f)" \
+  check 'dist: files' same "$(cd "$unpacked" && files_in . ! -type d)" \
     "$(git ls-tree -r --name-only HEAD | sort)"
   check 'dist: its version' same "$("$unpacked/packaging/version.sh")" "$version"
   check 'dist: its pages and scripts' "$unpacked/tools/lint.sh"
@@ -119,20 +119,10 @@ check_by git 'dist: without a repository' \
 1"
 
 # The Debian packages.
-if lacks_none 'Debian packages' dpkg-deb objdump; then
-  packages=({unifdef-tree,unifdef-proved}"_${deb_version}_$(dpkg --print-architecture).deb")
-  check deb same "$(make_with deb)" "$(lines "${packages[@]}")"
-  made_again deb make_with deb
-  # Each file system counts its own blocks for a file.
-  if [ -w /dev/shm ] && [ "$(stat -fc %T /dev/shm)" != "$(stat -fc %T "$work")" ]; then
-    check 'deb: in memory' env TMPDIR=/dev/shm "$make" -s -o unifdef -o unifdef-tree deb
-    check 'deb: the same bytes in memory' same "$(sha256sum "${packages[@]}")" "$sums"
-  else
-    skip 'packages made in memory' '/dev/shm is no file system of its own'
-  fi
+if makes_packages; then
   new_root
   is_installed() { in_root -s "$1" | grep -qx 'Status: install ok installed'; }
-  check 'deb: installs' in_root -i "${packages[@]/#/$here/}"
+  check 'deb: installs' in_root -i "${packages[@]:0:2}"
   check 'deb: is known' is_installed unifdef-proved
   works_in deb "$root/usr"
   check 'deb: goes away' in_root --purge unifdef-proved unifdef-tree
@@ -145,10 +135,10 @@ if lacks_none 'Debian packages' dpkg-deb objdump; then
   lines 'Package: unifdef' 'Version: 2.12-1' 'Architecture: all' \
     'Maintainer: nobody <nobody@localhost>' 'Description: theirs' > "$theirs/DEBIAN/control"
   check 'deb: theirs' dpkg-deb --root-owner-group --build "$theirs" "$work/theirs.deb"
-  check 'deb: beside unifdef' in_root -i "$work/theirs.deb" "$here/${packages[0]}"
+  check 'deb: beside unifdef' in_root -i "$work/theirs.deb" "${packages[0]}"
   check 'deb: both are there' eval 'is_installed unifdef && is_installed unifdef-tree'
   check 'deb: runs beside unifdef' same "$("$root/usr/bin/unifdef-tree" -V)" "unifdef-tree $version"
-  check 'deb: in place of unifdef' in_root -i "$here/${packages[1]}"
+  check 'deb: in place of unifdef' in_root -i "${packages[1]}"
   check 'deb: unifdef is away' eval '! is_installed unifdef && is_installed unifdef-proved &&
     is_installed unifdef-tree'
 fi

@@ -4,7 +4,7 @@
 #
 # The clones get what is built here. The second one has another path, umask and time zone.
 source "$(dirname "$0")/checks.sh"
-needs git dpkg-deb objdump lib/libunifdef.a
+needs git dh lib/libunifdef.a
 [ -e .git ] || { skip all 'this is no repository'; exit; }
 [ -z "$(git status --porcelain)" ] || skip 'what is not committed' 'a release is of a commit'
 text=$'#ifdef A\nx\n#endif'
@@ -24,7 +24,7 @@ head_with() {
 # version_is VERSION: gives all other files in the first clone this version.
 version_is() {
   (cd "$first" && git grep -lF -e "$version" docs/*.[13] lib packaging crates/unifdef_tree_cli |
-    xargs sed -i "s/$version/$1/")
+    xargs sed -i "s/$version/$1/" && sed -i "1s/(.*)/($1)/" debian/changelog)
 }
 
 # refuses HEADING: there must be no release with this heading, and nothing is proved for one.
