@@ -14,6 +14,9 @@ if [ -n "$changes" ]; then
   exit 1
 fi
 dpkg-checkbuilddeps -I
+for file in debian/control debian/changelog; do
+  ! grep -q '@unifdef\.invalid>' "$file" || echo "release: $file has no maintainer yet" >&2
+done
 [ "${1:-}" != --ready ] || exit 0
 name=unifdef-$version-linux-x86_64
 rm -rf release

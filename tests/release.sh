@@ -27,6 +27,13 @@ version_is() {
     xargs sed -i "s/$version/$1/" && sed -i "1s/(.*)/($1)/" debian/changelog)
 }
 
+# ready ADDRESS: tries whether there can be a release, with this address of the maintainer.
+ready() {
+  sed -i "s/<.*@.*>/<$1>/" "$first"/debian/{control,changelog}
+  head_with "$released (2026-12-01)"
+  "$first/packaging/release.sh" --ready 2>&1
+}
+
 # refuses HEADING: there must be no release with this heading, and nothing is proved for one.
 refuses() {
   local says="version: ${1%% *} isn't released yet: the heading in CHANGELOG.md is to be as 1.0"
@@ -45,7 +52,9 @@ released=${version%-dev}
 refuses "$released-dev (2026-12-01)"
 check 'a release in all files' version_is "$released"
 refuses "$released (not released yet)"
-check 'a date' head_with "$released (2026-12-01)"
+check 'no maintainer' same "$(ready maintainers@unifdef.invalid)" \
+  "$(printf 'release: debian/%s has no maintainer yet\n' control changelog)"
+check 'ready' same "$(ready they@localhost; echo $?)" 0
 check 'release' "$first/packaging/release.sh"
 check 'another clone' clone_to "$second" "$first"
 check 'release elsewhere' make_elsewhere "$second"
