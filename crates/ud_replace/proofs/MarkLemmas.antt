@@ -190,7 +190,7 @@ longer m line = by_test (bytes_eq (m ∷ line) line) refl
     by_test false e = refl
     by_test true e = absurd (let q : suc (length line) ≡ length line = ap length ((bytes_eq-Decides (m ∷ line) line).0 e) in omega arith)
 
--- What is printed for a judged line has its mark.
+-- A judged line's mark is read from what is printed for it.
 read_judged : (s : Settings) (j : Judged) → read_mark (text_of j.line) (mark_piece s.blank (judged_by s j)) ≡ mark_by s j
 read_judged s j = by_test (stays_by s.blank (judged_by s j)) refl
   where

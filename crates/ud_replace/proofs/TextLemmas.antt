@@ -80,7 +80,7 @@ fails_printed o {text = text} (run_faulty a f has is some) =
     over_faulty (printed o a) [] f (as_printed has (no_marks o.run text a.fault some)) (printed_fault o a ∙ is) (λ q. some (sym (printed_fault o a) ∙ q))
 fails_printed o no_memory_left = over_memory
 
--- What was printed of a text, before its marks are known.
+-- `Prints o text made`: `made` holds the printed outcome of a text, whose marks aren't known yet.
 pub record Prints (o : TextOptions) (text : List ℕ) (made : Made) : Type 0 where
   pub outcome : Outcome
   pub runs : HasOutcome o.run text outcome
@@ -162,7 +162,7 @@ printed_marked o {made = made} h are = record {
   marks_are = λ wanted differs off. refl;
 }
 
--- What one relation has, another one has.
+-- An outcome of one relation is one of another that holds more.
 pub lift : (o : TextOptions) {text : List ℕ} {marked : Bool} {has more : TextOutcome → List ℕ → Type 0} {made : Made} →
     ((r : TextOutcome) (ms : List ℕ) → has r ms → more r ms) → IsMade o text marked has made → IsMade o text marked more made
 lift o up m = record {

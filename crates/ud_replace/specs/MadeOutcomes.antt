@@ -97,8 +97,8 @@ RestoresTo lines ran None = comes_back (output_in ran lines) ≡ false
 RestoresTo lines ran (Some made) =
     (comes_back (output_in ran lines) ≡ true) × IsRestored lines ran made
 
--- `IsFoldedBy o text marked made`: `made` holds the outcome of `text`, which is folded; `None` if it
--- isn't.
+-- `IsFoldedBy o text marked made`: `made` holds the outcome of `text`, which is folded; `None` if
+-- it isn't.
 abbrev pub IsFoldedBy : TextOptions → List ℕ → Bool → Option Outcome → Type 0
 IsFoldedBy o text marked None = StaysUnfolded o text
 IsFoldedBy o text marked (Some made) = IsMade o text marked (HasUnsqueezed o text) made
@@ -111,8 +111,8 @@ IsFresh k = k.text.items ≡ []
 abbrev pub output_of : Kept → List ℕ
 output_of k = output_in k.outcome k.text.items
 
--- `RunsKept o plan k differs`: the text has no fault, its outcome was kept, and `differs` is whether
--- the output differs.
+-- `RunsKept o plan k differs`: the text has no fault, its outcome was kept, and `differs` is
+-- whether the output differs.
 pub record RunsKept (o : TextOptions) (plan : TextPlan) (k : Kept) (differs : Bool) : Type 0 where
   pub made : IsMade o k.text.items (has_marks plan) (HasMarkedOutcome o k.text.items) k.outcome
   pub differs_is : differs ≡ k.outcome.differs

@@ -15,8 +15,8 @@
 --   marked_piece s before j   what a printer of marks prints for `j`
 --   PrintsMarks o text new    its output for a text
 --
--- Example: of a kept line `x` and a removed line `y`, the pieces are `x` and `y` after a byte 0, and
--- the marks are `=` and 0.
+-- Example: of a kept line `x` and a removed line `y`, the pieces are `x` and `y` after a byte 0,
+-- and the marks are `=` and 0.
 use Rattle.std.specs.Prelude.{◌≡◌, ℕ, List, [], ◌∷◌, ◌++◌, Bool, bytes_eq, if◌then◌else◌, not, map}
 use Rattle.std.specs.Prelude.{◌&&◌, None, slice_index}
 use Rattle.ud_model.specs.text.Lines.{text_of, texts_of}

@@ -159,8 +159,8 @@ goes_squeezed o r = o.squeezes && is_off o.run.settings.listing && r.differs && 
 abbrev pub squeezed : List ℕ → TextOutcome → TextOutcome
 squeezed ms r = record r { output = squeezed_text ms r.output }
 
--- `HasMarkedOutcome o text r ms`: `r` is the outcome of `text`, and `ms` are the marks of its lines:
--- those with all blank lines or, if that outcome is to be squeezed, the squeezed ones.
+-- `HasMarkedOutcome o text r ms`: `r` is the outcome of `text`, and `ms` are the marks of its
+-- lines: those with all blank lines or, if that outcome is to be squeezed, the squeezed ones.
 pub data HasMarkedOutcome (o : TextOptions) (text : List ℕ) : TextOutcome → List ℕ → Type 0 where
   as_it_is : {r : TextOutcome} {ms : List ℕ} → HasUnsqueezed o text r ms →
       goes_squeezed o r ≡ false → HasMarkedOutcome o text r ms
@@ -191,14 +191,15 @@ error_of (Section f) = Text (Section f)
 error_of ReadFault = OutOfMemory
 error_of Write = OutOfMemory
 
--- `FailsBy has e`: an outcome of those that `has` is true of has the fault of `e`. Or memory couldn't
--- be allocated.
+-- `FailsBy has e`: an outcome of those that `has` is true of has the fault of `e`. Or memory
+-- couldn't be allocated.
 pub data FailsBy (has : TextOutcome → List ℕ → Type 0) : ReplaceError → Type 0 where
   over_faulty : (r : TextOutcome) (ms : List ℕ) (f : RunFault) → has r ms →
       r.fault ≡ text_fault_of f → ¬ (r.fault ≡ None) → FailsBy has (Text f)
   over_memory : FailsBy has OutOfMemory
 
--- `FailsOver o text e`: the outcome of `text` has the fault of `e`, or memory couldn't be allocated.
+-- `FailsOver o text e`: the outcome of `text` has the fault of `e`, or memory couldn't be
+-- allocated.
 abbrev pub FailsOver : TextOptions → List ℕ → ReplaceError → Type 0
 FailsOver o text = FailsBy (HasMarkedOutcome o text)
 

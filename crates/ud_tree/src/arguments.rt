@@ -315,8 +315,8 @@ fn run_of(alloc: Global, given: &[ParsedArg<'_>]) -> Result<Arguments, ArgumentF
     })
 }
 
-/// Returns the plan for each text: the run over it, the passes over its output, and whether diffs are
-/// shown.
+/// Returns the plan for each text: the run over it, the passes over its output, and whether diffs
+/// are shown.
 fn text_plan(run: Plan, given: &[ParsedArg<'_>]) -> TextPlan
     ensures run { result.run ≡ run }
     ensures prunes { result.prunes ≡ has_flag (codes "p") (parsed given.now) }
