@@ -9,7 +9,7 @@ use Rattle.ud_replace.specs.declared.text_plan.TextPlan.{TextPlan}
 use Rattle.ud_replace.specs.Calls.{Call}
 use Rattle.ud_replace.specs.MadeOutcomes.{RunsKept, output_of}
 use Rattle.ud_replace.specs.Replacing.{Puts, Judges, no_memory, faulty, same, differs}
-use Rattle.ud_replace.specs.TextOutcomes.{TextOptions, RunsOver, FailsOver, over_faulty, over_memory, IsOutputOf, output_of as output_is}
+use Rattle.ud_replace.specs.TextOutcomes.{TextOptions, FailsOver, over_faulty, over_memory, IsOutputOf, output_of as output_is}
 
 -- A text over which the run failed is left alone.
 pub judges_failed : {o : TextOptions} {into : Bool} {name fresh text : List ℕ} {stat : FileStat} {calls : List Call} {e : ReplaceError} →

@@ -1,5 +1,5 @@
 -- The outcome of a text: of the run over it, of its folded text, and with squeezed blank lines.
-use Rattle.std.proofs.Common.{◌≡◌, ℕ, List, [], ◌++◌, Bool, true, false, ◌||◌, ◌&&◌, if◌then◌else◌, bytes_eq, Option, None, Some, Result, Ok, Err, refl, sym, ap, ap₂, ◌∙◌, subst, arith}
+use Rattle.std.proofs.Common.{◌≡◌, ℕ, List, [], Bool, true, false, ◌||◌, ◌&&◌, if◌then◌else◌, bytes_eq, Option, None, Some, Result, Ok, Err, refl, sym, ap, ap₂, ◌∙◌, subst, arith}
 use Rattle.std.specs.Prelude.{nat_lt, not, is_none, MatchResult}
 use Rattle.std.specs.Global.{Vec}
 use Rattle.std.specs.Result.{IsErrAnd}
@@ -16,7 +16,7 @@ use Rattle.ud_model.proofs.sections.Soundness.{one_run}
 use Rattle.ud_simplified.specs.FoldedTexts.{folded_text, restored_text}
 use Rattle.ud_engine.specs.declared.fault.RunFault.{RunFault}
 use Rattle.ud_engine.specs.declared.fault.RunFault.TheVariants.{Text as TextFault, Section, Read as ReadFault, Write as WriteFault}
-use Rattle.ud_engine.specs.Finishing.{RunAnswers, text_fault_of}
+use Rattle.ud_engine.specs.Finishing.{RunAnswers}
 use Rattle.ud_engine.specs.Runs.{ErrorMatchesStreams}
 use Rattle.ud_passes.specs.UntouchedTexts.{IsUntouched}
 use Rattle.ud_passes.specs.pruning.PrunedTexts.{pruned_text, edited_count}

@@ -6,7 +6,7 @@
 --
 -- Example: a directive of three lines stays, and is printed in two. It is one folded line with the
 -- mark `~`, and its lines have the marks `=`, `=` and 0.
-use Rattle.std.specs.Prelude.{◌≡◌, ℕ, ◌+◌, ◌-◌, ◌==◌, List, [], ◌∷◌, ◌++◌, min}
+use Rattle.std.specs.Prelude.{ℕ, ◌+◌, ◌-◌, ◌==◌, List, [], ◌∷◌, ◌++◌, min}
 use Rattle.std.specs.Prelude.{replicate}
 use Rattle.std.specs.Prelude.{if◌then◌else◌}
 use Rattle.std.specs.List.{count_by}

@@ -1,5 +1,5 @@
 -- Marks: the mark of a name's row.
-use Rattle.std.proofs.Common.{◌≡◌, ◌⊎◌, inl, inr, ◌<◌, ◌≤◌, ℕ, List, length, get_or, Bool, true, false, true≢false, not, ◌&&◌, ◌≢◌, None, is_some, bytes_eq, refl, sym, ◌∙◌, ap, arith}
+use Rattle.std.proofs.Common.{◌≡◌, ◌⊎◌, inl, inr, ◌<◌, ◌≤◌, ℕ, List, length, Bool, true, false, true≢false, not, ◌&&◌, ◌≢◌, None, is_some, bytes_eq, refl, sym, ◌∙◌, ap, arith}
 use Rattle.std.proofs.Math.ListN.{set, replicate}
 use Rattle.std.proofs.lemmas.Bool.{cases_lt}
 use Rattle.std.proofs.lemmas.Grind.{common_steps}
@@ -11,7 +11,7 @@ use Rattle.ud_model.specs.conditions.Table.{Argument, entry_in}
 use Rattle.ud_cond.specs.symbols.Marks.{Unmarks, is_marked, row_of}
 use Rattle.ud_cond.specs.symbols.SymbolTable.{AreSorted, IsRowOf, name_at, no_row}
 use Rattle.ud_cond.proofs.lemmas.symbols.SortedLemmas.{apart, last-row}
-use Rattle.ud_cond.proofs.lemmas.symbols.TableLemmas.{NoneFrom, entry_from-last, entry_from-none}
+use Rattle.ud_cond.proofs.lemmas.symbols.TableLemmas.{entry_from-last, entry_from-none}
 
 module _ (rows : List Argument) where
   -- the row of a name is its first row

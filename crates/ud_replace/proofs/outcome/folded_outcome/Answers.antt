@@ -1,5 +1,5 @@
 -- By the folded text, if it goes back.
-use Rattle.std.proofs.Common.{◌≡◌, ℕ, List, Bool, true, ap, sym, ◌∙◌, subst}
+use Rattle.std.proofs.Common.{ℕ, List, ap, sym, ◌∙◌, subst}
 use Rattle.ud_replace.specs.TextOutcomes.{may_fold}
 use Rattle.ud_replace.specs.MadeOutcomes.{FoldsInto, RestoresTo}
 use Rattle.ud_replace.proofs.TextLemmas.{fails_only, faulty_unfolded, restores}

@@ -1,8 +1,8 @@
 -- By the run, the pass over its output, and the marks if they are needed.
-use Rattle.std.proofs.Common.{◌≡◌, List, ℕ, Bool, [], false, true, ap, sym, ◌∙◌, ◌&&◌, subst, arith, refl}
+use Rattle.std.proofs.Common.{◌≡◌, List, ℕ, Bool, false, true, ap, sym, ◌∙◌, ◌&&◌, subst, arith}
 use Rattle.ud_model.specs.declared.settings.Settings.{Settings}
 use Rattle.ud_replace.specs.MadeOutcomes.{IsPrunedBy, has_marks}
-use Rattle.ud_replace.specs.TextOutcomes.{HasPrinted, TextOptions, IsPlanned, is_off}
+use Rattle.ud_replace.specs.TextOutcomes.{HasPrinted, is_off}
 use Rattle.ud_replace.specs.UnprunedRuns.{RunsUnpruned}
 use Rattle.ud_replace.proofs.TextLemmas.{Prints, fails_as, fails_memory, fails_printed, listing_off, printed_marked, printed_unmarked, prints, remarked}
 use Rattle.ud_replace.proofs.outcome.run_lines.Goals as goal

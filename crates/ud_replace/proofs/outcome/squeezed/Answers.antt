@@ -1,5 +1,5 @@
 -- The outcome stays, or is squeezed.
-use Rattle.std.proofs.Common.{◌≡◌, false, true, ap, sym, ◌∙◌, arith, refl}
+use Rattle.std.proofs.Common.{ap, sym, ◌∙◌, arith, refl}
 use Rattle.ud_model.specs.declared.settings.Settings.{Settings}
 use Rattle.ud_replace.specs.TextOutcomes.{is_off}
 use Rattle.ud_replace.proofs.TextLemmas.{whole, is_squeezed}

@@ -1,5 +1,5 @@
 -- By the outcome of the run, which writes nothing.
-use Rattle.std.proofs.Common.{◌≡◌, false, true, refl, ap, sym, ◌∙◌, arith}
+use Rattle.std.proofs.Common.{◌≡◌, false, true, ap, sym, ◌∙◌, arith}
 use Rattle.std.proofs.lemmas.Bool.{not-true}
 use Rattle.ud_model.specs.declared.settings.Settings.{Settings}
 use Rattle.ud_replace.specs.declared.text_plan.TextPlan.{TextPlan}

@@ -1,5 +1,5 @@
 -- By the folded text, or the text as it is.
-use Rattle.std.proofs.Common.{◌≡◌, subst, ap}
+use Rattle.std.proofs.Common.{subst}
 use Rattle.ud_replace.specs.MadeOutcomes.{IsFoldedBy, has_marks}
 use Rattle.ud_replace.specs.TextOutcomes.{StaysUnfolded, as_read, over_memory}
 use Rattle.ud_replace.proofs.TextLemmas.{fails_as, lift, lift_fails, spared_unfolded}

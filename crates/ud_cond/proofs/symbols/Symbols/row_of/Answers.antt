@@ -1,4 +1,4 @@
-use Rattle.std.proofs.Common.{None, sym, ◌∙◌, arith}
+use Rattle.std.proofs.Common.{None, arith}
 use Rattle.ud_cond.proofs.lemmas.symbols.TableLemmas.{entry_from-none}
 use Rattle.ud_cond.proofs.lemmas.symbols.FilterLemmas.{none-unmarked}
 use Rattle.ud_cond.proofs.lemmas.symbols.MarkLemmas.{row-first}

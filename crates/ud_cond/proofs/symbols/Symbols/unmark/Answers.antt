@@ -1,5 +1,5 @@
 -- By the row of the name.
-use Rattle.std.proofs.Common.{Bool, List, false, bytes_eq, subst, arith}
+use Rattle.std.proofs.Common.{false, bytes_eq, subst, arith}
 use Rattle.std.proofs.lemmas.List.{set_past}
 use Rattle.ud_cond.specs.symbols.Marks.{Unmarks}
 use Rattle.ud_cond.proofs.lemmas.symbols.MarkLemmas.{none-unmarked, row-unmarked}

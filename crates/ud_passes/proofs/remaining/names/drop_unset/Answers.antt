@@ -1,5 +1,5 @@
 -- Without a set mark, no row is marked.
-use Rattle.std.proofs.Common.{◌≡◌, ℕ, zero, suc, List, [], ◌∷◌, Bool, true, false, refl, sym, ap, ◌∙◌, arith}
+use Rattle.std.proofs.Common.{◌≡◌, ℕ, zero, suc, List, [], ◌∷◌, Bool, true, false, refl, sym, ap, ◌∙◌}
 use Rattle.std.specs.Prelude.{get_or, ◌&&◌}
 use Rattle.std.specs.List.{list_any}
 use Rattle.ud_model.specs.conditions.Conditions.{is_listed}
