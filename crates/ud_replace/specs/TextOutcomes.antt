@@ -1,5 +1,5 @@
 -- TextOutcomes: the outcome of a text: of the run over it and, if wanted, of the passes over its
--- output that remove decided operands and blank lines. A text has exactly one.
+-- output that remove decided operands and blank lines. A text has at most one.
 --
 --   TextOptions               the options of the run, and which passes go over its output
 --   IsPlanned plan o          `o` has the options of a plan
