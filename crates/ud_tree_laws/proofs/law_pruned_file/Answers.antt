@@ -1,5 +1,5 @@
 -- The pruned text is the simplified text.
-use Rattle.std.proofs.Common.{◌≡◌, ℕ, List, true, None, inr, refl, sym, subst, bytes_eq, arith}
+use Rattle.std.proofs.Common.{◌≡◌, ℕ, List, true, None, inr, refl, sym, subst}
 use Rattle.std.proofs.lemmas.Slice.Eq.{bytes_eq-Decides}
 use Rattle.ud_model.specs.text.Lines.{lines_of}
 use Rattle.ud_model.specs.answer.Outcomes.{Outcome, HasOutcome}
