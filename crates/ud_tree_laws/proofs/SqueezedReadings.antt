@@ -10,8 +10,7 @@ use Rattle.ud_model.specs.aids.ReadAs.{read_as, in_mode}
 use Rattle.ud_model.specs.sections.Tree.{Item, Nodes, closed, lines_of_nodes}
 use Rattle.ud_model.specs.sections.Items.{Options, reading_of, item_of, read_after, mode_by}
 use Rattle.ud_model.specs.answer.CommandLine.{options_of}
-use Rattle.ud_model.specs.laws.Rereading.{IsPlainC, IsTreeOf, selected_bytes}
-use Rattle.ud_model.specs.laws.Worlds.{World, selected}
+use Rattle.ud_model.specs.laws.Rereading.{IsPlainC, IsTreeOf}
 use Rattle.ud_model.specs.declared.kind.Mode.{Mode}
 use Rattle.ud_model.specs.declared.kind.Mode.TheVariants.{C}
 use Rattle.ud_model.proofs.text.LinesLemmas.{lines_exist, body-ending}
@@ -24,14 +23,15 @@ use Rattle.ud_model.proofs.output.Heeding.{ReadIn, are_read}
 use Rattle.ud_model.proofs.output.LeavesOff.{LeavesOff, HasEnd, nowhere, kept_scan, readings_last, leaves_next, leaves_anew}
 use Rattle.ud_model.proofs.output.OutputPieces.{output_lines}
 use Rattle.ud_laws.specs.output.InsertedLines.{IsBlankLine}
-use Rattle.ud_laws.specs.output.InsertedNodes.{IsSame, SelectsWithInserted}
+use Rattle.ud_laws.specs.output.InsertedNodes.{IsSame, LinesWithInserted, no_lines, same_line, inserted_line}
 use Rattle.ud_laws.proofs.output.InsertedSelected.{inserted_in_selected}
 use Rattle.ud_laws.proofs.output.InsertedText.{read_items, lines_back, items_are}
-use Rattle.ud_laws.proofs.output.InsertedTree.{items, Inserted, alike_item, put_item, weave_inserted}
+use Rattle.ud_laws.proofs.output.InsertedTree.{items, alike_item, put_item}
 use Rattle.ud_laws.proofs.output.LoneLines.{Quiet, IsQuiet, lone_scan}
 use Rattle.ud_model.proofs.output.WovenTrees.{none, same, put}
 use Rattle.ud_passes.specs.squeezing.SqueezedTexts.{is_blank_line, first_flag, later_flags, flags_in, kept_lines, squeezed_text}
-use Rattle.ud_tree_laws.specs.SqueezedLines.{LinesWithBlanks, no_lines, same_line, blank_line}
+use Rattle.ud_tree_laws.specs.SqueezedSelection.{SelectsButBlanks}
+use Rattle.ud_tree_laws.proofs.SqueezedTree.{Blanks, unweave}
 use Rattle.ud_passes.proofs.SqueezedFlags.{OnlyBlanks, only_blanks}
 
 -- 1. Both texts side by side.
@@ -123,16 +123,16 @@ module _ (o : Options) where
   later zs n (t ∷ ts) = read_after zs C (line_at n t) ∷ later (next zs (line_at n t)) (suc n) ts
 
   one_left : (ys zs : List (Item Reading)) → Beside ys zs → (fs : List Bool) (k n : ℕ) (t : List ℕ) → IsWhole t ⊎ IsUnterminated t → OnlyBlanks fs (later zs n (t ∷ [])) →
-      LinesWithBlanks (later ys k (kept_lines fs (t ∷ []))) (later zs n (t ∷ []))
+      LinesWithInserted IsBlankLine (later ys k (kept_lines fs (t ∷ []))) (later zs n (t ∷ []))
   unfolding later OnlyBlanks
   one_left ys zs b fs k n t w h = by (first_flag fs) refl
     where
-      by : (f : Bool) → first_flag fs ≡ f → LinesWithBlanks (later ys k (if f then t ∷ [] else [])) (later zs n (t ∷ []))
+      by : (f : Bool) → first_flag fs ≡ f → LinesWithInserted IsBlankLine (later ys k (if f then t ∷ [] else [])) (later zs n (t ∷ []))
       by true e = same_line (same_reading ys zs b k n t) no_lines
-      by false e = blank_line (is_blank ys zs b n t w (h.0 e)) no_lines
+      by false e = inserted_line (is_blank ys zs b n t w (h.0 e)) no_lines
 
   all_left : (ys zs : List (Item Reading)) → Beside ys zs → (fs : List Bool) (k n : ℕ) (ts : List (List ℕ)) → AreFormed ts → OnlyBlanks fs (later zs n ts) →
-      LinesWithBlanks (later ys k (kept_lines fs ts)) (later zs n ts)
+      LinesWithInserted IsBlankLine (later ys k (kept_lines fs ts)) (later zs n ts)
   unfolding later OnlyBlanks
   all_left ys zs b fs k n [] w h = no_lines
   all_left ys zs b fs k n (t ∷ []) w h = one_left ys zs b fs k n t w h
@@ -151,11 +151,11 @@ module _ (o : Options) where
       after = later (next zs (line_at n t)) (suc n) (u ∷ ts)
 
       by : (f : Bool) → first_flag fs ≡ f →
-          (Beside (next ys (line_at k t)) (next zs (line_at n t)) → LinesWithBlanks (later (next ys (line_at k t)) (suc k) kept) after) →
-          (Beside ys (next zs (line_at n t)) → LinesWithBlanks (later ys k kept) after) →
-          LinesWithBlanks (later ys k (if f then t ∷ kept else kept)) (later zs n (t ∷ u ∷ ts))
+          (Beside (next ys (line_at k t)) (next zs (line_at n t)) → LinesWithInserted IsBlankLine (later (next ys (line_at k t)) (suc k) kept) after) →
+          (Beside ys (next zs (line_at n t)) → LinesWithInserted IsBlankLine (later ys k kept) after) →
+          LinesWithInserted IsBlankLine (later ys k (if f then t ∷ kept else kept)) (later zs n (t ∷ u ∷ ts))
       by true e on over = same_line (same_reading ys zs b k n t) (on (both_next ys zs b k n t ends))
-      by false e on over = blank_line (is_blank ys zs b n t (inl w.0) (h.0 e)) (over (blank_next ys zs b n t (inl w.0) (h.0 e)))
+      by false e on over = inserted_line (is_blank ys zs b n t (inl w.0) (h.0 e)) (over (blank_next ys zs b n t (inl w.0) (h.0 e)))
 
   later_read : (zs : List (Item Reading)) (n : ℕ) (ts : List (List ℕ)) → readings_after (map reading_of zs) (map (in_mode C) (numbered_from n ts)) ≡ map reading_of zs ++ later zs n ts
   unfolding later
@@ -181,7 +181,7 @@ formed_kept fs (t ∷ u ∷ ts) f = by (first_flag fs) (formed_kept (later_flags
     by true g = formed_more t (kept_lines (later_flags fs) (u ∷ ts)) f.0 g
     by false g = g
 
-pub all_read : (ms output : List ℕ) → LinesWithBlanks (read_as C (squeezed_text ms output)) (read_as C output)
+pub all_read : (ms output : List ℕ) → LinesWithInserted IsBlankLine (read_as C (squeezed_text ms output)) (read_as C output)
 all_read ms output =
     let o : Options = options_of [] in
     let fs : List Bool = flags_in ms output in
@@ -198,31 +198,31 @@ all_read ms output =
       second = nowhere [] refl;
       rests = λ e. (nowhere [] refl, nowhere [] refl);
     } in
-    subst (λ (rs : List Reading). LinesWithBlanks rs (read_as C output)) (sym squeezed)
-    (subst (λ (ss : List Reading). LinesWithBlanks (later o [] 1 (kept_lines fs ts)) ss) (sym all)
+    subst (λ (rs : List Reading). LinesWithInserted IsBlankLine rs (read_as C output)) (sym squeezed)
+    (subst (λ (ss : List Reading). LinesWithInserted IsBlankLine (later o [] 1 (kept_lines fs ts)) ss) (sym all)
     (all_left o [] [] start fs 1 1 ts f (subst (λ (rs : List Reading). OnlyBlanks fs rs) all (only_blanks ms output))))
 
 -- 4. Trees.
 
-inserted_blanks : (o : Options) {rs ss : List Reading} → LinesWithBlanks rs ss → Inserted (items o rs) (items o ss)
+inserted_blanks : (o : Options) {rs ss : List Reading} → LinesWithInserted IsBlankLine rs ss → Blanks (items o rs) (items o ss)
 inserted_blanks o no_lines = none
 inserted_blanks o (same_line {r = r} {s = s} k w) = same (alike_item o r s k) (inserted_blanks o w)
-inserted_blanks o (blank_line {d = d} {rs = rs} {ss = ss} k w) =
-    subst (λ (z : Item Reading). Inserted (items o rs) (z ∷ items o ss)) (sym (put_item o d (inl k))) (put (inl k) (inserted_blanks o w))
+inserted_blanks o (inserted_line {d = d} {rs = rs} {ss = ss} k w) =
+    subst (λ (z : Item Reading). Blanks (items o rs) (z ∷ items o ss)) (sym (put_item o d (inl k))) (put k (inserted_blanks o w))
 
-pub selects_same : (o : Options) → IsPlainC o → (ms output : List ℕ) (us : Nodes Reading) → IsTreeOf o (squeezed_text ms output) (closed us) → (v : World Reading) →
-    SelectsWithInserted o output us v (selected_bytes v us)
-selects_same o p ms output us a v =
-    let zs : List (Item Reading) = items o (read_as C output) in
+pub selects_same : (o : Options) → IsPlainC o → (ms output : List ℕ) (ns : Nodes Reading) → IsTreeOf o output (closed ns) → SelectsButBlanks o (squeezed_text ms output) ns
+selects_same o p ms output ns a =
+    let text : List ℕ = squeezed_text ms output in
+    let ys : List (Item Reading) = items o (read_as C text) in
     let m = ap mode_by p.in_c in
-    let first : lines_of_nodes us ≡ items o (read_as C (squeezed_text ms output)) = grind (arith, items_are o p.plain.none_ignores a.read, m, read_lines a.read, a.are) in
-    let w = weave_inserted us zs (subst (λ (ys : List (Item Reading)). Inserted ys zs) (sym first) (inserted_blanks o (all_read ms output))) in record {
-      nodes = w.nodes;
+    let all : lines_of_nodes ns ≡ items o (read_as C output) = grind (arith, items_are o p.plain.none_ignores a.read, m, read_lines a.read, a.are) in
+    let u = unweave ns ys (subst (λ (zs : List (Item Reading)). Blanks ys zs) (sym all) (inserted_blanks o (all_read ms output))) in record {
+      nodes = u.nodes;
       is_tree = record {
-        items = zs;
-        read = are_read o p.plain.none_ignores zs (subst (λ (k : Mode). ReadIn o k zs) (sym m) (read_items o C (lines_of output) (by_push (lines_of output)))) (closed w.nodes) w.lines;
-        are = sym (lines_back o C (lines_of output) (by_push (lines_of output)));
+        items = ys;
+        read = are_read o p.plain.none_ignores ys (subst (λ (k : Mode). ReadIn o k ys) (sym m) (read_items o C (lines_of text) (by_push (lines_of text)))) (closed u.nodes) u.lines;
+        are = sym (lines_back o C (lines_of text) (by_push (lines_of text)));
       };
-      inserted = w.alike;
-      selects = λ x same. (selected v us, refl, inserted_in_selected v x w.alike same);
+      inserted = u.alike;
+      selects = λ v w same. inserted_in_selected IsBlankLine v w u.alike same;
     }

@@ -1,1 +1,1 @@
-pub mod SqueezedLines
+pub mod SqueezedSelection

@@ -13,14 +13,14 @@ ghost use Rattle.ud_model.specs.sections.Items.{Options};
 ghost use Rattle.ud_model.specs.sections.Tree.{Nodes, closed};
 ghost use Rattle.ud_model.specs.aids.ReadAs.{read_as};
 ghost use Rattle.ud_model.specs.declared.kind.Mode.{Mode};
-ghost use Rattle.ud_model.specs.laws.Rereading.{LinesFit, IsPlainC, IsTreeOf, selected_bytes};
-ghost use Rattle.ud_model.specs.laws.Worlds.{World};
+ghost use Rattle.ud_model.specs.laws.Rereading.{LinesFit, IsPlainC, IsTreeOf};
 ghost use Rattle.ud_simplified.specs.FoldedTexts.{folded_text};
 ghost use Rattle.ud_laws.specs.output.ProcessedFiles.{IsOutput};
 ghost use Rattle.ud_laws.specs.output.LogicalProcessing.{IsRewritten, HasNoLong};
-ghost use Rattle.ud_laws.specs.output.InsertedNodes.{SelectsWithInserted};
+ghost use Rattle.ud_laws.specs.output.InsertedLines.{IsBlankLine};
+ghost use Rattle.ud_laws.specs.output.InsertedNodes.{LinesWithInserted};
 ghost use Rattle.ud_passes.specs.squeezing.SqueezedTexts.{stays, squeezed_text};
-ghost use Rattle.ud_tree_laws.specs.SqueezedLines.{LinesWithBlanks};
+ghost use Rattle.ud_tree_laws.specs.SqueezedSelection.{SelectsButBlanks};
 ghost use Rattle.ud_replace.specs.TextOutcomes.{TextOptions, IsFolded, pruned, folded};
 
 /// The pruned output of a file is what the laws of programs are about: `law_answer_rewritten`, and
@@ -46,7 +46,7 @@ pub fn law_pruned_file()
 /// has an empty body and is scanned by itself. All other lines have the same bytes and the same
 /// scans in both texts (C11 5.1.1.2). If no line of the input went, no line of the output goes.
 pub fn law_squeezed_lines()
-    ensures lines { (ms output : List ℕ) → LinesWithBlanks
+    ensures lines { (ms output : List ℕ) → LinesWithInserted IsBlankLine
         (read_as Mode.C (squeezed_text ms output)) (read_as Mode.C output) }
     ensures same { (ms output : List ℕ) → list_all stays ms ≡ true →
         squeezed_text ms output ≡ output }
@@ -54,11 +54,10 @@ pub fn law_squeezed_lines()
 
 /// C selects the same lines of a squeezed text as of the output, but for blank lines.
 ///
-/// The options only decide conditions, without `-t`. The output has the tree of its squeezed text,
-/// with blank lines inserted. If each opener has the same truth in both, C selects the same lines
-/// of both, and blank ones of the output (C11 6.10.1p6).
+/// The options only decide conditions, without `-t`. If the output has a tree, its squeezed text
+/// has the same one without some blank lines. If each opener has the same truth in both, C selects
+/// the same lines of both, and blank ones of the output (C11 6.10.1p6).
 pub fn law_squeezed_selects()
-    ensures { (o : Options) → IsPlainC o → (ms output : List ℕ) (us : Nodes Reading) →
-        IsTreeOf o (squeezed_text ms output) (closed us) → (v : World Reading) →
-        SelectsWithInserted o output us v (selected_bytes v us) }
+    ensures { (o : Options) → IsPlainC o → (ms output : List ℕ) (ns : Nodes Reading) →
+        IsTreeOf o output (closed ns) → SelectsButBlanks o (squeezed_text ms output) ns }
 {}

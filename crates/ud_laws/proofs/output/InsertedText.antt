@@ -10,7 +10,7 @@ use Rattle.ud_model.specs.answer.Outcomes.{Outcome, HasOutcome}
 use Rattle.ud_model.specs.laws.Rereading.{NoneIgnores, IsPlain, IsTreeOf, AreRead, no_items, one_item}
 use Rattle.ud_laws.specs.output.InsertedLines.{with_blank_renumber}
 use Rattle.ud_model.specs.aids.ReadAs.{read_in, read_as}
-use Rattle.ud_laws.specs.output.InsertedNodes.{NodesWithInserted}
+use Rattle.ud_laws.specs.output.InsertedNodes.{IsInserted, NodesWithInserted}
 use Rattle.ud_model.specs.declared.kind.Mode.{Mode}
 use Rattle.ud_model.proofs.text.Pushes.{ByPush, none, push, by_push}
 use Rattle.ud_model.proofs.sections.Exists.{reading_exists}
@@ -57,7 +57,7 @@ module _ (o : Options) (n : NoneIgnores o.table) where
 -- The output's tree.
 pub inserted_in_text : (o : Options) → IsPlain o → (b n : Bool) → (b || n) ≡ true → (input : List ℕ) → {r s : Outcome} →
     HasOutcome o input r → HasOutcome (with_blank_renumber b n o) input s → (us : Nodes Reading) →
-    IsTreeOf o r.output (closed us) → (vs : Nodes Reading) × IsTreeOf o s.output (closed vs) × NodesWithInserted us vs
+    IsTreeOf o r.output (closed us) → (vs : Nodes Reading) × IsTreeOf o s.output (closed vs) × NodesWithInserted IsInserted us vs
 inserted_in_text o p b n some input {r = r} {s = s} run other us a = let m : Mode = the_mode o in
     let z = reading_exists o input in
     let c = counted_text o p b n some input z.3 run other in

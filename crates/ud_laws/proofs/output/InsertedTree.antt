@@ -4,7 +4,7 @@ use Rattle.std.proofs.lemmas.List.{map-append}
 use Rattle.ud_model.specs.text.Scans.{Reading}
 use Rattle.ud_model.specs.sections.Directives.{Content, text as text_content, content_of}
 use Rattle.ud_model.specs.conditions.Conditions.{Decision}
-use Rattle.ud_model.specs.sections.Tree.{Item, Opener, Nodes, text_line, if_line, elif_line, else_line, endif_line, lines_of_nodes}
+use Rattle.ud_model.specs.sections.Tree.{Item, Opener, Nodes, Groups, Elifs, text_line, if_line, elif_line, else_line, endif_line, lines_of_nodes}
 use Rattle.ud_model.specs.sections.Items.{Options, item_of, item_by, directive_item}
 use Rattle.ud_model.specs.answer.Printing.{Judged}
 use Rattle.ud_laws.specs.output.InsertedLines.{IsPrinted, Counted, no_line, goes, blanked, counts_on, starts_anew}
@@ -79,25 +79,35 @@ strewn_counted o (starts_anew {rs = rs} {ss = ss} c j d q r s k) =
 
 -- 2. Nodes.
 
-text_goes : (r : Reading) (z : Item Reading) → ItemAlike (text_line r) z → TextGoes NodesWithInserted GroupsWithInserted ElifsWithInserted r z
+-- The nodes with blank lines and `#line`s inserted.
+abbrev WithLines : Nodes Reading → Nodes Reading → Type 0
+WithLines ns us = NodesWithInserted IsInserted ns us
+
+abbrev GroupsWithLines : Groups Reading → Groups Reading → Type 0
+GroupsWithLines gs hs = GroupsWithInserted IsInserted gs hs
+
+abbrev ElifsWithLines : Elifs Reading → Elifs Reading → Type 0
+ElifsWithLines es fs = ElifsWithInserted IsInserted es fs
+
+text_goes : (r : Reading) (z : Item Reading) → ItemAlike (text_line r) z → TextGoes WithLines GroupsWithLines ElifsWithLines r z
 text_goes r _ (a_text {s = s} k) = (s, refl, λ ns us n. same_text n k)
 
-endif_goes : (r : Reading) (z : Item Reading) → ItemAlike (endif_line r) z → EndifGoes NodesWithInserted GroupsWithInserted ElifsWithInserted r z
+endif_goes : (r : Reading) (z : Item Reading) → ItemAlike (endif_line r) z → EndifGoes WithLines GroupsWithLines ElifsWithLines r z
 endif_goes r _ (an_endif {s = s} k) = (s, refl, λ ns us gs hs n g. same_section n g k)
 
-else_goes : (r : Reading) (z : Item Reading) → ItemAlike (else_line r) z → ElseGoes NodesWithInserted GroupsWithInserted ElifsWithInserted r z
+else_goes : (r : Reading) (z : Item Reading) → ItemAlike (else_line r) z → ElseGoes WithLines GroupsWithLines ElifsWithLines r z
 else_goes r _ (an_else {s = s} k) = (s, refl, λ es fs ns us e n. last_otherwise e k n)
 
-if_goes : (o : Opener Reading) (z : Item Reading) → ItemAlike (if_line o) z → IfGoes NodesWithInserted GroupsWithInserted ElifsWithInserted o z
+if_goes : (o : Opener Reading) (z : Item Reading) → ItemAlike (if_line o) z → IfGoes WithLines GroupsWithLines ElifsWithLines o z
 if_goes o _ (an_if {p = p} k) = (p, refl, λ ns us n. same_first k n)
 
-elif_goes : (o : Opener Reading) (z : Item Reading) → ItemAlike (elif_line o) z → ElifGoes NodesWithInserted GroupsWithInserted ElifsWithInserted o z
+elif_goes : (o : Opener Reading) (z : Item Reading) → ItemAlike (elif_line o) z → ElifGoes WithLines GroupsWithLines ElifsWithLines o z
 elif_goes o _ (an_elif {p = p} k) = (p, refl, λ es fs ns us e n. same_elif e k n)
 
 -- So items with text lines inserted are nodes with text lines inserted.
-pub weave_inserted : (ns : Nodes Reading) (zs : List (Item Reading)) → Inserted (lines_of_nodes ns) zs → Woven NodesWithInserted ns zs
+pub weave_inserted : (ns : Nodes Reading) (zs : List (Item Reading)) → Inserted (lines_of_nodes ns) zs → Woven WithLines ns zs
 weave_inserted ns zs s =
-    weave_nodes ItemAlike IsInserted NodesWithInserted GroupsWithInserted ElifsWithInserted (record {
+    weave_nodes ItemAlike IsInserted WithLines GroupsWithLines ElifsWithLines (record {
       nothing_goes = no_nodes;
       put_goes = λ ms us d k n. inserted_text n k;
       text_goes = text_goes;

@@ -17,7 +17,7 @@ use Rattle.ud_laws.specs.output.SharedLines.{OnlyDecides, RunsWithComplement, Sh
 use Rattle.ud_laws.specs.output.StrictLines.{KeepAsMuch, pieces_of}
 use Rattle.ud_laws.specs.output.InsertedLines.{KeepsNumbers, AddsNumbers, AnswersNumbered, CountsLines}
 use Rattle.ud_laws.specs.output.PresumedLines.{HasNoLineDirective, NumbersAsInput, NumbersSelected}
-use Rattle.ud_laws.specs.output.InsertedNodes.{StillSelects}
+use Rattle.ud_laws.specs.output.InsertedNodes.{IsInserted, StillSelects}
 use Rattle.ud_model.specs.declared.settings.Listing.TheVariants.{Off}
 use Rattle.ud_laws.proofs.answer.AddedOption.{WithOption, with_option}
 use Rattle.ud_laws.proofs.output.AnswerLaws.{answered_selects}
@@ -136,6 +136,6 @@ answered_selects_numbered {args = args} {more = more} {input = input} {a = a} {c
           selects = λ y same. (
             selected v us,
             answered_selects {args = args} (ran r e d) m k.plain ns us i j w v t.c_world t.truths,
-            inserted_in_selected v y z.2 same,
+            inserted_in_selected IsInserted v y z.2 same,
           );
         }

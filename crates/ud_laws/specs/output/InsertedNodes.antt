@@ -30,41 +30,43 @@ pub record IsSameOpener (o p : Opener Reading) : Type 0 where
 abbrev pub IsInserted : Reading → Type 0
 IsInserted d = IsBlankLine d ⊎ ((n : ℕ) × IsNumberLine n d)
 
-mutual
-  -- `NodesWithInserted ns ms`: `ms` are the nodes `ns` with text lines inserted.
-  pub data NodesWithInserted : Nodes Reading → Nodes Reading → Type 0 where
-    no_nodes : NodesWithInserted nothing nothing
-    same_text : {ns ms : Nodes Reading} {r s : Reading} → NodesWithInserted ns ms → IsSame r s →
-        NodesWithInserted (text ns r) (text ms s)
-    inserted_text : {ns ms : Nodes Reading} {d : Reading} → NodesWithInserted ns ms → IsInserted d →
-        NodesWithInserted ns (text ms d)
-    same_section : {ns ms : Nodes Reading} {gs hs : Groups Reading} {r s : Reading} →
-        NodesWithInserted ns ms → GroupsWithInserted gs hs → IsSame r s →
-        NodesWithInserted (section ns gs r) (section ms hs s)
+-- Below, `IsPut d` says that the line `d` may be inserted.
+module _ (IsPut : Reading → Type 0) where
+  mutual
+    -- `NodesWithInserted ns ms`: `ms` are the nodes `ns` with text lines inserted.
+    pub data NodesWithInserted : Nodes Reading → Nodes Reading → Type 0 where
+      no_nodes : NodesWithInserted nothing nothing
+      same_text : {ns ms : Nodes Reading} {r s : Reading} → NodesWithInserted ns ms → IsSame r s →
+          NodesWithInserted (text ns r) (text ms s)
+      inserted_text : {ns ms : Nodes Reading} {d : Reading} → NodesWithInserted ns ms → IsPut d →
+          NodesWithInserted ns (text ms d)
+      same_section : {ns ms : Nodes Reading} {gs hs : Groups Reading} {r s : Reading} →
+          NodesWithInserted ns ms → GroupsWithInserted gs hs → IsSame r s →
+          NodesWithInserted (section ns gs r) (section ms hs s)
 
-  -- `GroupsWithInserted gs hs`: `hs` are the groups `gs` with text lines inserted.
-  pub data GroupsWithInserted : Groups Reading → Groups Reading → Type 0 where
-    all_conditional : {es fs : Elifs Reading} → ElifsWithInserted es fs →
-        GroupsWithInserted (conditional es) (conditional fs)
-    last_otherwise : {es fs : Elifs Reading} {r s : Reading} {ns ms : Nodes Reading} →
-        ElifsWithInserted es fs → IsSame r s → NodesWithInserted ns ms →
-        GroupsWithInserted (otherwise es r ns) (otherwise fs s ms)
+    -- `GroupsWithInserted gs hs`: `hs` are the groups `gs` with text lines inserted.
+    pub data GroupsWithInserted : Groups Reading → Groups Reading → Type 0 where
+      all_conditional : {es fs : Elifs Reading} → ElifsWithInserted es fs →
+          GroupsWithInserted (conditional es) (conditional fs)
+      last_otherwise : {es fs : Elifs Reading} {r s : Reading} {ns ms : Nodes Reading} →
+          ElifsWithInserted es fs → IsSame r s → NodesWithInserted ns ms →
+          GroupsWithInserted (otherwise es r ns) (otherwise fs s ms)
 
-  -- `ElifsWithInserted es fs`: `fs` are the groups `es` with text lines inserted.
-  pub data ElifsWithInserted : Elifs Reading → Elifs Reading → Type 0 where
-    same_first : {o p : Opener Reading} {ns ms : Nodes Reading} → IsSameOpener o p →
-        NodesWithInserted ns ms → ElifsWithInserted (first o ns) (first p ms)
-    same_elif : {es fs : Elifs Reading} {o p : Opener Reading} {ns ms : Nodes Reading} →
-        ElifsWithInserted es fs → IsSameOpener o p → NodesWithInserted ns ms →
-        ElifsWithInserted (elif es o ns) (elif fs p ms)
+    -- `ElifsWithInserted es fs`: `fs` are the groups `es` with text lines inserted.
+    pub data ElifsWithInserted : Elifs Reading → Elifs Reading → Type 0 where
+      same_first : {o p : Opener Reading} {ns ms : Nodes Reading} → IsSameOpener o p →
+          NodesWithInserted ns ms → ElifsWithInserted (first o ns) (first p ms)
+      same_elif : {es fs : Elifs Reading} {o p : Opener Reading} {ns ms : Nodes Reading} →
+          ElifsWithInserted es fs → IsSameOpener o p → NodesWithInserted ns ms →
+          ElifsWithInserted (elif es o ns) (elif fs p ms)
 
--- `LinesWithInserted rs ss`: `ss` are the lines `rs` with lines inserted.
-pub data LinesWithInserted : List Reading → List Reading → Type 0 where
-  no_lines : LinesWithInserted [] []
-  same_line : {r s : Reading} {rs ss : List Reading} → IsSame r s → LinesWithInserted rs ss →
-      LinesWithInserted (r ∷ rs) (s ∷ ss)
-  inserted_line : {d : Reading} {rs ss : List Reading} → IsInserted d → LinesWithInserted rs ss →
-      LinesWithInserted rs (d ∷ ss)
+  -- `LinesWithInserted rs ss`: `ss` are the lines `rs` with lines inserted.
+  pub data LinesWithInserted : List Reading → List Reading → Type 0 where
+    no_lines : LinesWithInserted [] []
+    same_line : {r s : Reading} {rs ss : List Reading} → IsSame r s → LinesWithInserted rs ss →
+        LinesWithInserted (r ∷ rs) (s ∷ ss)
+    inserted_line : {d : Reading} {rs ss : List Reading} → IsPut d → LinesWithInserted rs ss →
+        LinesWithInserted rs (d ∷ ss)
 
 -- `SelectsWithInserted o text us v ls`: `text` has a tree of the nodes `us` with lines inserted. If
 -- each of its openers has the truth that `v` gives it in `us`, C selects lines with the bytes `ls`,
@@ -73,9 +75,10 @@ pub record SelectsWithInserted (o : Options) (text : List ℕ) (us : Nodes Readi
     (v : World Reading) (ls : List (List ℕ)) : Type 0 where
   pub nodes : Nodes Reading
   pub is_tree : IsTreeOf o text (closed nodes)
-  pub inserted : NodesWithInserted us nodes
+  pub inserted : NodesWithInserted IsInserted us nodes
   pub selects : (x : World Reading) → truths_of x nodes ≡ truths_of v us →
-      (rs : List Reading) × (map line_bytes rs ≡ ls) × LinesWithInserted rs (selected x nodes)
+      (rs : List Reading) × (map line_bytes rs ≡ ls) ×
+      LinesWithInserted IsInserted rs (selected x nodes)
 
 -- `StillSelects o input output numbered`: whatever truths C may give the conditions of the input,
 -- the text `numbered` selects the lines of the input, with lines inserted. `output` is the text
