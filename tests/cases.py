@@ -151,6 +151,7 @@ def run_in_bash(command: str, directory: Path, bin: Path, **how) -> subprocess.C
 def link_programs(directory: Path, unifdef: Path = TOP / "unifdef") -> None:
     Path(directory, "unifdef").symlink_to(unifdef)
     Path(directory, "unifdef-tree").symlink_to(TOP / "unifdef-tree")
+    Path(directory, "unifdef2").symlink_to(TOP / "packaging" / "unifdef2")
 
 
 def check(program: Path, case: Case, wanted: Answer, what: str) -> bool:

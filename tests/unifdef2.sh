@@ -170,8 +170,8 @@ options() {
   informs
 }
 
-# informs: the version and the usage, for which no program has to be there. A file may have the name
-# of a long option.
+# informs: the version, the usage and the settings of a header, for which no program has to be
+# there. A file may have the name of a long option.
 informs() {
   local option
   UNIFDEF=none gives 0 "unifdef2 $version" --version -z
@@ -183,6 +183,16 @@ informs() {
   cp in.c ./--help
   gives 1 a -DA -- --help
   rm ./--help
+  # The settings of a header, each on a line.
+  printf '#ifndef H\n#define H\n#define A 1\n#define S "x y"\n/* #undef B */\n#endif\n' > h.h
+  UNIFDEF=none gives 0 $'-DA=1\n-DS=\n-UB' -DA --settings h.h -z
+  : > h.h
+  gives 0 '' --settings h.h
+  echo '#if A' > h.h
+  refuses 'unifdef2: h.h: An #if has no #endif' --settings h.h
+  refuses 'unifdef2: none.h: Cannot be read' --settings none.h
+  refuses 'unifdef2: Option --settings needs a header' --settings
+  rm h.h
 }
 
 headers() {

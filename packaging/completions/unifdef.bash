@@ -59,7 +59,7 @@ _unifdef() {
       case $command in
         unifdef) options+=' -S' ;;
         unifdef-tree) options+=' -0 -B -d -g -h -p -q -r -V -w --help --version' ;;
-        unifdef2) options+=' -f -h -M -m -o -S -V --help --version' ;;
+        unifdef2) options+=' -f -h -M -m -o -S -V --help --settings --version' ;;
       esac
       [[ ${COMP_WORDS[COMP_CWORD]} != -* ]] || _unifdef_after '' "$options"
       ;;

@@ -62,6 +62,7 @@ if test $program = unifdef2
     $option -s M -x -d 'Replace each file, and keep it under a suffix'
     $option -s m -d 'Replace each file'
     $option -s o -r -d 'Write to a file'
+    $option -l settings -r -d 'Print the settings of a header as options'
     $option -s V -l version -d 'Print the version'
 end
 if test $program = unifdef-tree
