@@ -21,6 +21,7 @@ pub mod RunLemmas
 mod ShownLemmas
 pub mod PickLemmas
 pub mod RemainderLemmas
+pub mod SymbolLemmas
 pub mod KeepLemmas
 mod PatternSetLemmas
 mod PatternPartLemmas

@@ -2,32 +2,52 @@
 use Rattle.std.proofs.Common.{◌≡◌, ℕ, List, [], ◌∷◌, ◌++◌, Bool, true, false, not, ◌||◌, refl, sym, ◌∙◌, ap, subst, append-nil, arith}
 use Rattle.std.proofs.lemmas.Grind.{flat_map-append, common_steps}
 use Rattle.std.proofs.lemmas.Bool.{false≢true}
+use Rattle.std.proofs.lemmas.List.Elements.{filter_agree}
 use Rattle.std.proofs.lemmas.List.Folds.{list_any-append}
 use Rattle.std.proofs.lemmas.List.Sums.{sum_by-append}
-use Rattle.std.specs.Prelude.{filter, map}
+use Rattle.std.specs.Prelude.{filter, map, ◌&&◌}
 use Rattle.std.specs.List.{list_any}
+use Rattle.ud_model.specs.conditions.Conditions.{is_listed}
 use Rattle.ud_model.specs.conditions.Table.{Argument}
+use Rattle.ud_args.specs.CommandLines.{Parsed}
+use Rattle.ud_args.specs.TreeWords.{has_name, symbol_names}
 use Rattle.ud_cond.specs.symbols.Marks.{is_marked, Unmarks}
 use Rattle.ud_cond.specs.symbols.SymbolTable.{TableRepresents}
 use Rattle.ud_passes.specs.remaining.RemainingLists.{RemainingState, AddsAll, LeavesUnnamed}
 use Rattle.ud_tree.specs.declared.arguments.Arguments.{Arguments}
 use Rattle.ud_tree.specs.Reports.{ReportState, KeepsFinds}
-use Rattle.ud_tree.specs.Remainders.{mode_of, is_searched, Finds, AddsOutputs, FindsAll, has_condition, is_named_in, is_sought, unnamed_in}
+use Rattle.ud_tree.specs.Remainders.{mode_of, is_searched, Finds, AddsOutputs, FindsAll, has_condition, is_named_in, unnamed_in}
+use Rattle.ud_tree.specs.Requests.{IsArgumentsOf}
 use Rattle.ud_tree.specs.Summaries.{still_unnamed}
 use Rattle.ud_tree.specs.Unnamed.{FindsNames}
 use Rattle.ud_tree.specs.Runs.{Output, made}
 use Rattle.unifdef.proofs.HeadlineLemmas.{false_before}
+use Rattle.ud_tree.proofs.SymbolLemmas.{bytes_eq-same, symbols_listed}
 
 -- 1. The names that no text has.
 
-filter_alike : {A : Type 0} (p q : A → Bool) → ((x : A) → p x ≡ q x) → (xs : List A) → filter p xs ≡ filter q xs
-filter_alike p q h [] = refl
-filter_alike p q h (x ∷ xs) = grind (arith, h x, filter_alike p q h xs)
+filter_both : {A : Type 0} (p q : A → Bool) (xs : List A) → filter (λ x. q x && p x) xs ≡ filter p (filter q xs)
+filter_both p q [] = refl
+filter_both p q (x ∷ xs) = grind (arith, filter_both p q xs)
 
--- The names that are marked after some texts are those that no condition of them has.
-pub names_left : (table : List Argument) (args : Arguments) (texts : List (List ℕ)) (start marks : List Bool) → ((name : List ℕ) → is_marked args.plan.run.symbols start name ≡ is_sought args name) →
-    Unmarks args.plan.run.symbols (is_named_in table args texts) start marks → still_unnamed args marks ≡ unnamed_in table args texts
-names_left table args texts start marks all left = filter_alike _ _ (λ n. (grind (arith, all n, left n))) (map (λ n. n.items) args.names.items)
+-- The names that are marked after some texts are those with a row that no condition of them has.
+pub names_left : (table : List Argument) (args : Arguments) (texts : List (List ℕ)) (start marks : List Bool) →
+    ((name : List ℕ) → is_marked args.plan.run.symbols start name ≡ (not args.quiet && is_listed args.plan.run.symbols name)) →
+    Unmarks args.plan.run.symbols (is_named_in table args texts) start marks → still_unnamed args marks ≡ filter (is_listed args.plan.run.symbols) (unnamed_in table args texts)
+names_left table args texts start marks all left = let names = map (λ n. n.items) args.names.items in
+    filter_agree (is_marked args.plan.run.symbols marks) (λ n. (not args.quiet && not (is_named_in table args texts n)) && is_listed args.plan.run.symbols n) (λ n. (grind (arith, all n, left n))) names ∙ filter_both (is_listed args.plan.run.symbols) _ names
+
+-- Each symbol of a command line has a row.
+pub all_listed : (table : List Argument) (args : Arguments) (texts : List (List ℕ)) {given : List Parsed} → IsArgumentsOf given args →
+    filter (is_listed args.plan.run.symbols) (unnamed_in table args texts) ≡ unnamed_in table args texts
+all_listed table args texts {given = given} are = kept (map (λ n. n.items) args.names.items)
+    (λ n has. symbols_listed args.plan.run.symbols given n are.plan.represents (sym (ap (λ names. has_name names n) are.symbols) ∙ has))
+  where
+    kept : (names : List (List ℕ)) → ((n : List ℕ) → has_name names n ≡ true → is_listed args.plan.run.symbols n ≡ true) →
+        filter (is_listed args.plan.run.symbols) (filter (λ n. not args.quiet && not (is_named_in table args texts n)) names) ≡
+        filter (λ n. not args.quiet && not (is_named_in table args texts n)) names
+    kept [] h = refl
+    kept (n ∷ names) h = grind (arith, h n, bytes_eq-same n, kept names (λ m has. h m (grind (arith, has))))
 
 -- 2. What was found.
 

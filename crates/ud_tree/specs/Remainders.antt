@@ -4,7 +4,6 @@
 --   listing_of args   whether these mentions are counted, listed or explained
 --   mode_of args      the mode in which the lines of an output are read
 --   is_searched args  they are listed or counted
---   is_sought args name   the run looks for this name of a symbol
 --   AddsMentions args name output old new   those of an output were counted, and listed
 --   Finds args name output old new   those of an output were added to a report
 --   list_of table listing args outputs   the list of them in some outputs
@@ -12,7 +11,7 @@
 --   defined_of table args outputs   how many lines that define a symbol
 --   has_condition table args text name   a condition of the text names the symbol `name`
 --   is_named_in table args texts name   so does a condition of some text
---   unnamed_in table args texts   the names that are sought and that no condition has
+--   unnamed_in table args texts   the names of the symbols that no condition has
 --   AddsOutputs table args outputs old new   those of some outputs were counted, and listed
 --   FindsAll args texts outputs old new   those of some files were added to a report
 --
@@ -22,7 +21,6 @@
 use Rattle.std.specs.Prelude.{◌≡◌, ℕ, ◌+◌, ◌<◌, ◌^◌, List, ◌++◌, sum_by, filter, map}
 use Rattle.std.specs.List.{flat_map, list_any}
 use Rattle.std.specs.Prelude.{Bool, true, false, not, ◌&&◌, ◌||◌, if◌then◌else◌}
-use Rattle.ud_model.specs.conditions.Conditions.{is_listed}
 use Rattle.ud_model.specs.conditions.Table.{Argument}
 use Rattle.ud_model.specs.sections.Items.{mode_by}
 use Rattle.ud_model.specs.declared.kind.Mode.{Mode}
@@ -60,10 +58,6 @@ mode_of args = mode_by args.plan.run.settings.plain
 -- `is_searched args`: some option names a symbol, and its mentions are listed or counted.
 abbrev pub is_searched : Arguments → Bool
 is_searched args = args.has_symbols && (args.list_remaining || not args.quiet)
-
--- `is_sought args name`: the run looks for this name of a symbol, since it isn't quiet.
-abbrev pub is_sought : Arguments → List ℕ → Bool
-is_sought args name = not args.quiet && is_listed args.plan.run.symbols name
 
 -- `AddsMentions args name output old new`: the mentions in the output for the file `name` were
 -- counted, and listed.
@@ -107,9 +101,10 @@ module _ (table : List Argument) where
   abbrev pub is_named_in : Arguments → List (List ℕ) → List ℕ → Bool
   is_named_in args texts name = list_any (λ t. has_condition args t name) texts
 
-  -- `unnamed_in args texts`: the names that are sought and that no condition of the texts has.
+  -- `unnamed_in args texts`: the names of the symbols that no condition of the texts has. None if
+  -- the run is quiet, which doesn't look for them.
   abbrev pub unnamed_in : Arguments → List (List ℕ) → List (List ℕ)
-  unnamed_in args texts = filter (λ n. is_sought args n && not (is_named_in args texts n))
+  unnamed_in args texts = filter (λ n. not args.quiet && not (is_named_in args texts n))
       (map (λ n. n.items) args.names.items)
 
 -- `AddsOutputs table args outputs old new`: what the outputs say of a listed symbol was listed.

@@ -22,13 +22,15 @@
 --   ProcessesFiles run                      the files that the walk found are processed
 --   IsRun run                               either of these: a whole run
 --   IsClean run                             a run in which nothing failed
+--   TellsUnnamed run processes              it tells of each symbol that no condition names
 --   RunsTree job given left before after status   a whole run, and all of it was written
 --
 -- `old` and `new` are the calls before and after, the newest first. `given` and `left` are what the
 -- input has before and after. `messages` are the walk's messages, and `in_walk` is their number.
 -- `is_lost`: memory ran out for something to be shown or listed.
 use Rattle.std.specs.Prelude.{◌≡◌, ◌⊎◌, ℕ, ◌+◌, ◌≤◌, ◌<◌, ◌^◌, List, [], ◌++◌, length}
-use Rattle.std.specs.Prelude.{Bool, true, false, take, Result}
+use Rattle.std.specs.Prelude.{Bool, true, false, take, filter, Result}
+use Rattle.ud_model.specs.conditions.Conditions.{is_listed}
 use Rattle.ud_model.specs.conditions.Table.{Argument}
 use Rattle.ud_cond.specs.symbols.SymbolTable.{TableRepresents}
 use Rattle.ud_replace.specs.Calls.{Call}
@@ -178,8 +180,8 @@ pub record ShowsAll (args : Arguments) (results : List FileResult) (is_lost : Bo
 -- `Totals args results is_lost tally`: the tally has the totals over all files, if a machine can
 -- count them: of conditions whose names can't be listed, of edited conditions, of removed lines,
 -- and (unless some were lost) of conditions in all outputs that still name a symbol and of lines
--- that define one. It has exactly the symbols that no condition of all texts names, unless the run
--- is quiet or some were lost.
+-- that define one. Unless some were lost, it has the symbols that no condition of all texts names,
+-- those that have a row, as each symbol of a command line has (`TellsUnnamed`).
 pub record Totals (args : Arguments) (results : List FileResult) (is_lost : Bool)
     (tally : Tally) : Type 0 where
   pub hidden : (listed_of results).hidden < 2 ^ 64 → tally.hidden ≡ (listed_of results).hidden
@@ -197,7 +199,8 @@ pub record Totals (args : Arguments) (results : List FileResult) (is_lost : Bool
   pub none_defined : is_searched args ≡ false → tally.defined ≡ 0
   pub unnamed : is_lost ≡ false → (calls : List Argument) →
       TableRepresents args.plan.run.symbols calls →
-      tally.unnamed ≡ unnamed_in calls args (texts_of results)
+      tally.unnamed ≡
+      filter (is_listed args.plan.run.symbols) (unnamed_in calls args (texts_of results))
 
 -- `HasStatus args in_walk results is_lost faults ending`: there is one fault for each fault of the
 -- walk, each message about the output and each faulty file, if a machine can count these, and at
@@ -314,6 +317,13 @@ pub record IsClean (run : Run) : Type 0 where
   pub unfailed : run.ending.streams.failed ≡ false
   pub flushed : run.ending.streams.unflushed ≡ false
   pub heard : run.ending.streams.unheard ≡ false
+
+-- `TellsUnnamed run processes`: the last lines have exactly the symbols that no condition of all
+-- texts names, unless the run is quiet or some were lost.
+abbrev pub TellsUnnamed : (run : Run) → ProcessesFiles run → Type 0
+TellsUnnamed run processes = processes.ends.is_lost ≡ false → (calls : List Argument) →
+    TableRepresents run.args.plan.run.symbols calls → processes.ends.tally.unnamed ≡
+    unnamed_in calls run.args (texts_of processes.ends.does.results)
 
 -- `RunsTree job given left before after status`: a whole run, and all that is to be written was.
 pub record RunsTree (job : Job) (given left : Source) (before after : Moment) (status : ℕ) :

@@ -4,22 +4,24 @@
 --   FindsNames args text old new     the rows that a condition of the text names lost their marks
 --
 -- `old` and `new` are the report before and after.
-use Rattle.std.specs.Prelude.{◌≡◌, ℕ, List, [], true, false}
+use Rattle.std.specs.Prelude.{◌≡◌, ℕ, List, [], true, false, not, ◌&&◌}
+use Rattle.ud_model.specs.conditions.Conditions.{is_listed}
 use Rattle.ud_model.specs.conditions.Table.{Argument}
 use Rattle.ud_cond.specs.symbols.Marks.{is_marked, Unmarks}
 use Rattle.ud_cond.specs.symbols.SymbolTable.{TableRepresents}
 use Rattle.ud_tree.specs.declared.arguments.Arguments.{Arguments}
-use Rattle.ud_tree.specs.Remainders.{has_condition, is_sought}
+use Rattle.ud_tree.specs.Remainders.{has_condition}
 use Rattle.ud_tree.specs.Reports.{ReportState, KeepsScreen}
 
--- `Seeks args old new`: the rows of the names that are sought are marked; none was before. Nothing
--- was written.
+-- `Seeks args old new`: all rows are marked, unless the run is quiet; none was before. Nothing was
+-- written.
 pub record Seeks (args : Arguments) (old new : ReportState) : Type 0 where
   pub screen : KeepsScreen old new
   pub remaining : new.remaining ≡ old.remaining
   pub kept : old.has_lost ≡ true → new.has_lost ≡ true
   pub marks : old.unnamed ≡ [] → new.has_lost ≡ false → (name : List ℕ) →
-      is_marked args.plan.run.symbols new.unnamed name ≡ is_sought args name
+      is_marked args.plan.run.symbols new.unnamed name ≡
+      (not args.quiet && is_listed args.plan.run.symbols name)
 
 -- `FindsNames args text old new`: the rows whose names a condition of the text has lost their
 -- marks, and no other row. If memory ran out, the report records that.

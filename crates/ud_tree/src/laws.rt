@@ -2,12 +2,14 @@
 
 ghost use Rattle.std.specs.Prelude.{◌≡◌, ◌+◌, ◌<◌, ◌^◌, List, false, length};
 ghost use Rattle.std.specs.List.{All};
+ghost use Rattle.ud_args.specs.CommandLines.{Parsed};
 ghost use Rattle.ud_replace.specs.Calls.{Call};
 ghost use Rattle.ud_replace.specs.Moments.{AreTrue, Files, EachCall};
 ghost use Rattle.ud_replace.specs.TextOutcomes.{TextOptions, IsPlanned};
 ghost use Rattle.ud_tree.specs.declared.arguments.Task.TheVariants.{Replace, Diff};
+ghost use Rattle.ud_tree.specs.Requests.{IsArgumentsOf};
 ghost use Rattle.ud_tree.specs.TreeDiffs.{ShowsDiffs};
-ghost use Rattle.ud_tree.specs.TreeRuns.{Run, IsRun, IsClean};
+ghost use Rattle.ud_tree.specs.TreeRuns.{Run, IsRun, IsClean, ProcessesFiles, TellsUnnamed};
 ghost use Rattle.ud_tree.specs.TreeMoments.{TouchesNothing, TouchesFreshOrNone};
 ghost use Rattle.ud_tree.specs.TreeMoments.{AnswersAreTrue, LeavesOldOrOutput};
 
@@ -34,6 +36,14 @@ pub fn law_run_reads()
 pub fn law_run_shows()
     ensures { (o : TextOptions) (run : Run) → IsRun run → IsPlanned run.args.plan o →
         run.args.task ≡ Diff → ShowsDiffs o run }
+{}
+
+/// If the arguments are those of a command line, the last lines have exactly the symbols of its
+/// options that no condition of a file names, in the order of the options. A quiet run has none,
+/// and a run that lacked memory may have others.
+pub fn law_run_unnamed()
+    ensures { (given : List Parsed) (run : Run) → IsArgumentsOf given run.args →
+        (processes : ProcessesFiles run) → TellsUnnamed run processes }
 {}
 
 /// Whatever the answers are, only the renames of a run touch a file other than the current file's
