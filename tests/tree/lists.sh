@@ -252,7 +252,7 @@ src/b.c:4: #if !VM\' listed
   done
   run 0 -r -DOTHER=1 -UVMS2 src/none.c
   says_only '0 changed, 1 unchanged, 0 faulty' '0 conditions still name a symbol' \
-    'no condition names OTHER' 'no condition names VMS2'
+    'no condition names any of the 2 symbols'
 }
 
 # The lines of the source that define a symbol.
@@ -276,7 +276,7 @@ EOT
   after '1 -q -r -UVMS -UAMIGA src' prints "$both"
   says_only
   run 0 -DAMIGA -UVMS src/b.c
-  says_last "$one" 'no condition names AMIGA' 'no condition names VMS'
+  says_last "$one" 'no condition names any of the 2 symbols'
   after '0 -DOTHER src' says_only '0 changed, 2 unchanged, 0 faulty' 'no condition names OTHER'
   # The lines 1, 2, 10, 13, 17 and 23 define a symbol. A comment covers the lines 4 to 6, and a
   # literal the lines 7 and 8. In the lines 12, 15, 18 a comment or a backslash precedes the name.

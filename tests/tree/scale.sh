@@ -147,6 +147,8 @@ test_scale_symbols() {
   under 0 timeout 30 -- -n -K -DS "${options[@]}" src
   says_first '0 would change, 20 unchanged, 0 faulty'
   holds_that diff <(tail -n +3 "$work/err") <(seq -f 'unifdef-tree: no condition names N%.0f' 20000)
+  under 0 timeout 30 -- -n -K "${options[@]}" src
+  says_only '0 would change, 20 unchanged, 0 faulty' 'no condition names any of the 20000 symbols'
 }
 
 # An image of a disk and a text, of 400 MiB each, beside a source: -r reads neither into memory.

@@ -11,8 +11,9 @@ names_without_condition() { sed -n 's/^unifdef-tree: no condition names //p'; }
 test_unnamed_symbols() {
   alone src/n.c '#ifdef HAIKU\nx\n#endif\n'
   run 0 -U__HAIKU__ -UVMS src
-  says_only '0 changed, 1 unchanged, 0 faulty' 'no condition names __HAIKU__' \
-    'no condition names VMS'
+  says_only '0 changed, 1 unchanged, 0 faulty' 'no condition names any of the 2 symbols'
+  run 0 -U__HAIKU__ -U__HAIKU__ src
+  says_only '0 changed, 1 unchanged, 0 faulty' 'no condition names __HAIKU__'
   unnamed 'B C E D ' 1 -n -DB=2 -iUC -UE -iDD=1 -UHAIKU -DB -UE src
   unnamed 'E ' 1 -d -n -UHAIKU -UE src
   unnamed 'E ' 1 -p -n -UHAIKU -UE src

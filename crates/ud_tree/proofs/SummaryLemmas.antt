@@ -1,10 +1,12 @@
 -- Lines from their parts.
-use Rattle.std.proofs.Common.{◌≡◌, ℕ, ◌+◌, ◌<◌, ◌≤◌, List, [], ◌∷◌, ◌++◌, length, get_or, take, map, Bool, true, false, None, Some, refl, sym, ap, ◌∙◌, subst, append_assoc, append-nil, codes, decimal, ◌&&◌, arith}
+use Rattle.std.proofs.Common.{◌≡◌, ℕ, ◌+◌, ◌<◌, ◌≤◌, List, [], ◌∷◌, ◌++◌, length, get_or, take, map, Bool, true, false, None, Some, refl, sym, ap, ◌∙◌, subst, append_assoc, append-nil, codes, count_by, decimal, ◌&&◌, ◌⊎◌, inl, inr, arith}
 use Rattle.std.proofs.lemmas.Grind.{common_steps, flat_map-append}
 use Rattle.std.proofs.lemmas.List.{take_more, map-append, length-map}
 use Rattle.std.specs.List.{flat_map, slice_get}
 use Rattle.std.specs.Prelude.{string_bytes, filter, if◌then◌else◌}
 use Rattle.std.proofs.lemmas.List.Elements.{filter-append}
+use Rattle.std.proofs.lemmas.List.Recursion.{is_count_by}
+use Rattle.ud_cond.specs.symbols.Marks.{is_marked}
 use Rattle.ud_tree.specs.Reports.{ReportState, Says}
 use Rattle.ud_tree.specs.declared.arguments.Arguments.{Arguments}
 use Rattle.ud_tree.specs.declared.counts.Counts.{Counts}
@@ -12,7 +14,7 @@ use Rattle.ud_tree.specs.declared.walk.Found.{Found}
 use Rattle.ud_tree.specs.Runs.{names_of}
 use Rattle.ud_tree.specs.declared.arguments.Task.TheVariants.{Names}
 use Rattle.ud_io.specs.Streams.{Stream, Sends}
-use Rattle.ud_tree.specs.Summaries.{line_of, changes_line, files_text, hidden_text, summary, remaining_text, remaining_line, removed_line, removed_text, edited_line, edited_text, defined_line, still_unnamed, unnamed_line, unnamed_lines, others_line, others_text, unsearched_line, unsearched_text, TellsEnd}
+use Rattle.ud_tree.specs.Summaries.{line_of, changes_line, files_text, hidden_text, summary, remaining_text, remaining_line, removed_line, removed_text, edited_line, edited_text, defined_line, still_unnamed, none_named_line, unnamed_line, unnamed_lines, unnamed_text, others_line, others_text, unsearched_line, unsearched_text, TellsEnd}
 use Rattle.ud_tree.specs.Visible.{visible}
 use Rattle.ud_io.proofs.StreamLemmas.{sends_none, sends_same, sends_then}
 
@@ -94,13 +96,27 @@ pub unnamed_passed : {A : Type 0} {a b : Stream} (f : A → List ℕ) (p : List 
 unnamed_passed f p names i x within is unmarked h =
     sends_same (ap (flat_map unnamed_line) (sym (filter_push f p names i x within is ∙ ap (λ b. filter p (map f (take i names)) ++ (if b then f x ∷ [] else [])) unmarked ∙ append-nil (filter p (map f (take i names)))))) h
 
--- After a fault there are no such lines.
-pub unnamed_none : (faults : ℕ) (names : List (List ℕ)) → 0 < faults → unnamed_lines faults names ≡ []
-unnamed_none faults names some = grind (arith, common_steps)
+-- The number of marked names.
+marked_length : {A : Type 0} (f : A → List ℕ) (p : List ℕ → Bool) (xs : List A) → length (filter p (map f xs)) ≡ count_by (λ x. p (f x)) xs
+marked_length f p xs = is_count_by (λ ys. length (filter p (map f ys))) (λ x. p (f x)) refl (λ x ys. (grind (arith))) xs
 
--- Without a fault there is one for each name.
-pub unnamed_told : (faults : ℕ) (names : List (List ℕ)) → faults ≤ 0 → flat_map unnamed_line names ≡ unnamed_lines faults names
-unnamed_told faults names none = grind (arith, common_steps)
+-- All of several symbols are unnamed, or they aren't.
+pub all_unnamed : (args : Arguments) (marks : List Bool) (count : ℕ) → count ≡ count_by (λ n. is_marked args.plan.run.symbols marks n.items) args.names.items → 1 < count → count ≡ length args.names.items →
+    none_named_line count ≡ unnamed_text args (still_unnamed args marks)
+all_unnamed args marks count is several all = grind (arith, marked_length (λ n. n.items) (is_marked args.plan.run.symbols marks) args.names.items)
+
+pub some_unnamed : (args : Arguments) (marks : List Bool) (count : ℕ) → count ≡ count_by (λ n. is_marked args.plan.run.symbols marks n.items) args.names.items →
+    ((1 < count) × (count ≡ length args.names.items → ⊥)) ⊎ (count ≤ 1) → flat_map unnamed_line (still_unnamed args marks) ≡ unnamed_text args (still_unnamed args marks)
+some_unnamed args marks count is (inl (several, some)) = grind (arith, marked_length (λ n. n.items) (is_marked args.plan.run.symbols marks) args.names.items)
+some_unnamed args marks count is (inr few) = grind (arith, marked_length (λ n. n.items) (is_marked args.plan.run.symbols marks) args.names.items)
+
+-- After a fault there are no such lines.
+pub unnamed_none : (args : Arguments) (faults : ℕ) (names : List (List ℕ)) → 0 < faults → unnamed_lines args faults names ≡ []
+unnamed_none args faults names some = grind (arith, common_steps)
+
+-- Without a fault there are.
+pub unnamed_told : (args : Arguments) (faults : ℕ) (names : List (List ℕ)) → faults ≤ 0 → unnamed_text args names ≡ unnamed_lines args faults names
+unnamed_told args faults names none = grind (arith, common_steps)
 
 -- There is no file of another name.
 pub others_none : (others : List Found) → None ≡ slice_get others 0 → others_line (names_of others) ≡ []
@@ -125,6 +141,6 @@ ends_quiet args counts faults hidden others unsearched r quiet = rw quiet (recor
 -- Other runs end with the lines.
 pub ends_told : (args : Arguments) (counts : Counts) (faults hidden : ℕ) (others : List (List ℕ)) (unsearched : ℕ) {a b : ReportState} → args.quiet ≡ false →
     Says a b (summary args.task args.list_hidden counts.changed counts.unchanged faults hidden ++ removed_line counts.edits.lines ++ edited_line args.plan.prunes counts.edits.conditions ++
-    remaining_line args.list_remaining a.remaining.count ++ defined_line args.list_remaining a.remaining.defined ++ unnamed_lines faults (still_unnamed args a.unnamed) ++ others_line others ++ unsearched_line unsearched) →
+    remaining_line args.list_remaining a.remaining.count ++ defined_line args.list_remaining a.remaining.defined ++ unnamed_lines args faults (still_unnamed args a.unnamed) ++ others_line others ++ unsearched_line unsearched) →
     TellsEnd args counts faults hidden others unsearched a b
 ends_told args counts faults hidden others unsearched {a = a} {b = b} loud h = rw loud (record { told = (h.cleared, h.sent); alone = λ e. subst (λ (s : Stream). Sends s b.err _) (h.unshown e) h.sent })

@@ -12,7 +12,9 @@
 --   edited_line prunes count   how many conditions were edited
 --   still_unnamed args marks  the names whose rows are marked
 --   unnamed_line name         no condition names this symbol
---   unnamed_lines faults names   no condition names these, if every file was read
+--   none_named_line count     no condition names any of several symbols
+--   unnamed_text args names   no condition names these
+--   unnamed_lines args faults names   the same, if every file was read
 --   others_line names         how many files of other names name a symbol
 --   unsearched_line count     how many files of other names couldn't be searched
 --   last_lines args changed unchanged faults hidden edits remaining defined unnamed others
@@ -20,7 +22,7 @@
 --   TellsEnd args counts faults hidden others unsearched old new   they were written last
 --   EndsWith s bytes          the last bytes that were written to `s`
 use Rattle.std.specs.Prelude.{◌≡◌, ℕ, List, [], ◌∷◌, ◌++◌, Bool, false, not, ◌&&◌, ◌||◌, ◌==◌}
-use Rattle.std.specs.Prelude.{if◌then◌else◌, codes, decimal, length, map, filter}
+use Rattle.std.specs.Prelude.{if◌then◌else◌, codes, decimal, length, map, filter, nat_lt}
 use Rattle.std.specs.List.{flat_map}
 use Rattle.ud_cond.specs.symbols.Marks.{is_marked}
 use Rattle.ud_tree.specs.declared.arguments.Task.{Task}
@@ -123,10 +125,22 @@ still_unnamed args marks =
 abbrev pub unnamed_line : List ℕ → List ℕ
 unnamed_line name = line_of (codes "no condition names " ++ name)
 
--- `unnamed_lines faults names`: the lines of such symbols, left out if there are faults: a file
--- that wasn't read may name them.
-abbrev pub unnamed_lines : ℕ → List (List ℕ) → List ℕ
-unnamed_lines faults names = if faults == 0 then flat_map unnamed_line names else []
+-- `none_named_line count`: the line of several symbols, none of which a condition names.
+abbrev pub none_named_line : ℕ → List ℕ
+none_named_line count =
+    line_of (codes "no condition names any of the " ++ decimal count ++ codes " symbols")
+
+-- `unnamed_text args names`: the lines of the symbols that no condition names: one line, if these
+-- are all symbols of the arguments, and several.
+abbrev pub unnamed_text : Arguments → List (List ℕ) → List ℕ
+unnamed_text args names =
+    if nat_lt 1 (length names) && length names == length args.names.items
+    then none_named_line (length names) else flat_map unnamed_line names
+
+-- `unnamed_lines args faults names`: the same, left out if there are faults: a file that wasn't
+-- read may name them.
+abbrev pub unnamed_lines : Arguments → ℕ → List (List ℕ) → List ℕ
+unnamed_lines args faults names = if faults == 0 then unnamed_text args names else []
 
 -- `others_text count`: what follows the number of files of other names that name a symbol.
 abbrev pub others_text : ℕ → List ℕ
@@ -157,7 +171,7 @@ EndsWith s bytes = (mid : Stream) × Sends mid s bytes
 
 -- `last_lines args changed unchanged faults hidden edits remaining defined unnamed others
 -- unsearched`: the summary, the lines with the numbers of removed lines, of edited conditions, of
--- those that still name a symbol, and of lines that define one, the line of each symbol that no
+-- those that still name a symbol, and of lines that define one, the lines of the symbols that no
 -- condition names if there is no fault, and the lines of the files of other names: of those that
 -- name a symbol, and of those that couldn't be searched. Nothing if the run is quiet.
 abbrev pub last_lines : Arguments → ℕ → ℕ → ℕ → ℕ → Edits → ℕ → ℕ → List (List ℕ) →
@@ -167,7 +181,7 @@ last_lines args changed unchanged faults hidden edits remaining defined unnamed 
     else summary args.task args.list_hidden changed unchanged faults hidden ++
     removed_line edits.lines ++ edited_line args.plan.prunes edits.conditions ++
     remaining_line args.list_remaining remaining ++ defined_line args.list_remaining defined ++
-    unnamed_lines faults unnamed ++ others_line others ++ unsearched_line unsearched
+    unnamed_lines args faults unnamed ++ others_line others ++ unsearched_line unsearched
 
 -- `TellsEnd args counts faults hidden others unsearched old new`: the last lines were written, with
 -- these numbers and files, those of conditions and definitions, and the names that the report has

@@ -230,11 +230,11 @@ fn defined_text(listed: bool, count: usize) -> &'static [u8]
     }
 }
 
-/// Writes a line for each symbol that no condition names, unless there are faults: a file that
-/// wasn't read may name it.
+/// Writes the lines of the symbols that no condition names, unless there are faults: a file that
+/// wasn't read may name them.
 fn report_unnamed<E: Write>(job: &Job<'_>, report: &mut Report<E>, faults: usize)
     ensures { report.old.is_shown ≡ false →
-        Says report.old report.new (unnamed_lines faults
+        Says report.old report.new (unnamed_lines job.now.arguments.now faults
         (still_unnamed job.now.arguments.now report.old.unnamed)) }
 {
     if faults > 0 {

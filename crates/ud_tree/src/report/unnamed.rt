@@ -4,17 +4,19 @@
 //! has its name. A name is looked up once for each word, whatever the number of names.
 
 ghost use Rattle.std.specs.Prelude.{◌≡◌, ◌∷◌, [], false, true, filter, map};
-ghost use Rattle.std.specs.List.{flat_map};
+ghost use Rattle.std.specs.List.{count_by, flat_map};
 ghost use Rattle.ud_cond.specs.symbols.Marks.{is_marked};
 ghost use Rattle.ud_io.specs.Streams.{Sends, stream_of};
 ghost use Rattle.ud_tree.specs.Remainders.{FindsAll};
 ghost use Rattle.ud_tree.specs.Reports.{KeepsScreen, Says};
 ghost use Rattle.ud_tree.specs.Runs.{made};
-ghost use Rattle.ud_tree.specs.Summaries.{still_unnamed, unnamed_line};
+ghost use Rattle.ud_tree.specs.Summaries.{none_named_line, still_unnamed};
+ghost use Rattle.ud_tree.specs.Summaries.{unnamed_line, unnamed_text};
 ghost use Rattle.ud_tree.specs.Unnamed.{FindsNames, Seeks};
 
 use crate::job::Job;
 use crate::report::{Report, report_line};
+use itoa::Buffer;
 use std::alloc::Global;
 use std::io::Write;
 use ud_cond::Symbols;
@@ -38,6 +40,16 @@ fn report_marked<E: Write>(
             report_line(alloc, err, &[b"no condition names ", name.as_slice()]);
         }
     }
+}
+
+/// Returns how many of some names have a row whose mark is set.
+fn marked_count(symbols: &Symbols, marks: &[bool], names: &[Vec<u8>]) -> usize
+    ensures { result ≡ count_by (λ n. is_marked symbols.now marks.now n.items) names.now }
+{
+    names
+        .iter()
+        .filter(|name| symbols.is_marked(name.as_slice(), marks))
+        .count()
 }
 
 impl<E: Write> Report<E> {
@@ -103,8 +115,34 @@ impl<E: Write> Report<E> {
         self.search(job, name, output);
     }
 
-    /// Writes a line for each symbol that no condition names.
+    /// Writes a line for each symbol that no condition names. If that is true of all of several
+    /// symbols, one line says so.
     pub(crate) fn report_unnamed(&mut self, job: &Job<'_>)
+        ensures { self.old.is_shown ≡ false → Says self.old self.new
+            (unnamed_text job.now.arguments.now
+            (still_unnamed job.now.arguments.now self.old.unnamed)) }
+    {
+        let symbols = job.arguments.plan.run.symbols();
+        let names = job.arguments.names.as_slice();
+        let count = marked_count(symbols, self.unnamed.as_slice(), names);
+        if count > 1 && count == names.len() {
+            self.report_none_named(count);
+            return;
+        }
+        self.report_each_unnamed(job);
+    }
+
+    /// Writes that no condition names any of several symbols.
+    fn report_none_named(&mut self, count: usize)
+        ensures { Says self.old self.new (none_named_line count) }
+    {
+        let mut digits = Buffer::new();
+        let number = digits.format(count).as_bytes();
+        self.line(&[b"no condition names any of the ", number, b" symbols"]);
+    }
+
+    /// Writes a line for each symbol that no condition names.
+    fn report_each_unnamed(&mut self, job: &Job<'_>)
         ensures { self.old.is_shown ≡ false → Says self.old self.new
             (flat_map unnamed_line (still_unnamed job.now.arguments.now self.old.unnamed)) }
     {

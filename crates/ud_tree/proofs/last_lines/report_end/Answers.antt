@@ -23,7 +23,7 @@ returns-clause-tells g c = let a = c.report_counts.ensures in
     let same = d.keeps.remaining ∙ b.keeps.remaining ∙ a.keeps.remaining in
     ends_told c.args.job.now.arguments.now c.args.counts c.args.faults c.args.hidden _ _ c.if-job.false
     (says_then (says_then (says_then (says_then (says_then (says_then (says_then a b) d) (says_same (ap (λ (m : RemainingState). remaining_line c.args.job.now.arguments.now.list_remaining m.count) same) e))
-    (says_same (ap (λ (m : RemainingState). defined_line c.args.job.now.arguments.now.list_remaining m.defined) (e.keeps.remaining ∙ same)) f)) (says_same (ap (λ (m : List Bool). unnamed_lines c.args.faults (still_unnamed c.args.job.now.arguments.now m)) names) h)) (says_same (ap (λ (fs : List Found). others_line (names_of fs)) c.as_slice.ensures.value) o)) u)
+    (says_same (ap (λ (m : RemainingState). defined_line c.args.job.now.arguments.now.list_remaining m.defined) (e.keeps.remaining ∙ same)) f)) (says_same (ap (λ (m : List Bool). unnamed_lines c.args.job.now.arguments.now c.args.faults (still_unnamed c.args.job.now.arguments.now m)) names) h)) (says_same (ap (λ (fs : List Found). others_line (names_of fs)) c.as_slice.ensures.value) o)) u)
 
 pub returns-clause-unshown : goal.returns-clause-unshown
 returns-clause-unshown g c = λ loud.

@@ -5,7 +5,7 @@ use Rattle.ud_tree.proofs.SummaryLemmas.{unnamed_none, unnamed_told}
 use Rattle.ud_tree.proofs.last_lines.report_unnamed.Goals as goal
 
 pub returns-then-faults-gt0 : goal.returns-then-faults-gt0
-returns-then-faults-gt0 g c = λ hidden. says_same (sym (unnamed_none c.args.faults _ c.if-faults-gt0.true)) (says_none _ hidden)
+returns-then-faults-gt0 g c = λ hidden. says_same (sym (unnamed_none c.args.job.now.arguments.now c.args.faults _ c.if-faults-gt0.true)) (says_none _ hidden)
 
 pub returns : goal.returns
-returns g c = λ hidden. says_same (unnamed_told c.args.faults _ c.if-faults-gt0.false) (c.report_unnamed.ensures hidden)
+returns g c = λ hidden. says_same (unnamed_told c.args.job.now.arguments.now c.args.faults _ c.if-faults-gt0.false) (c.report_unnamed.ensures hidden)
