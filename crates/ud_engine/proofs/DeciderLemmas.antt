@@ -1,22 +1,18 @@
 -- The state of a line decider after a line.
-use Rattle.std.proofs.Common.{arith, ◌≡◌, List, [], ◌∷◌, ◌++◌, map, Result, Ok, Err, Option, Some, None, IfOk, IfErr, OnOk, OnErr}
+use Rattle.std.proofs.Common.{arith, ◌≡◌, List, [], ◌∷◌, ◌++◌, map, Result, Ok, Err, None, IfOk, OnOk}
 use Rattle.ud_model.specs.text.Lines.{Line}
 use Rattle.ud_model.specs.text.Scans.{Reading}
 use Rattle.ud_model.specs.text.Scanning.{next_reading}
-use Rattle.ud_model.specs.conditions.Table.{Argument}
 use Rattle.ud_model.specs.sections.Tree.{Item, Tree}
 use Rattle.ud_model.specs.sections.Items.{Options, reading_of, mode_after, next_item}
 use Rattle.ud_model.specs.declared.kind.Mode.{Mode}
-use Rattle.ud_model.specs.declared.verdict.Verdict.{Verdict}
 use Rattle.ud_text.specs.scan.ScannerState.{ScannerRepresents}
 use Rattle.ud_sections.specs.declared.sections.fault.SectionFault.{SectionFault}
-use Rattle.ud_sections.specs.declared.sections.step.Span.{Span}
 use Rattle.ud_sections.specs.declared.sections.step.Step.{Step}
 use Rattle.ud_sections.specs.sections.MachineState.{MachineRepresents, StepsLine, machine_fault}
-use Rattle.ud_sections.specs.sections.StepViews.{KeywordIsWithin}
 use Rattle.ud_sections.proofs.lemmas.sections.NextLemmas.{readings_more}
 use Rattle.ud_engine.specs.declared.line_decider.LineDecider.{LineDecider as TheReader}
-use Rattle.ud_engine.specs.DecidedLines.{DeciderRepresents, DecidesLine, DecidesNext, DecidesAs}
+use Rattle.ud_engine.specs.DecidedLines.{DeciderRepresents, DecidesLine}
 
 module _ (o : Options) (new : TheReader) (xs : List (Item Reading)) (t : Tree Reading) (l : Line) (mode : Mode) (m : mode ≡ mode_after o t) where
   -- The scanner and the machine have read the line.
@@ -31,14 +27,3 @@ module _ (o : Options) (new : TheReader) (xs : List (Item Reading)) (t : Tree Re
 
 pub second : (P Q : Type 0) (answer : Result Step SectionFault) → OnOk answer (P × Q) → OnOk answer Q
 second P Q answer h = grind arith
-
--- A step or a fault, as a verdict and the span of the keyword.
-pub as_verdict : (symbols : List Argument) (r new : TheReader) (l : Line) (decided : Result Step
-    SectionFault) (verdict : Option Verdict) (keyword : Span) →
-    DecidesNext symbols r new l decided →
-    IfOk decided (λ s. KeywordIsWithin s.verdict s.keyword l.body) →
-    IfErr decided (λ f. machine_fault new.machine ≡ Some f) →
-    IfOk decided (λ s. (verdict ≡ Some s.verdict) × (keyword ≡ s.keyword)) →
-    OnErr decided (verdict ≡ None) → DecidesAs symbols r new l keyword verdict
-as_verdict symbols r new l (Ok s) verdict keyword h i fault (v, k) none = rw (v, k) (h, i)
-as_verdict symbols r new l (Err f) verdict keyword h i fault ok none = rw none (f, fault, h)

@@ -6,13 +6,12 @@
 --   DecidesNext symbols r new l result   the same for any items, or the line is faulty
 --   line_with body ending number      the line with these parts
 --   CanBeDecided room l               a line within the limits, and with as many bytes
---   DecidesAs symbols r new l keyword verdict   `DecidesNext`, by a verdict and the keyword's span
 --   consumed lines bytes              a line buffer once these bytes are consumed
 --   AreText xs                        these items are text lines
 --   DecidesBulk o r xs t ls verdict   a decider has also read these text lines
 --   DecidesText r new lines bytes     the same for any items
-use Rattle.std.specs.Prelude.{◌≡◌, ℕ, suc, ◌+◌, ◌≤◌, List, [], ◌∷◌, ◌++◌, length, map, Option}
-use Rattle.std.specs.Prelude.{Some, None, Result, Ok, Err, MatchResult, IsTrue}
+use Rattle.std.specs.Prelude.{◌≡◌, ℕ, suc, ◌+◌, ◌≤◌, List, [], ◌∷◌, ◌++◌, length, map}
+use Rattle.std.specs.Prelude.{None, Result, MatchResult, IsTrue}
 use Rattle.ud_model.specs.text.Lines.{Line, NoNewline, is_ending, whole_lines, numbered_from}
 use Rattle.ud_model.specs.text.Scans.{Reading}
 use Rattle.ud_model.specs.sections.Directives.{text, content_of}
@@ -32,8 +31,7 @@ use Rattle.ud_sections.specs.sections.MachineState.{MachineRepresents, machine_f
 use Rattle.ud_sections.specs.sections.Transitions.{text_verdict}
 use Rattle.ud_sections.specs.printing.PrinterOutputs.{judged_text}
 use Rattle.ud_sections.specs.sections.Limits.{IsWithinLimits}
-use Rattle.ud_sections.specs.sections.StepViews.{as_span, KeywordIsWithin}
-use Rattle.ud_sections.specs.declared.sections.step.Span.{Span}
+use Rattle.ud_sections.specs.sections.StepViews.{as_span}
 use Rattle.ud_sections.specs.declared.sections.step.Step.{Step}
 use Rattle.ud_sections.specs.declared.sections.machine.Machine.{Machine}
 use Rattle.ud_engine.specs.declared.line_decider.LineDecider.{LineDecider}
@@ -82,17 +80,6 @@ pub record CanBeDecided (room : ℕ) (l : Line) : Type 0 where
   pub within : IsWithinLimits l
   pub one_line : NoNewline l.body
   pub ended : IsTrue (is_ending l.ending)
-
--- `DecidesAs symbols r new l keyword verdict`: `DecidesNext` with the step of this verdict and this
--- span of the keyword (within the body if the directive is edited); or with the fault of the
--- machine of `new`.
-abbrev pub DecidesAs : List Argument → LineDecider → LineDecider → Line → Span → Option Verdict →
-    Type 0
-DecidesAs symbols r new l keyword (Some verdict) =
-    DecidesNext symbols r new l (Ok (record { verdict = verdict; keyword = keyword })) ×
-    KeywordIsWithin verdict keyword l.body
-DecidesAs symbols r new l keyword None =
-    (f : SectionFault) × (machine_fault new.machine ≡ Some f) × DecidesNext symbols r new l (Err f)
 
 -- `consumed lines bytes`: `lines` after also consuming the whole lines of `bytes`.
 abbrev pub consumed : LinesState → List ℕ → LinesState

@@ -27,7 +27,6 @@ ghost use Rattle.ud_engine.specs.Finishing.{PrintsRest, without_fault};
 ghost use Rattle.ud_engine.specs.Advancing.{IsCursor};
 
 use crate::fault::RunFault;
-use crate::line_decider::LineRoom;
 use crate::line_processor::LineProcessor;
 use crate::output::Output;
 use crate::plan_source::PlanSource;
@@ -133,8 +132,8 @@ pub struct EngineOf<P: PlanSource, S: Show, H: LineBuffer = LongLineBuffer> {
     lines: Lines<H>,
     /// The processor that decides and prints the lines.
     printer: LineProcessor<S>,
-    /// The buffers for deciding a line.
-    room: LineRoom<H>,
+    /// The last line, masked, if that differs from the line.
+    masked: H,
     /// The pending output.
     output: Output,
     /// The fault after which the engine is fused.
@@ -202,7 +201,7 @@ impl<'p, S: Show, H: LineBuffer> EngineOf<&'p Plan, S, H> {
             plan: engine.plan,
             lines: engine.lines.into_long(),
             printer: engine.printer,
-            room: LineRoom::new(),
+            masked: LongLineBuffer::new(),
             output: engine.output,
             fault: engine.fault,
         }
@@ -230,7 +229,7 @@ impl<P: PlanSource, S: Show, H: LineBuffer> EngineOf<P, S, H> {
             plan,
             lines: Lines::with_buffer(TEXT_LINES),
             printer: LineProcessor::new(settings, show),
-            room: LineRoom::new(),
+            masked: H::new(),
             output: Output::new(),
             fault: None,
         }
@@ -333,7 +332,7 @@ impl<P: PlanSource, S: Show, H: LineBuffer> EngineOf<P, S, H> {
             &mut self.lines,
             &mut self.printer,
             self.plan.symbols(),
-            &mut self.room,
+            &mut self.masked,
             &mut self.output,
             out,
         );
@@ -502,9 +501,9 @@ impl<P: PlanSource, S: Show, H: LineBuffer> EngineOf<P, S, H> {
         };
         let end = cursor.pos + (line.body.len() + line.ending.len());
         let printer = &mut self.printer;
-        let room = &mut self.room;
+        let masked = &mut self.masked;
         let symbols = self.plan.symbols();
-        let put = match printer.print(&line, symbols, room, pending, &mut self.output, out) {
+        let put = match printer.print(&line, symbols, masked, pending, &mut self.output, out) {
             Ok(put) => put,
             Err(fault) => return Err(RunFault::Section(fault)),
         };
@@ -558,7 +557,7 @@ impl<P: PlanSource, S: Show, H: LineBuffer> EngineOf<P, S, H> {
         let printed = self.printer.put_line(
             &self.lines.line(),
             self.plan.symbols(),
-            &mut self.room,
+            &mut self.masked,
             pending,
             &mut self.output,
             out,
@@ -579,7 +578,7 @@ fn print_last_line<S: Show, H: LineBuffer, W: Write>(
     lines: &mut Lines<H>,
     printer: &mut LineProcessor<S>,
     symbols: &Symbols,
-    room: &mut LineRoom<H>,
+    masked: &mut H,
     output: &mut Output,
     out: &mut Watched<W>,
 ) -> Result<(), RunFault>
@@ -594,7 +593,7 @@ fn print_last_line<S: Show, H: LineBuffer, W: Write>(
     match lines.close() {
         Err(fault) => Err(RunFault::Text(fault)),
         Ok(false) => Ok(()),
-        Ok(true) => match printer.put_line(&lines.line(), symbols, room, &[], output, out) {
+        Ok(true) => match printer.put_line(&lines.line(), symbols, masked, &[], output, out) {
             Err(fault) => Err(RunFault::Section(fault)),
             Ok(()) => {
                 output.flush(out);

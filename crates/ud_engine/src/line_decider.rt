@@ -1,7 +1,6 @@
 //! Deciding lines, one after another, by a scanner and a machine.
 
-ghost use Rattle.std.specs.Prelude.{◌≡◌, ◌≤◌, ◌++◌, [], ℕ, List, length, take, IfOk, false, OnErr};
-ghost use Rattle.std.specs.Prelude.{IfSome, IfNone, IfErr, Some, None, true, is_some, codes};
+ghost use Rattle.std.specs.Prelude.{◌≡◌, ◌≤◌, ◌++◌, [], ℕ, List, length, take, IfOk, false};
 ghost use Rattle.ud_model.specs.text.Lines.{NoNewline};
 ghost use Rattle.ud_model.specs.text.Scans.{Reading};
 ghost use Rattle.ud_model.specs.sections.Tree.{Item, Tree, closed, nothing};
@@ -14,10 +13,10 @@ ghost use Rattle.ud_text.specs.bulk.BulkScanning.{AreWholeLines};
 ghost use Rattle.ud_text.specs.lines.Consuming.{CanConsume};
 ghost use Rattle.ud_sections.specs.sections.Limits.{IsWithinLimits};
 ghost use Rattle.ud_sections.specs.sections.StepViews.{HoldsKeyword};
-ghost use Rattle.ud_sections.specs.sections.MachineState.{end_fault_of, machine_fault};
+ghost use Rattle.ud_sections.specs.sections.MachineState.{end_fault_of};
 ghost use Rattle.ud_sections.specs.sections.Transitions.{text_policy_of};
 ghost use Rattle.ud_engine.specs.DecidedLines.{DeciderRepresents, DecidesNext, DecidesText};
-ghost use Rattle.ud_engine.specs.DecidedLines.{CanBeDecided, DecidesAs, consumed, line_with};
+ghost use Rattle.ud_engine.specs.DecidedLines.{CanBeDecided, consumed, line_with};
 ghost use Rattle.ud_engine.specs.NameListing.{ListsNames};
 
 use crate::listing::append_names;
@@ -25,28 +24,9 @@ use crate::output::Output;
 use std::io::Write;
 use ud_cond::Symbols;
 use ud_io::Watched;
-use ud_model::{Settings, Verdict};
-use ud_sections::{Lister, Machine, SectionFault, Span, Step, TextPolicy, directive};
+use ud_model::Settings;
+use ud_sections::{Lister, Machine, SectionFault, Step, TextPolicy, directive};
 use ud_text::{Line, LineBuffer, Lines, Scanner};
-
-/// Buffers that a decider needs for a line, but doesn't keep.
-#[derive(Drop)]
-pub(crate) struct LineRoom<H> {
-    /// The span of the last line's keyword.
-    keyword: Span,
-    /// The last line, masked, if its own bytes weren't borrowed.
-    masked: H,
-}
-
-impl<H: LineBuffer> LineRoom<H> {
-    /// Returns the buffers before the first line.
-    pub(crate) fn new() -> LineRoom<H> {
-        LineRoom {
-            keyword: Span { at: 0, len: 0 },
-            masked: H::new(),
-        }
-    }
-}
 
 /// A scanner and a machine, which decide the lines of a text in order.
 #[derive(Drop)]
@@ -67,166 +47,27 @@ impl LineDecider {
         }
     }
 
-    /// Decides the next line. Returns its step.
-    ///
-    /// Every section has an `#endif`, and many have an `#else`. Their body is a constant here, so
-    /// the compiler knows their scan and directive. The parts of the line and the result go in
-    /// registers, so the line and its step mostly need no memory.
+    /// Decides the next line. Returns its step. The masked line is written to `masked`, unless it is
+    /// the line itself.
     ///
     /// # Errors
     /// Fails if the line is faulty.
-    #[inline(always)]
     pub(crate) fn decide<H: LineBuffer>(
         &mut self,
         line: &Line<'_>,
         symbols: &Symbols,
-        room: &mut LineRoom<H>,
+        masked: &mut H,
     ) -> Result<Step, SectionFault>
         requires { CanBeDecided H.CAPACITY (as_line line.now) }
         ensures decides { DecidesNext symbols.now self.old self.new (as_line line.now) result }
-        ensures cursor { IfOk result (λ s. HoldsKeyword s line.now) }
+        ensures keyword { IfOk result (λ s. HoldsKeyword s line.now) }
     {
-        match self.decide_by_body(line, symbols, room) {
-            Some(verdict) => Ok(Step {
-                verdict,
-                keyword: room.keyword,
-            }),
-            None => Err(self.fault()),
+        if let Some(scan) = self.scanner.read_unmarked(line) {
+            return self.machine.step(&scan, line, symbols);
         }
-    }
-
-    /// Decides the next line, as `decide_endif` does, with the function for its body.
-    #[inline(always)]
-    fn decide_by_body<H: LineBuffer>(
-        &mut self,
-        line: &Line<'_>,
-        symbols: &Symbols,
-        room: &mut LineRoom<H>,
-    ) -> Option<Verdict>
-        requires { CanBeDecided H.CAPACITY (as_line line.now) }
-        ensures { DecidesAs symbols.now self.old self.new (as_line line.now) room.new.keyword
-            result }
-    {
-        if is_endif(line.body) {
-            return self.decide_endif(line.ending, line.number, symbols, room);
-        }
-        if is_else(line.body) {
-            return self.decide_else(line.ending, line.number, symbols, room);
-        }
-        self.decide_any(line.body, line.ending, line.number, symbols, room)
-    }
-
-    /// Decides the next line, an `#endif`. Returns its verdict, and sets the span of its keyword.
-    /// Returns `None` if the line is faulty; the machine then has the fault.
-    #[inline(never)]
-    fn decide_endif<H: LineBuffer>(
-        &mut self,
-        ending: &[u8],
-        number: u32,
-        symbols: &Symbols,
-        room: &mut LineRoom<H>,
-    ) -> Option<Verdict>
-        requires { CanBeDecided H.CAPACITY (line_with (codes "#endif") ending.now number) }
-        ensures { DecidesAs symbols.now self.old self.new
-            (line_with (codes "#endif") ending.now number) room.new.keyword result }
-    {
-        self.decide_parts(b"#endif", ending, number, symbols, room)
-    }
-
-    /// Decides the next line, an `#else`, as `decide_endif` does.
-    #[inline(never)]
-    fn decide_else<H: LineBuffer>(
-        &mut self,
-        ending: &[u8],
-        number: u32,
-        symbols: &Symbols,
-        room: &mut LineRoom<H>,
-    ) -> Option<Verdict>
-        requires { CanBeDecided H.CAPACITY (line_with (codes "#else") ending.now number) }
-        ensures { DecidesAs symbols.now self.old self.new
-            (line_with (codes "#else") ending.now number) room.new.keyword result }
-    {
-        self.decide_parts(b"#else", ending, number, symbols, room)
-    }
-
-    /// Decides the next line, whatever its body is, as `decide_endif` does.
-    #[inline(never)]
-    fn decide_any<H: LineBuffer>(
-        &mut self,
-        body: &[u8],
-        ending: &[u8],
-        number: u32,
-        symbols: &Symbols,
-        room: &mut LineRoom<H>,
-    ) -> Option<Verdict>
-        requires { CanBeDecided H.CAPACITY (line_with body.now ending.now number) }
-        ensures { DecidesAs symbols.now self.old self.new
-            (line_with body.now ending.now number) room.new.keyword result }
-    {
-        self.decide_parts(body, ending, number, symbols, room)
-    }
-
-    /// Decides the next line as `decide_endif` does. Usually its scan is known at once.
-    #[inline(always)]
-    fn decide_parts<H: LineBuffer>(
-        &mut self,
-        body: &[u8],
-        ending: &[u8],
-        number: u32,
-        symbols: &Symbols,
-        room: &mut LineRoom<H>,
-    ) -> Option<Verdict>
-        requires { CanBeDecided H.CAPACITY (line_with body.now ending.now number) }
-        ensures { DecidesAs symbols.now self.old self.new
-            (line_with body.now ending.now number) room.new.keyword result }
-    {
-        let line = Line {
-            body,
-            ending,
-            number,
-        };
-        match self.scanner.read_unmarked(&line) {
-            Some(scan) => verdict_of(self.machine.step(&scan, &line, symbols), &mut room.keyword),
-            None => self.decide_marked(body, ending, number, symbols, room),
-        }
-    }
-
-    /// Decides any next line, as `decide_endif` does.
-    #[inline(never)]
-    fn decide_marked<H: LineBuffer>(
-        &mut self,
-        body: &[u8],
-        ending: &[u8],
-        number: u32,
-        symbols: &Symbols,
-        room: &mut LineRoom<H>,
-    ) -> Option<Verdict>
-        requires { CanBeDecided H.CAPACITY (line_with body.now ending.now number) }
-        ensures { DecidesAs symbols.now self.old self.new
-            (line_with body.now ending.now number) room.new.keyword result }
-    {
-        let line = Line {
-            body,
-            ending,
-            number,
-        };
         let mode = self.machine.mode();
-        let scan = self.scanner.read_into(mode, &line, &mut room.masked);
-        let decided = self.machine.step(&scan, &line, symbols);
-        verdict_of(decided, &mut room.keyword)
-    }
-
-    /// Returns the fault of the last line.
-    #[cold]
-    #[inline(never)]
-    fn fault(&self) -> SectionFault
-        requires { is_some (machine_fault self.now.machine) ≡ true }
-        ensures { machine_fault self.now.machine ≡ Some result }
-    {
-        match self.machine.finish(false) {
-            Err(fault) => fault,
-            Ok(()) => unreachable!(),
-        }
+        let scan = self.scanner.read_into(mode, line, masked);
+        self.machine.step(&scan, line, symbols)
     }
 
     /// Decides the next line, and appends `pending` and the line's names.
@@ -240,7 +81,7 @@ impl LineDecider {
         ending: &[u8],
         number: u32,
         symbols: &Symbols,
-        room: &mut LineRoom<H>,
+        masked: &mut H,
         lister: &mut Lister,
         pending: &[u8],
         output: &mut Output,
@@ -257,7 +98,7 @@ impl LineDecider {
             number,
         };
         let Some(scan) = self.scanner.read_unmarked(line) else {
-            return self.list_names_marked(line, symbols, room, lister, pending, output, out);
+            return self.list_names_marked(line, symbols, masked, lister, pending, output, out);
         };
         let content = directive(&scan);
         if let Err(reason) = self.machine.step_by(&scan, content, line, symbols) {
@@ -280,7 +121,7 @@ impl LineDecider {
         &mut self,
         line: &Line<'_>,
         symbols: &Symbols,
-        room: &mut LineRoom<H>,
+        masked: &mut H,
         lister: &mut Lister,
         pending: &[u8],
         output: &mut Output,
@@ -291,7 +132,7 @@ impl LineDecider {
             lister.old lister.new pending.now output.old output.new out.old out.new result }
     {
         let mode = self.machine.mode();
-        let scan = self.scanner.read_into(mode, line, &mut room.masked);
+        let scan = self.scanner.read_into(mode, line, masked);
         let content = directive(&scan);
         if let Err(fault) = self.machine.step_by(&scan, content, line, symbols) {
             return Err(fault);
@@ -342,36 +183,5 @@ impl LineDecider {
             DeciderRepresents o self.now xs t → end_fault_of result ≡ end_fault xs t }
     {
         self.machine.finish(self.scanner.in_comment())
-    }
-}
-
-/// Returns whether a line's body is `#endif` alone.
-#[inline(always)]
-fn is_endif(body: &[u8]) -> bool
-    ensures { result ≡ true → body.now ≡ codes "#endif" }
-{
-    matches!(body, b"#endif")
-}
-
-/// Returns whether a line's body is `#else` alone.
-#[inline(always)]
-fn is_else(body: &[u8]) -> bool
-    ensures { result ≡ true → body.now ≡ codes "#else" }
-{
-    matches!(body, b"#else")
-}
-
-/// Returns the verdict of a step, and sets the span of its keyword; `None` for a fault.
-#[inline(always)]
-fn verdict_of(decided: Result<Step, SectionFault>, keyword: &mut Span) -> Option<Verdict>
-    ensures ok { IfOk decided (λ s. (result ≡ Some s.verdict) × (keyword.new ≡ s.keyword)) }
-    ensures err { OnErr decided (result ≡ None) }
-{
-    match decided {
-        Ok(step) => {
-            *keyword = step.keyword;
-            Some(step.verdict)
-        }
-        Err(_) => None,
     }
 }

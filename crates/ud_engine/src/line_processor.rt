@@ -24,7 +24,7 @@ ghost use Rattle.ud_engine.specs.ProcessedLines.{ShowsNext, judged_as};
 ghost use Rattle.ud_engine.specs.DecidedLines.{consumed, line_with};
 ghost use Rattle.ud_io.specs.Streams.{stream_of};
 
-use crate::line_decider::{LineDecider, LineRoom};
+use crate::line_decider::LineDecider;
 use crate::output::Output;
 use std::io::Write;
 use ud_cond::Symbols;
@@ -94,7 +94,7 @@ impl<S: Show> LineProcessor<S> {
         &mut self,
         line: &Line<'_>,
         symbols: &Symbols,
-        room: &mut LineRoom<H>,
+        masked: &mut H,
         pending: &[u8],
         output: &mut Output,
         out: &mut Watched<W>,
@@ -114,7 +114,7 @@ impl<S: Show> LineProcessor<S> {
                     line.ending,
                     line.number,
                     symbols,
-                    room,
+                    masked,
                     lister,
                     pending,
                     output,
@@ -123,7 +123,7 @@ impl<S: Show> LineProcessor<S> {
                 Ok(true)
             }
             None => {
-                let step = self.decider.decide(line, symbols, room)?;
+                let step = self.decider.decide(line, symbols, masked)?;
                 let shown = append_line(&mut self.printer, line, &step, pending, output, out);
                 self.differs |= shown;
                 Ok(shown)
@@ -140,7 +140,7 @@ impl<S: Show> LineProcessor<S> {
         &mut self,
         line: &Line<'_>,
         symbols: &Symbols,
-        room: &mut LineRoom<H>,
+        masked: &mut H,
         pending: &[u8],
         output: &mut Output,
         out: &mut Watched<W>,
@@ -153,7 +153,7 @@ impl<S: Show> LineProcessor<S> {
             result }
         ensures unchanged { OnErr result ((out.new ≡ out.old) × (output.new ≡ output.old)) }
     {
-        let shown = self.print(line, symbols, room, pending, output, out)?;
+        let shown = self.print(line, symbols, masked, pending, output, out)?;
         if !shown {
             output.append_parts(&[pending, line.body, line.ending], out);
         }
