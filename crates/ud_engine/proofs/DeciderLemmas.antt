@@ -1,8 +1,8 @@
 -- The state of a line decider after a line.
 use Rattle.std.proofs.Common.{arith, ◌≡◌, List, [], ◌∷◌, ◌++◌, map, Result, Ok, Err, None, IfOk, OnOk}
 use Rattle.ud_model.specs.text.Lines.{Line}
-use Rattle.ud_model.specs.text.Scans.{Reading}
-use Rattle.ud_model.specs.text.Scanning.{next_reading}
+use Rattle.ud_model.specs.text.Scans.{Scan, Reading}
+use Rattle.ud_model.specs.text.Scanning.{next_reading, scan_after}
 use Rattle.ud_model.specs.sections.Tree.{Item, Tree}
 use Rattle.ud_model.specs.sections.Items.{Options, reading_of, mode_after, next_item}
 use Rattle.ud_model.specs.declared.kind.Mode.{Mode}
@@ -12,18 +12,20 @@ use Rattle.ud_sections.specs.declared.sections.step.Step.{Step}
 use Rattle.ud_sections.specs.sections.MachineState.{MachineRepresents, StepsLine, machine_fault}
 use Rattle.ud_sections.proofs.lemmas.sections.NextLemmas.{readings_more}
 use Rattle.ud_engine.specs.declared.line_decider.LineDecider.{LineDecider as TheReader}
-use Rattle.ud_engine.specs.DecidedLines.{DeciderRepresents, DecidesLine}
+use Rattle.ud_engine.specs.DecidedLines.{HasScanned, DecidesLine}
 
-module _ (o : Options) (new : TheReader) (xs : List (Item Reading)) (t : Tree Reading) (l : Line) (mode : Mode) (m : mode ≡ mode_after o t) where
-  -- The scanner and the machine have read the line.
-  pub has_next : (u : Tree Reading) → MachineRepresents new.machine o (xs ++ next_item o xs t l ∷ []) u → machine_fault new.machine ≡ None →
-      ScannerRepresents new.scanner (map reading_of xs ++ next_reading (map reading_of xs) mode l ∷ []) → DeciderRepresents o new (xs ++ next_item o xs t l ∷ []) u
-  has_next u read no_fault carries = grind (arith, readings_more)
+module _ (o : Options) (new : TheReader) (xs : List (Item Reading)) (t : Tree Reading) (l : Line) where
+  -- The scanner has read the line.
+  pub scans_one : (scan : Scan) (mode : Mode) → mode ≡ mode_after o t → MachineRepresents new.machine o xs t → machine_fault new.machine ≡ None →
+      scan ≡ scan_after (map reading_of xs) mode l → ScannerRepresents new.scanner (map reading_of xs ++ next_reading (map reading_of xs) mode l ∷ []) →
+      HasScanned o new xs t l scan
+  scans_one scan mode m read no_fault scanned carries = grind (arith, readings_more)
 
+  -- The machine has read it too.
   pub reads_one : (answer : Result Step SectionFault) → IfOk answer (StepsLine new.machine o xs t l) → OnOk answer (machine_fault new.machine ≡ None) →
-      ScannerRepresents new.scanner (map reading_of xs ++ next_reading (map reading_of xs) mode l ∷ []) → IfOk answer (DecidesLine o new xs t l)
+      ScannerRepresents new.scanner (map reading_of (xs ++ next_item o xs t l ∷ [])) → IfOk answer (DecidesLine o new xs t l)
   reads_one (Err f) a b c = tt
-  reads_one (Ok s) a b c = grind (arith, has_next)
+  reads_one (Ok s) a b c = grind arith
 
 pub second : (P Q : Type 0) (answer : Result Step SectionFault) → OnOk answer (P × Q) → OnOk answer Q
 second P Q answer h = grind arith

@@ -1,6 +1,6 @@
 -- Lemmas on the engine. These matter; the others serve them:
 --
---   DeciderLemmas.has_next       a decider represents one line more
+--   DeciderLemmas.reads_one      a decider has read one line more
 --   SkipLemmas.reads_all         or many text lines more
 --   ProcessorLemmas.shows_line   the output for a line
 --   BulkPrintLemmas.prints_run   and for many text lines

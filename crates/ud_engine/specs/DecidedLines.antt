@@ -1,10 +1,9 @@
 -- DecidedLines: the state of a line decider.
 --
---   decider_of scanner machine        the decider with this scanner and this machine
 --   DeciderRepresents o r xs t        a decider has read these items
+--   HasScanned o r xs t l scan        its scanner has also read the line `l`
 --   DecidesLine o r xs t l step       it has also read this line
 --   DecidesNext symbols r new l result   the same for any items, or the line is faulty
---   line_with body ending number      the line with these parts
 --   CanBeDecided room l               a line within the limits, and with as many bytes
 --   consumed lines bytes              a line buffer once these bytes are consumed
 --   AreText xs                        these items are text lines
@@ -13,19 +12,20 @@
 use Rattle.std.specs.Prelude.{◌≡◌, ℕ, suc, ◌+◌, ◌≤◌, List, [], ◌∷◌, ◌++◌, length, map}
 use Rattle.std.specs.Prelude.{None, Result, MatchResult, IsTrue}
 use Rattle.ud_model.specs.text.Lines.{Line, NoNewline, is_ending, whole_lines, numbered_from}
-use Rattle.ud_model.specs.text.Scans.{Reading}
+use Rattle.ud_model.specs.text.Scans.{Scan, Reading}
+use Rattle.ud_model.specs.text.Scanning.{scan_after}
 use Rattle.ud_model.specs.sections.Directives.{text, content_of}
 use Rattle.ud_model.specs.sections.Faults.{FaultOf}
 use Rattle.ud_model.specs.conditions.Table.{Argument}
 use Rattle.ud_model.specs.sections.Tree.{Item, Tree}
 use Rattle.ud_model.specs.sections.Pruning.{Mark, marks}
-use Rattle.ud_model.specs.sections.Items.{Options, reading_of, line_of, next_item}
+use Rattle.ud_model.specs.sections.Items.{Options, reading_of, mode_after, line_of, next_item}
 use Rattle.ud_model.specs.answer.Printing.{judged_line, judged_lines}
 use Rattle.ud_model.specs.declared.verdict.Verdict.{Verdict}
 use Rattle.ud_cond.specs.symbols.SymbolTable.{TableRepresents}
 use Rattle.ud_sections.specs.sections.SectionFaults.{fault_of}
 use Rattle.ud_sections.specs.declared.sections.fault.SectionFault.{SectionFault}
-use Rattle.ud_text.specs.scan.ScannerState.{ScannerState, ScannerRepresents}
+use Rattle.ud_text.specs.scan.ScannerState.{ScannerRepresents}
 use Rattle.ud_text.specs.lines.LinesState.{LinesState}
 use Rattle.ud_sections.specs.sections.MachineState.{MachineRepresents, machine_fault}
 use Rattle.ud_sections.specs.sections.Transitions.{text_verdict}
@@ -33,12 +33,7 @@ use Rattle.ud_sections.specs.printing.PrinterOutputs.{judged_text}
 use Rattle.ud_sections.specs.sections.Limits.{IsWithinLimits}
 use Rattle.ud_sections.specs.sections.StepViews.{as_span}
 use Rattle.ud_sections.specs.declared.sections.step.Step.{Step}
-use Rattle.ud_sections.specs.declared.sections.machine.Machine.{Machine}
 use Rattle.ud_engine.specs.declared.line_decider.LineDecider.{LineDecider}
-
--- `decider_of scanner machine`: the decider with a scanner in this state, and with this machine.
-abbrev pub decider_of : ScannerState → Machine → LineDecider
-decider_of scanner machine = record { scanner = scanner; machine = machine }
 
 -- `DeciderRepresents o r xs t`: the decider `r` has read the items `xs` under the options `o`. None
 -- is faulty, and `t` is their tree.
@@ -47,6 +42,15 @@ pub record DeciderRepresents (o : Options) (r : LineDecider) (xs : List (Item Re
   pub read : MachineRepresents r.machine o xs t
   pub no_fault : machine_fault r.machine ≡ None
   pub carries : ScannerRepresents r.scanner (map reading_of xs)
+
+-- `HasScanned o r xs t l scan`: the machine of `r` has read the items `xs`, whose tree is `t`. Its
+-- scanner has also read the line `l`, which has this scan.
+pub record HasScanned (o : Options) (r : LineDecider) (xs : List (Item Reading)) (t : Tree Reading)
+    (l : Line) (scan : Scan) : Type 0 where
+  pub read : MachineRepresents r.machine o xs t
+  pub no_fault : machine_fault r.machine ≡ None
+  pub scanned : scan ≡ scan_after (map reading_of xs) (mode_after o t) l
+  pub carries : ScannerRepresents r.scanner (map reading_of (xs ++ next_item o xs t l ∷ []))
 
 -- `DecidesLine o r xs t l step`: after the items `xs`, `r` has also read the line `l`. The step has
 -- the verdict of the last mark, and the span of the line's keyword.
@@ -68,10 +72,6 @@ DecidesNext symbols r new l result =
     TableRepresents symbols o.table → DeciderRepresents o r xs t →
     MatchResult result (DecidesLine o new xs t l)
     (λ f. FaultOf xs (next_item o xs t l) (fault_of f))
-
--- `line_with body ending number`: the line with these parts.
-abbrev pub line_with : List ℕ → List ℕ → ℕ → Line
-line_with body ending number = record { body = body; ending = ending; number = number }
 
 -- `CanBeDecided room l`: the line `l` is within the limits, it is one line alone, and its body has
 -- at most `room` bytes.

@@ -10,7 +10,6 @@
 --   IsAppended put old new ..                            the output for a line was appended
 --   ShowsLine put old new ..                             the same, if it differs from the line
 --   ShowsNext .. show j pending ..                       a printer's piece of the next line
---   judged_as l verdict keyword                          a line with its verdict and keyword
 --   IsLeftOf left ending                                 the output is nothing or the ending
 --   PrintsLine .. l put ..                               a processor has also printed this line
 --   printed_of passed bytes                              the output for skipped text
@@ -38,9 +37,6 @@ use Rattle.ud_sections.specs.sections.SectionFaults.{fault_of}
 use Rattle.ud_sections.specs.declared.sections.fault.SectionFault.{SectionFault}
 use Rattle.ud_engine.specs.declared.line_processor.LineProcessor.{LineProcessor}
 use Rattle.ud_engine.specs.declared.line_processor.SkippedText.{SkippedText}
-use Rattle.ud_sections.specs.declared.sections.step.Span.{Span}
-use Rattle.ud_sections.specs.sections.StepViews.{as_span}
-use Rattle.ud_model.specs.declared.verdict.Verdict.{Verdict}
 use Rattle.ud_engine.specs.DecidedLines.{DeciderRepresents}
 use Rattle.ud_io.specs.Streams.{Stream, stream_of, TakesAllBut}
 use Rattle.ud_io.specs.Watched.{WatchedState}
@@ -138,10 +134,6 @@ abbrev pub ShowsNext : {S W : Type 0} → (S → List Judged → Type 0) → (S 
 ShowsNext represents piece_of contents show j pending buffered left out out' put =
     (before : List Judged) → represents show before → ShowsLine put (stream_of contents out)
     (stream_of contents out') buffered left pending (piece_of show before j) (text_of j.line)
-
--- `judged_as l verdict keyword`: the line `l` with this verdict, whose keyword has this span.
-abbrev pub judged_as : Line → Verdict → Span → Judged
-judged_as l verdict keyword = record { line = l; verdict = verdict; keyword = as_span keyword }
 
 -- `IsLeftOf left ending`: the output for a line is nothing or its ending.
 abbrev pub IsLeftOf : List ℕ → List ℕ → Type 0

@@ -8,7 +8,7 @@ ghost use Rattle.ud_model.specs.sections.Items.{Options};
 ghost use Rattle.ud_model.specs.sections.Faults.{end_fault};
 ghost use Rattle.ud_model.specs.declared.limits.TheConstants.{TEXT_LINES};
 ghost use Rattle.ud_text.specs.lines.LinesState.{LinesRepresent};
-ghost use Rattle.ud_model.specs.aids.LineViews.{as_line};
+ghost use Rattle.ud_model.specs.aids.LineViews.{as_line, as_scan};
 ghost use Rattle.ud_text.specs.bulk.BulkScanning.{AreWholeLines};
 ghost use Rattle.ud_text.specs.lines.Consuming.{CanConsume};
 ghost use Rattle.ud_sections.specs.sections.Limits.{IsWithinLimits};
@@ -16,7 +16,7 @@ ghost use Rattle.ud_sections.specs.sections.StepViews.{HoldsKeyword};
 ghost use Rattle.ud_sections.specs.sections.MachineState.{end_fault_of};
 ghost use Rattle.ud_sections.specs.sections.Transitions.{text_policy_of};
 ghost use Rattle.ud_engine.specs.DecidedLines.{DeciderRepresents, DecidesNext, DecidesText};
-ghost use Rattle.ud_engine.specs.DecidedLines.{CanBeDecided, consumed, line_with};
+ghost use Rattle.ud_engine.specs.DecidedLines.{CanBeDecided, HasScanned, consumed};
 ghost use Rattle.ud_engine.specs.NameListing.{ListsNames};
 
 use crate::listing::append_names;
@@ -24,7 +24,7 @@ use crate::output::Output;
 use std::io::Write;
 use ud_cond::Symbols;
 use ud_io::Watched;
-use ud_model::Settings;
+use ud_model::{Scan, Settings};
 use ud_sections::{Lister, Machine, SectionFault, Step, TextPolicy, directive};
 use ud_text::{Line, LineBuffer, Lines, Scanner};
 
@@ -47,8 +47,23 @@ impl LineDecider {
         }
     }
 
-    /// Decides the next line. Returns its step. The masked line is written to `masked`, unless it is
-    /// the line itself.
+    /// Scans the next line. The masked line is written to `masked`, unless it is the line itself.
+    #[inline(always)]
+    fn scan<'s, 'a: 's, H: LineBuffer>(&mut self, line: &Line<'a>, masked: &'s mut H) -> Scan<'s>
+        requires { CanBeDecided H.CAPACITY (as_line line.now) }
+        ensures scans { (o : Options) → (xs : List (Item Reading)) → (t : Tree Reading) →
+            DeciderRepresents o self.old xs t →
+            HasScanned o self.new xs t (as_line line.now) (as_scan result) }
+        ensures fits { length result.masked.now ≤ length line.now.body.now }
+    {
+        if let Some(scan) = self.scanner.read_unmarked(line) {
+            return scan;
+        }
+        let mode = self.machine.mode();
+        self.scanner.read_into(mode, line, masked)
+    }
+
+    /// Decides the next line. Returns its step. `masked` is a buffer for the masked line.
     ///
     /// # Errors
     /// Fails if the line is faulty.
@@ -62,11 +77,7 @@ impl LineDecider {
         ensures decides { DecidesNext symbols.now self.old self.new (as_line line.now) result }
         ensures keyword { IfOk result (λ s. HoldsKeyword s line.now) }
     {
-        if let Some(scan) = self.scanner.read_unmarked(line) {
-            return self.machine.step(&scan, line, symbols);
-        }
-        let mode = self.machine.mode();
-        let scan = self.scanner.read_into(mode, line, masked);
+        let scan = self.scan(line, masked);
         self.machine.step(&scan, line, symbols)
     }
 
@@ -76,48 +87,6 @@ impl LineDecider {
     /// Fails if the line is faulty. Nothing is appended.
     #[inline(never)]
     pub(crate) fn list_names<W: Write, H: LineBuffer>(
-        &mut self,
-        body: &[u8],
-        ending: &[u8],
-        number: u32,
-        symbols: &Symbols,
-        masked: &mut H,
-        lister: &mut Lister,
-        pending: &[u8],
-        output: &mut Output,
-        out: &mut Watched<W>,
-    ) -> Result<(), SectionFault>
-        requires { CanBeDecided H.CAPACITY (line_with body.now ending.now number) }
-        ensures { ListsNames W.contents symbols.now self.old self.new
-            (line_with body.now ending.now number) lister.old lister.new pending.now
-            output.old output.new out.old out.new result }
-    {
-        let line = &Line {
-            body,
-            ending,
-            number,
-        };
-        let Some(scan) = self.scanner.read_unmarked(line) else {
-            return self.list_names_marked(line, symbols, masked, lister, pending, output, out);
-        };
-        let content = directive(&scan);
-        if let Err(reason) = self.machine.step_by(&scan, content, line, symbols) {
-            return Err(reason);
-        }
-        output.append(pending, out);
-        let around = self.machine.depth().saturating_sub(1);
-        let prefix = lister.prefix(around);
-        let names = Lister::names_in(content);
-        append_names(output, prefix, names, out);
-        Ok(())
-    }
-
-    /// Decides any next line, and appends `pending` and its names.
-    ///
-    /// # Errors
-    /// As `list_names`.
-    #[inline(never)]
-    fn list_names_marked<W: Write, H: LineBuffer>(
         &mut self,
         line: &Line<'_>,
         symbols: &Symbols,
@@ -131,16 +100,12 @@ impl LineDecider {
         ensures { ListsNames W.contents symbols.now self.old self.new (as_line line.now)
             lister.old lister.new pending.now output.old output.new out.old out.new result }
     {
-        let mode = self.machine.mode();
-        let scan = self.scanner.read_into(mode, line, masked);
+        let scan = self.scan(line, masked);
         let content = directive(&scan);
-        if let Err(fault) = self.machine.step_by(&scan, content, line, symbols) {
-            return Err(fault);
-        }
+        self.machine.step_by(&scan, content, line, symbols)?;
         output.append(pending, out);
         let outer = self.machine.depth().saturating_sub(1);
-        let prefix = lister.prefix(outer);
-        append_names(output, prefix, Lister::names_in(content), out);
+        append_names(output, lister.prefix(outer), Lister::names_in(content), out);
         Ok(())
     }
 

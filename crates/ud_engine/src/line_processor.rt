@@ -18,10 +18,10 @@ ghost use Rattle.ud_text.specs.bulk.BulkScanning.{AreWholeLines};
 ghost use Rattle.ud_text.specs.lines.Consuming.{CanConsume};
 ghost use Rattle.ud_sections.specs.sections.Limits.{IsWithinLimits};
 ghost use Rattle.ud_sections.specs.sections.MachineState.{end_fault_of};
-ghost use Rattle.ud_sections.specs.sections.StepViews.{judged_step, HoldsKeyword, KeywordIsWithin};
-ghost use Rattle.ud_engine.specs.ProcessedLines.{ShowsLine, IsLeftOf, lister_of, printed_of};
-ghost use Rattle.ud_engine.specs.ProcessedLines.{ShowsNext, judged_as};
-ghost use Rattle.ud_engine.specs.DecidedLines.{consumed, line_with};
+ghost use Rattle.ud_sections.specs.sections.StepViews.{judged_step, HoldsKeyword};
+ghost use Rattle.ud_engine.specs.ProcessedLines.{ShowsLine, ShowsNext, IsLeftOf, lister_of};
+ghost use Rattle.ud_engine.specs.ProcessedLines.{printed_of};
+ghost use Rattle.ud_engine.specs.DecidedLines.{consumed};
 ghost use Rattle.ud_io.specs.Streams.{stream_of};
 
 use crate::line_decider::LineDecider;
@@ -29,8 +29,8 @@ use crate::output::Output;
 use std::io::Write;
 use ud_cond::Symbols;
 use ud_io::Watched;
-use ud_model::{Listing, Settings, Verdict};
-use ud_sections::{LineOutput, Lister, SectionFault, Show, Span, Step};
+use ud_model::{Listing, Settings};
+use ud_sections::{LineOutput, Lister, SectionFault, Show, Step};
 use ud_text::{Line, LineBuffer, Lines};
 
 /// A processor that decides the lines of a text in order, and prints the output for each, or lists
@@ -109,17 +109,8 @@ impl<S: Show> LineProcessor<S> {
     {
         match &mut self.lister {
             Some(lister) => {
-                self.decider.list_names(
-                    line.body,
-                    line.ending,
-                    line.number,
-                    symbols,
-                    masked,
-                    lister,
-                    pending,
-                    output,
-                    out,
-                )?;
+                self.decider
+                    .list_names(line, symbols, masked, lister, pending, output, out)?;
                 Ok(true)
             }
             None => {
@@ -250,17 +241,7 @@ fn append_line<S: Show, W: Write>(
         LineOutput::Whole => false,
         LineOutput::Nothing => append_line_output(line, &[], pending, output, out),
         LineOutput::Ending => append_line_output(line, line.ending, pending, output, out),
-        LineOutput::Parts => append_parts_of(
-            show,
-            line.body,
-            line.ending,
-            line.number,
-            step.verdict,
-            step.keyword,
-            pending,
-            output,
-            out,
-        ),
+        LineOutput::Parts => append_parts_of(show, line, *step, pending, output, out),
     }
 }
 
@@ -290,38 +271,30 @@ fn append_line_output<W: Write>(
 
 /// Appends `pending` and the parts that the printer makes of the next line, if they differ from the
 /// line. Returns whether they were appended.
-///
-/// The parts of such a line and its step go in registers or on the stack; other lines need no
-/// memory.
 #[inline(never)]
 fn append_parts_of<S: Show, W: Write>(
     show: &mut S,
-    body: &[u8],
-    ending: &[u8],
-    number: u32,
-    verdict: Verdict,
-    keyword: Span,
+    line: &Line<'_>,
+    step: Step,
     pending: &[u8],
     output: &mut Output,
     out: &mut Watched<W>,
 ) -> bool
-    requires ended { IsTrue (is_ending ending.now) }
-    requires keyword { KeywordIsWithin verdict keyword body.now }
+    requires ended { IsTrue (is_ending line.now.ending.now) }
+    requires keyword { HoldsKeyword step line.now }
     ensures represents { (before : List Judged) → S.represents show.old before →
-        S.represents show.new
-        (before ++ judged_as (line_with body.now ending.now number) verdict keyword ∷ []) }
+        S.represents show.new (before ++ judged_step line.now step ∷ []) }
     ensures stays { (before : List Judged) → (j : Judged) →
         S.piece show.new before j ≡ S.piece show.old before j }
     ensures shows { ShowsNext S.represents S.piece W.contents show.old
-        (judged_as (line_with body.now ending.now number) verdict keyword)
-        pending.now output.old output.new out.old out.new result }
+        (judged_step line.now step) pending.now output.old output.new out.old out.new result }
 {
+    // A copy, whose bytes are borrowed no longer than the pieces.
     let line = Line {
-        body,
-        ending,
-        number,
+        body: line.body,
+        ending: line.ending,
+        number: line.number,
     };
-    let step = Step { verdict, keyword };
     let pieces = show.pieces(&line, step);
     if pieces.same() {
         return false;
