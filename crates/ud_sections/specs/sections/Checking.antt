@@ -54,12 +54,13 @@ misplaced_fault_by Endif n = InappropriateEndif n
 -- (`action` is `None`), then one section too many, then an obfuscated directive.
 abbrev pub checked_action : LineContext → ClassifiedLine → ℕ → Option Action →
     Result Action SectionFault
-checked_action b s n None = Err (misplaced_fault_by s.kind n)
-checked_action b s n (Some a) =
-    if opens_section a.change && (b.depth == OPEN_SECTIONS) then Err (TooManyLevels n)
-    else if is_obfuscated_by b.removed s a then Err (Obfuscated n)
+checked_action before s n None = Err (misplaced_fault_by s.kind n)
+checked_action before s n (Some a) =
+    if opens_section a.change && (before.depth == OPEN_SECTIONS) then Err (TooManyLevels n)
+    else if is_obfuscated_by before.removed s a then Err (Obfuscated n)
     else Ok a
 
 -- `checked_by before s n`: the check of the line `s` of number `n`, by its action after `before`.
 abbrev pub checked_by : LineContext → ClassifiedLine → ℕ → Result Action SectionFault
-checked_by b s n = checked_action b s n (act b.enclosing.plain b.enclosing.section s.kind n)
+checked_by before s n = checked_action before s n
+    (act before.enclosing.plain before.enclosing.section s.kind n)

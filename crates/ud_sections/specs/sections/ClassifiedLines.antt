@@ -32,9 +32,9 @@ span_of s = record { at = s.at; len = s.len }
 
 -- `classified_with scan keyword kind`: the classified line with this scan, keyword and kind.
 abbrev pub classified_with : Scan → TextSpan → LineKind → ClassifiedLine
-classified_with scan keyword shape =
+classified_with scan keyword kind =
     record {
-      kind = shape;
+      kind = kind;
       keyword = span_of keyword;
       spans = is_spanning scan;
       joins_before =

@@ -237,7 +237,7 @@ impl Machine {
 
     /// Returns the position of the next line among the sections.
     fn enclosing(&self) -> Enclosing
-        ensures keyword_within { result ≡ record {
+        ensures position { result ≡ record {
           section = innermost_of self.now.open_sections.items;
           plain = self.now.settings.plain;
         } }
