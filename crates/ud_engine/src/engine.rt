@@ -45,7 +45,8 @@ use ud_text::{Line, LineBuffer, Lines, LongLineBuffer, is_other_word};
 struct Cursor {
     /// True after an attempt to skip text lines: the next line is then decided by itself.
     bulk_tried: bool,
-    /// If after `pos`: the end of the whole lines from `pos` on that are within the limits.
+    /// The end of the whole lines from `pos` on that are within the limits; at most `pos` if there
+    /// are none.
     whole_end: usize,
     pending_start: usize,
     pos: usize,
@@ -190,7 +191,7 @@ impl<P: PlanSource, S: Show> EngineOf<P, S, LongLineBuffer> {
 impl<'p, S: Show, H: LineBuffer> EngineOf<&'p Plan, S, H> {
     /// Moves the state to an engine whose buffer holds the longest line.
     ///
-    /// Leaves behind an engine before the first byte that prints by `show`.
+    /// Leaves behind an engine that prints by `show`, before its first byte.
     #[inline(never)]
     pub(crate) fn take_as_long(&mut self, show: S) -> EngineOf<&'p Plan, S, LongLineBuffer>
         ensures { result ≡ self.old }
