@@ -14,4 +14,6 @@ mod OutcomeLemmas
 mod TakesLemmas
 mod StepLemmas
 mod TextLemmas
+mod UnnamedConditions
+mod UnnamedTexts
 mod VersionLemmas

@@ -1,24 +1,25 @@
 -- The outcome of a text: of the run over it, of its folded text, and with squeezed blank lines.
-use Rattle.std.proofs.Common.{◌≡◌, ℕ, List, [], Bool, true, false, ◌||◌, ◌&&◌, if◌then◌else◌, bytes_eq, Option, None, Some, Result, Ok, Err, refl, sym, ap, ap₂, ◌∙◌, subst, arith}
+use Rattle.std.proofs.Common.{◌≡◌, ℕ, List, [], Bool, true, false, ◌||◌, ◌&&◌, if◌then◌else◌, bytes_eq, Option, None, Some, Result, Ok, Err, refl, sym, ap, ap₂, ◌∙◌, subst, ◌⊎◌, inl, inr, arith}
 use Rattle.std.specs.Prelude.{nat_lt, not, is_none, MatchResult}
 use Rattle.std.specs.Global.{Vec}
 use Rattle.std.specs.Result.{IsErrAnd}
 use Rattle.std.proofs.lemmas.Slice.Eq.{bytes_eq-Decides}
-use Rattle.std.proofs.lemmas.Bool.{false≢true}
+use Rattle.std.proofs.lemmas.Bool.{false≢true, and_parts}
 use Rattle.ud_model.specs.text.Lines.{texts_of}
 use Rattle.ud_model.specs.sections.Faults.{Fault}
 use Rattle.ud_model.specs.sections.Items.{Options, rules_of}
+use Rattle.ud_model.specs.declared.settings.Settings.{Settings}
 use Rattle.ud_model.specs.declared.settings.Listing.{Listing}
 use Rattle.ud_model.specs.declared.settings.Listing.TheVariants.{Off, Names, Depths}
 use Rattle.ud_model.specs.answer.Outcomes.{Outcome, HasOutcome}
 use Rattle.ud_model.proofs.output.Changed.{changed}
+use Rattle.ud_model.proofs.sections.Exists.{run_exists}
 use Rattle.ud_model.proofs.sections.Soundness.{one_run}
 use Rattle.ud_simplified.specs.FoldedTexts.{folded_text, restored_text}
 use Rattle.ud_engine.specs.declared.fault.RunFault.{RunFault}
 use Rattle.ud_engine.specs.declared.fault.RunFault.TheVariants.{Text as TextFault, Section, Read as ReadFault, Write as WriteFault}
 use Rattle.ud_engine.specs.Finishing.{RunAnswers}
 use Rattle.ud_engine.specs.Runs.{ErrorMatchesStreams}
-use Rattle.ud_passes.specs.UntouchedTexts.{IsUntouched}
 use Rattle.ud_passes.specs.pruning.PrunedTexts.{pruned_text, edited_count}
 use Rattle.ud_passes.specs.squeezing.SqueezedTexts.{squeezed_text, squeezed_marks}
 use Rattle.ud_replace.specs.declared.error.ReplaceError.{ReplaceError}
@@ -28,9 +29,10 @@ use Rattle.ud_replace.specs.Marks.{AreMarks}
 use Rattle.ud_replace.specs.FoldedMarks.{unfolded}
 use Rattle.ud_replace.specs.TextOutcomes.{TextOptions, TextOutcome, unpruned, pruned, printed, HasMarks, may_fold, goes_back, comes_back, IsFolded, StaysUnfolded, folded, HasPrinted, as_printed, HasUnsqueezed, as_read, as_folded, is_off, goes_squeezed, squeezed, HasMarkedOutcome, as_it_is, as_squeezed, error_of, FailsBy, over_faulty, over_memory, FailsOver}
 use Rattle.ud_replace.specs.MadeOutcomes.{output_in, IsSameText, IsMade, IsPrunedBy, as_it_was, without_operands, IsRestored, RestoresTo, IsFoldedBy}
-use Rattle.ud_replace.specs.UnprunedRuns.{RunsUnpruned, FailsUnpruned, run_faulty, no_memory_left, IsSpared}
+use Rattle.ud_replace.specs.UnprunedRuns.{RunsUnpruned, FailsUnpruned, run_faulty, no_memory_left, IsSpared, IsUnnamed}
 use Rattle.ud_replace.proofs.MarkLemmas.{marks_exist, one_marks}
 use Rattle.ud_replace.proofs.StepLemmas.{works}
+use Rattle.ud_replace.proofs.UnnamedTexts.{text_quiet, folded_quiet, none_pruned, copies}
 
 -- A run that ended at the text's fault, while its reader and its writer worked.
 faulty_run : (o : Options) (input text : List ℕ) (before left : Option (List ℕ)) (reader writer : Bool) (f : RunFault) → input ≡ text →
@@ -336,13 +338,76 @@ is_squeezed o {text = text} {seen = seen} {ms = ms} {marked = marked} {lines = l
 same_bytes : (out text : List ℕ) (d : Bool) → d ≡ not (bytes_eq out text) → d ≡ false → text ≡ out
 same_bytes out text d is none = grind (arith, bytes_eq-Decides)
 
+-- Pruning leaves such a text.
+none_cut : (o : TextOptions) (text : List ℕ) → IsSpared o text ⊎ IsUnnamed o text → o.prunes ≡ true →
+    (pruned_text o.run.table (rules_of o.run.settings) text ≡ text) × (edited_count o.run.table (rules_of o.run.settings) text ≡ 0)
+none_cut o text (inl spared) e = let u = spared e in (u.unpruned, u.unedited)
+none_cut o text (inr n) e = none_pruned o.run.table (rules_of o.run.settings) n.undecided text (text_quiet o.run.table text n.lacks)
+
+may_parts : (s : Settings) → may_fold s ≡ true → (s.plain ≡ false) × (s.blank ≡ false)
+may_parts s e = grind arith
+
+module _ (o : TextOptions) (text : List ℕ) (n : IsUnnamed o text) (unnumbered : o.run.settings.renumber ≡ false) (unlisted : o.run.settings.listing ≡ Off)
+    {marked : Bool} {made : Made} (itself : IsSameText made) (text_is : output_in made text ≡ text) where
+  -- The run over the folded text copies it, so the restored output is the text.
+  folded_itself : o.prunes ≡ true → may_fold o.run.settings ≡ true → goes_back (folded_text text) text ≡ true → {a : Outcome} → HasOutcome o.run (folded_text text) a →
+      a.fault ≡ None → IsMade o text marked (HasUnsqueezed o text) made
+  folded_itself on may goes {a = a} has none =
+      let lines : List ℕ = folded_text text in
+      let quiet = folded_quiet o.run.table text (text_quiet o.run.table text n.lacks) in
+      let m = may_parts o.run.settings may in
+      let c = copies o.run n.undecided m.0 unlisted unnumbered m.1 n.uncomplemented lines quiet has none in
+      let q = none_pruned o.run.table (rules_of o.run.settings) n.undecided lines quiet in
+      let out : (pruned o.run a).output ≡ lines = ap (pruned_text o.run.table (rules_of o.run.settings)) c.0 ∙ q.0 in
+      let edits : (pruned o.run a).edited ≡ 0 = ap (edited_count o.run.table (rules_of o.run.settings)) c.0 ∙ q.1 in
+      let back : restored_text lines ≡ text = (bytes_eq-Decides (restored_text lines) text).0 (and_parts (not (bytes_eq lines text)) (bytes_eq (restored_text lines) text) goes).1 in
+      let ms = marks_exist o.run lines has none in
+      record {
+        outcome = folded o.run a;
+        marks = unfolded ms.0 (texts_of lines) (texts_of (pruned o.run a).output);
+        runs = as_folded (record {
+          prunes = on;
+          may = may;
+          goes = goes;
+          runs = has;
+          faultless = none;
+          comes = ap comes_back out ∙ (bytes_eq-Decides (folded_text (restored_text lines)) lines).1 (ap folded_text back);
+        }) ms.1;
+        faultless = none;
+        output_is = text_is ∙ sym (ap restored_text out ∙ back);
+        differs_is = itself.differs ∙ sym (ap₂ (λ (b : Bool) (k : ℕ). b || nat_lt 0 k) c.1 edits);
+        edited_is = itself.edited ∙ sym edits;
+        marks_are = λ wanted d off. absurd (false≢true (sym itself.differs ∙ d));
+      }
+
+  -- A text without a name is its own output, folded or not.
+  unnamed_itself : IsMade o text marked (HasPrinted o text) made → IsMade o text marked (HasUnsqueezed o text) made
+  unnamed_itself m = by o.prunes (may_fold o.run.settings) (goes_back (folded_text text) text) refl refl refl
+    where
+      read_so : StaysUnfolded o text → IsMade o text marked (HasUnsqueezed o text) made
+      read_so stays = lift o (λ r ms h. as_read stays h) m
+
+      by_fault : o.prunes ≡ true → may_fold o.run.settings ≡ true → goes_back (folded_text text) text ≡ true → (a : Outcome) → HasOutcome o.run (folded_text text) a →
+          (f : Option Fault) → a.fault ≡ f → IsMade o text marked (HasUnsqueezed o text) made
+      by_fault on may goes a has None e = folded_itself on may goes has e
+      by_fault on may goes a has (Some f) e = read_so (λ b i. some f (sym e ∙ ap (λ (x : Outcome). x.fault) (one_run has i.runs) ∙ i.faultless))
+        where
+          some : (f : Fault) → ◌≡◌ {A = Option Fault} (Some f) None → ⊥
+          some f e = absurd cc
+
+      by : (p m g : Bool) → o.prunes ≡ p → may_fold o.run.settings ≡ m → goes_back (folded_text text) text ≡ g → IsMade o text marked (HasUnsqueezed o text) made
+      by false m g on may goes = read_so (unpruned_unfolded o text on)
+      by true false g on may goes = read_so (may_unfolded o text may)
+      by true true false on may goes = read_so (gone_unfolded o text goes)
+      by true true true on may goes = let r = run_exists o.run (folded_text text) in by_fault on may goes r.0 r.1 r.0.fault refl
+
 -- A run in which no line differs gave the text itself, unless lines are numbered or listed.
-pub stays_itself : (o : TextOptions) (input text : List ℕ) (before left : Option (List ℕ)) (reader writer d : Bool) {marked : Bool} {made : Made} → IsSpared o text →
+pub stays_itself : (o : TextOptions) (input text : List ℕ) (before left : Option (List ℕ)) (reader writer d : Bool) {marked : Bool} {made : Made} → IsSpared o text ⊎ IsUnnamed o text →
     o.run.settings.renumber ≡ false → o.run.settings.listing ≡ Off → input ≡ text → ErrorMatchesStreams reader writer (Ok d) →
     (reader ≡ false → writer ≡ false → RunAnswers o.run input before left (Ok d)) → d ≡ false → IsSameText made → IsMade o text marked (HasMarkedOutcome o text) made
-stays_itself o input text before left reader writer d {marked = marked} {made = made} spared unnumbered unlisted is m ran same itself =
-    whole o (lift o (λ r ms h. as_read (spared_unfolded o text spared) h) (printed_unmarked o p (λ wanted differs off. false≢true (sym itself.differs ∙ differs))))
-    (grind (arith, itself.differs, p.differs_is))
+stays_itself o input text before left reader writer d {marked = marked} {made = made} known unnumbered unlisted is m ran same itself =
+    let q = by known (printed_unmarked o p (λ wanted differs off. false≢true (sym itself.differs ∙ differs))) in
+    whole o q (grind (arith, itself.differs, q.differs_is))
   where
     h : RunAnswers o.run input before left (Ok d)
     h = ran m.works.0 m.works.1
@@ -378,16 +443,21 @@ stays_itself o input text before left reader writer d {marked = marked} {made = 
               differs_is = itself.differs ∙ differs ∙ ap (λ (r : TextOutcome). r.differs) w;
               edited_is = itself.edited ∙ ap (λ (r : TextOutcome). r.edited) w;
             }
-        by true e = let u = subst (λ (t : List ℕ). IsUntouched o.run.table (rules_of o.run.settings) t) output (spared e) in
+        by true e = let u = none_cut o text known e in
+            let edits = ap (edited_count o.run.table (rules_of o.run.settings)) (sym output) ∙ u.1 in
             let w = sym (printed_pruned o a e h.answered.0) in
             record {
               outcome = a;
               runs = runs;
               faultless = h.answered.0;
-              output_is = text_is ∙ output ∙ sym u.unpruned ∙ ap (λ (r : TextOutcome). r.output) w;
-              differs_is = itself.differs ∙ differs ∙ neither a.differs (edited_count o.run.table (rules_of o.run.settings) a.output) u.unedited ∙ ap (λ (r : TextOutcome). r.differs) w;
-              edited_is = itself.edited ∙ sym u.unedited ∙ ap (λ (r : TextOutcome). r.edited) w;
+              output_is = text_is ∙ sym u.0 ∙ ap (pruned_text o.run.table (rules_of o.run.settings)) output ∙ ap (λ (r : TextOutcome). r.output) w;
+              differs_is = itself.differs ∙ differs ∙ neither a.differs (edited_count o.run.table (rules_of o.run.settings) a.output) edits ∙ ap (λ (r : TextOutcome). r.differs) w;
+              edited_is = itself.edited ∙ sym edits ∙ ap (λ (r : TextOutcome). r.edited) w;
             }
+
+    by : IsSpared o text ⊎ IsUnnamed o text → IsMade o text marked (HasPrinted o text) made → IsMade o text marked (HasUnsqueezed o text) made
+    by (inl spared) k = lift o (λ r ms has. as_read (spared_unfolded o text spared) has) k
+    by (inr n) k = unnamed_itself o text n unnumbered unlisted itself text_is k
 
 -- 5. A text has one outcome.
 

@@ -5,6 +5,7 @@
 --   has_marks plan            marks are wanted
 --   asks_first plan           a run that writes nothing comes first
 --   IsMade o text marked has made   `made` holds an outcome of `text`, and its marks if `marked`
+--   IsItself o text marked    the outcome of `text` is that it stays
 --   IsPrunedBy o output differs made   `made` holds the output of a run, pruned if that is wanted
 --   FoldsInto text lines      the text with each directive on one line
 --   RestoresTo lines ran made   `made` holds the outcome `ran` of the folded lines, restored
@@ -63,6 +64,11 @@ pub record IsMade (o : TextOptions) (text : List ℕ) (marked : Bool)
   pub edited_is : made.edited ≡ outcome.edited
   pub marks_are : marked ≡ true → made.differs ≡ true → o.run.settings.listing ≡ Off →
       made.marks.items ≡ marks
+
+-- `IsItself o text marked`: the outcome of `text` is that it stays.
+abbrev pub IsItself : TextOptions → List ℕ → Bool → Type 0
+IsItself o text marked = (made : Outcome) → IsSameText made →
+    IsMade o text marked (HasMarkedOutcome o text) made
 
 -- `IsPrunedBy o output differs made`: `made` holds the output of a run, which differs from its text
 -- or doesn't; without the operands that the options decide, if they prune.

@@ -1,9 +1,10 @@
 -- UnprunedRuns: the run over a text in memory, before its conditions are pruned.
-use Rattle.std.specs.Prelude.{◌≡◌, ℕ, List, ◌++◌, Bool, true, None}
+use Rattle.std.specs.Prelude.{◌≡◌, ℕ, List, ◌++◌, Bool, true, false, None}
 use Rattle.ud_model.specs.sections.Items.{Options, rules_of}
 use Rattle.ud_model.specs.answer.Outcomes.{Outcome, HasOutcome}
 use Rattle.ud_engine.specs.declared.fault.RunFault.{RunFault}
 use Rattle.ud_engine.specs.Finishing.{text_fault_of}
+use Rattle.ud_cond.specs.symbols.SymbolTable.{LacksNames}
 use Rattle.ud_passes.specs.UntouchedTexts.{IsUntouched}
 use Rattle.ud_replace.specs.declared.error.ReplaceError.{ReplaceError}
 use Rattle.ud_replace.specs.declared.error.ReplaceError.TheVariants.{Text, OutOfMemory}
@@ -29,3 +30,10 @@ pub data FailsUnpruned (o : Options) (text : List ℕ) : ReplaceError → Type 0
 abbrev pub IsSpared : TextOptions → List ℕ → Type 0
 IsSpared o text =
     o.prunes ≡ true → IsUntouched o.run.table (rules_of o.run.settings) text
+
+-- `IsUnnamed o text`: no symbol's name stands in `text`, constants decide nothing, and the lines
+-- that stay are printed.
+pub record IsUnnamed (o : TextOptions) (text : List ℕ) : Type 0 where
+  pub lacks : LacksNames o.run.table text
+  pub undecided : o.run.settings.constants ≡ false
+  pub uncomplemented : o.run.settings.complement ≡ false

@@ -6,16 +6,18 @@
 //! fails, or if the folded text has a fault, the run goes over the text itself. Blank lines are
 //! squeezed last, by the marks of the lines that the run went over.
 
-ghost use Rattle.std.specs.Prelude.{◌≡◌, ◌&&◌, false, true, IfOk, MatchResult};
+ghost use Rattle.std.specs.Prelude.{◌≡◌, ◌&&◌, ◌⊎◌, false, true, IfOk, MatchResult};
 ghost use Rattle.ud_args.specs.Plans.{ForOptionsOf};
-ghost use Rattle.ud_replace.specs.MadeOutcomes.{FoldsInto, IsFoldedBy, IsMade, IsPrunedBy};
+ghost use Rattle.ud_replace.specs.MadeOutcomes.{FoldsInto, IsFoldedBy, IsItself, IsMade};
+ghost use Rattle.ud_replace.specs.MadeOutcomes.{IsPrunedBy};
 ghost use Rattle.ud_replace.specs.MadeOutcomes.{IsSameText, RestoresTo, asks_first, has_marks};
 ghost use Rattle.ud_replace.specs.MadeOutcomes.{output_in};
 ghost use Rattle.ud_replace.specs.TextOutcomes as spec;
 ghost use Rattle.ud_replace.specs.TextOutcomes.{FailsBy, FailsOver, HasMarkedOutcome, HasPrinted};
 ghost use Rattle.ud_replace.specs.TextOutcomes.{HasUnsqueezed, IsPlanned, TextOptions, error_of};
 ghost use Rattle.ud_replace.specs.TextOutcomes.{is_off};
-ghost use Rattle.ud_replace.specs.UnprunedRuns.{FailsUnpruned, IsSpared, RunsUnpruned};
+ghost use Rattle.ud_replace.specs.UnprunedRuns.{FailsUnpruned, IsSpared, IsUnnamed};
+ghost use Rattle.ud_replace.specs.UnprunedRuns.{RunsUnpruned};
 
 use crate::error::ReplaceError;
 use crate::folded_marks::marks_by;
@@ -91,6 +93,9 @@ pub fn outcome_of(alloc: Global, plan: &TextPlan, text: &[u8]) -> Result<Outcome
         (IsMade o text.now (has_marks plan.now) (HasMarkedOutcome o text.now))
         (FailsOver o text.now) }
 {
+    if is_copied(plan, text) {
+        return Ok(Outcome::unchanged(alloc));
+    }
     let spared = is_spared(alloc, plan, text)?;
     if spared && stays(plan, text)? {
         return Ok(Outcome::unchanged(alloc));
@@ -98,6 +103,31 @@ pub fn outcome_of(alloc: Global, plan: &TextPlan, text: &[u8]) -> Result<Outcome
     let lines = unsqueezed(alloc, plan, text, spared)?;
     let outcome = squeezed(alloc, plan, text, lines)?;
     Ok(outcome.sparing(text))
+}
+
+/// Returns whether pruning is known to give the text itself, since no symbol's name stands in the
+/// text and the run over it has no fault. Most files are such texts, and a search tells it sooner
+/// than `is_spared`.
+fn is_copied(plan: &TextPlan, text: &[u8]) -> bool
+    ensures { result ≡ true → (o : TextOptions) → IsPlanned plan.now o →
+        IsItself o text.now (has_marks plan.now) }
+{
+    if !plan.prunes || !is_unnamed(plan, text) {
+        return false;
+    }
+    match stays(plan, text) {
+        Ok(same) => same,
+        Err(_) => false,
+    }
+}
+
+/// Returns whether no condition of a text is known to be decided, since no symbol's name stands in
+/// the text. The lines that stay are those that are printed.
+fn is_unnamed(plan: &TextPlan, text: &[u8]) -> bool
+    ensures { result ≡ true → (o : TextOptions) → IsPlanned plan.now o → IsUnnamed o text.now }
+{
+    let settings = plan.run.settings();
+    !settings.constants && !settings.complement && !plan.run.symbols().may_stand_in(text)
 }
 
 /// Returns whether it is known that pruning, if the plan asks for it, leaves a text as it is.
@@ -131,10 +161,10 @@ fn asks_first(plan: &TextPlan) -> bool
 /// # Errors
 /// As `outcome_of`.
 fn stays(plan: &TextPlan, text: &[u8]) -> Result<bool, ReplaceError>
-    ensures { (o : TextOptions) → IsPlanned plan.now o → IsSpared o text.now →
-        MatchResult result (λ same. same ≡ true → (made : Outcome) → IsSameText made →
-        IsMade o text.now (has_marks plan.now) (HasMarkedOutcome o text.now) made)
-        (FailsOver o text.now) }
+    ensures { (o : TextOptions) → IsPlanned plan.now o → MatchResult result
+        (λ same. same ≡ true → IsSpared o text.now ⊎ IsUnnamed o text.now →
+        IsItself o text.now (has_marks plan.now))
+        (λ e. IsSpared o text.now → FailsOver o text.now e) }
 {
     if !asks_first(plan) {
         return Ok(false);

@@ -12,9 +12,9 @@ asks : (plan : TextPlan) → asks_first plan ≡ true → (is_off plan.run.setti
 asks plan e = grind arith
 
 pub returns-in-Ok : goal.returns-in-Ok
-returns-in-Ok c = λ o p spared same made itself.
+returns-in-Ok c = λ o p same known made itself.
     let first = asks c.args.plan.now (sym c.asks_first.ensures ∙ c.if-not-asks_first.false) in
-    stays_itself o _ c.args.text.now _ _ _ _ c.in-Ok.differs spared (ap (λ s. s.renumber) p.settings ∙ first.1)
+    stays_itself o _ c.args.text.now _ _ _ _ c.in-Ok.differs known (ap (λ s. s.renumber) p.settings ∙ first.1)
     (listing_off o.run.settings.listing (ap (λ (s : Settings). is_off s.listing) p.settings ∙ first.0))
     (ap (λ b. b.now) c.new-reader.ensures.inner) c.in-Ok.ensures.error_matches (c.in-Ok.ensures.finished o.run p.settings p.table).ran (not-true _ same) itself
 
