@@ -6,7 +6,7 @@
 --   Judges o into name fresh text stat old new r         what follows once the file is read
 --   Replaces o into id name fresh text old new r         all calls of `replace`, which returned `r`
 --   Keeps o into id name fresh old new r text output edited   the same calls, with the output
---   RenamesAt, PutsAt, JudgesAt, ReplacesAt, KeepsAt     the same for a `Target`
+--   RenamesAt, PutsAt, ReplacesAt, KeepsAt               the same for a `Target`
 --
 -- `old` and `new` are the calls before and after, the newest first.
 use Rattle.std.specs.Prelude.{◌≡◌, ◌⊎◌, ℕ, ◌<◌, ◌≤◌, List, ◌∷◌, Bool, true, false}
@@ -137,11 +137,6 @@ RenamesAt t before text = Renames t.write_into t.name.now t.fresh.now before tex
 abbrev pub PutsAt : Target → List ℕ → List ℕ → FileStat → List Call → List Call →
     Result Update ReplaceError → Type 0
 PutsAt t before text = Puts t.write_into t.name.now t.fresh.now before text
-
--- `JudgesAt o target text stat old new r`: the calls of `Judges` for this target.
-abbrev pub JudgesAt : TextOptions → Target → List ℕ → FileStat → List Call → List Call →
-    Result Update ReplaceError → Type 0
-JudgesAt o t text = Judges o t.write_into t.name.now t.fresh.now text
 
 -- `ReplacesAt o target text old new r`: the calls of `Replaces` for this target.
 abbrev pub ReplacesAt : TextOptions → Target → List ℕ → List Call → List Call →

@@ -9,9 +9,8 @@ ghost use Rattle.std.specs.Prelude.{◌≡◌, ◌<◌, ℕ, List, [], true, fal
 ghost use Rattle.ud_replace.specs.Calls.{Call};
 ghost use Rattle.ud_replace.specs.Filling.{LooksAgain, Confirms, Fills};
 ghost use Rattle.ud_replace.specs.MadeOutcomes.{IsFresh, output_of};
-ghost use Rattle.ud_replace.specs.Replacing.{Overwrites, RenamesAt, PutsAt, JudgesAt, ReplacesAt};
-ghost use Rattle.ud_replace.specs.Replacing.{KeepsAt};
-ghost use Rattle.ud_replace.specs.TextOutcomes.{TextOptions, IsPlanned, IsOutputOf};
+ghost use Rattle.ud_replace.specs.Replacing.{Overwrites, RenamesAt, PutsAt, ReplacesAt, KeepsAt};
+ghost use Rattle.ud_replace.specs.TextOutcomes.{TextOptions, IsPlanned};
 
 use crate::append::append_all;
 use crate::directory::{CreateError, Directory};
@@ -108,32 +107,12 @@ pub fn replace_keeping<F: Directory>(
     ensures output { (o : TextOptions) → IsPlanned plan.now o → is_ok result ≡ true →
         KeepsAt o target.now (F.history directory.old) (F.history directory.new) result kept.new }
 {
-    match directory.read(target.name, &mut kept.text) {
-        None => Err(ReplaceError::Read),
-        Some(stat) => {
-            if !stat.is_of(target.id) {
-                return Err(ReplaceError::ChangedMeanwhile);
-            }
-            replace_text(alloc, plan, directory, target, stat, kept)
-        }
+    let Some(stat) = directory.read(target.name, &mut kept.text) else {
+        return Err(ReplaceError::Read);
+    };
+    if !stat.is_of(target.id) {
+        return Err(ReplaceError::ChangedMeanwhile);
     }
-}
-
-/// Replaces a file whose text has been read.
-fn replace_text<F: Directory>(
-    alloc: Global,
-    plan: &TextPlan,
-    directory: &mut F,
-    target: &Target<'_>,
-    stat: FileStat,
-    kept: &mut Kept,
-) -> Result<Update, ReplaceError>
-    ensures text { kept.new.text.items ≡ kept.old.text.items }
-    ensures calls { (o : TextOptions) → IsPlanned plan.now o → JudgesAt o target.now
-        kept.new.text.items stat (F.history directory.old) (F.history directory.new) result }
-    ensures output { (o : TextOptions) → IsPlanned plan.now o → is_ok result ≡ true →
-        IsOutputOf o kept.new.text.items (output_of kept.new) kept.new.outcome.edited }
-{
     let differs = kept.run(alloc, plan)?;
     if !differs {
         return Ok(Update::Unchanged);
