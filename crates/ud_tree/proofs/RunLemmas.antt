@@ -1,5 +1,5 @@
 -- One file more of a run.
-use Rattle.std.proofs.Common.{◌≡◌, ℕ, ◌+◌, ◌<◌, ◌≤◌, List, [], ◌∷◌, ◌++◌, length, get_or, take, cond, inl, inr, refl, sym, ap, ◌∙◌, subst, append-nil, Bool, true, false, ◌||◌, Result, min, ◌-◌, ◌^◌, arith}
+use Rattle.std.proofs.Common.{◌≡◌, ℕ, ◌+◌, ◌<◌, ◌≤◌, List, [], ◌∷◌, ◌++◌, length, get_or, map, take, cond, inl, inr, refl, sym, ap, ◌∙◌, subst, append-nil, Bool, true, false, ◌||◌, Result, min, ◌-◌, ◌^◌, arith}
 use mir.Val.{bool_byte}
 use Rattle.std.proofs.lemmas.List.{take_more, take_all, map-append}
 use Rattle.std.proofs.lemmas.List.Sums.{sum_by_push}
@@ -11,7 +11,8 @@ use Rattle.ud_replace.specs.Calls.{Call}
 use Rattle.ud_tree.specs.declared.counts.Fate.{Fate}
 use Rattle.ud_tree.specs.declared.counts.Counts.{Counts}
 use Rattle.ud_tree.specs.declared.counts.Edits.{Edits}
-use Rattle.ud_tree.specs.declared.other_files.Others.{Others}
+use Rattle.ud_tree.specs.declared.find_files.Walked.{Walked}
+use Rattle.ud_tree.specs.declared.last_lines.Processed.{Processed}
 use Rattle.ud_tree.specs.declared.walk.Found.{Found}
 use Rattle.ud_tree.specs.declared.arguments.Arguments.{Arguments}
 use Rattle.ud_tree.specs.declared.arguments.Task.{Task}
@@ -28,7 +29,7 @@ use Rattle.ud_io.specs.Streams.{Stream, Sends}
 use Rattle.ud_tree.specs.declared.job.Job.{Job}
 use Rattle.ud_tree.specs.Reports.{ReportState, new_report, IsPlain, KeepsScreen, Says, Writes, Tells, TellsOf}
 use Rattle.ud_tree.specs.Messages.{IsTold, TellsIf, list_message, write_message, output_messages}
-use Rattle.ud_tree.specs.Summaries.{last_lines, still_unnamed, TellsEnd}
+use Rattle.ud_tree.specs.Summaries.{last_lines, still_unnamed}
 use Rattle.ud_tree.specs.Unmatched.{LeavesRules, rule_lines}
 use Rattle.ud_tree.proofs.MessageLemmas.{output_told, output_count}
 use Rattle.ud_tree.proofs.ReportLemmas.{tells_none, tells_then, tells_same, writes_kept, writes_then}
@@ -41,7 +42,7 @@ use Rattle.ud_passes.specs.remaining.RemainingLists.{RemainingState}
 use Rattle.ud_replace.specs.declared.text_plan.TextPlan.{TextPlan}
 use Rattle.ud_tree.specs.Lists.{Adds, ListsInto}
 use Rattle.ud_tree.specs.Shown.{ListsOne}
-use Rattle.ud_tree.specs.Writing.{Moment, Stage, WritesOne, ProcessesOne, WritesAll, WritesList}
+use Rattle.ud_tree.specs.Writing.{Moment, Stage, WritesOne, ProcessesOne, WritesAll, WritesList, TellsEnd, end_of}
 use Rattle.ud_tree.specs.TreeRuns.{Ending, DoesBy, DoesOne, DoesFiles, Ends, EndsWriting, RunsTree}
 use Rattle.ud_tree.proofs.DoneLemmas.{still_failed, done_later}
 use Rattle.ud_io.proofs.StreamLemmas.{sends_none, sends_then, sends_same}
@@ -252,30 +253,31 @@ rules_sent args rules {last = last} {after = after} false loud unshown said same
     subst (λ (s : Stream). Sends s after.err (rule_lines args rules)) (h.unshown (unshown loud)) h.sent
 
 -- The run ends with the status of its counts.
-pub ends : (job : Job) (files : List Found) (rules : List (List ℕ)) {old new : Moment} {mid : Stage} {listed : Stream}
-    {seek_report sought_report list_report end_report last_report rules_report : ReportState} {counts : Counts} {others : Others} (lost unwritten : Bool)
-    (in_walk faults hidden status : ℕ) (start lists : NameLists) → start.list.items ≡ [] → start.hidden ≡ 0 →
-    start.hidden_list.items ≡ [] → hidden ≡ lists.hidden → (lost ≡ false → sought_report.has_lost ≡ false) →
+pub ends : (job : Job) (walked : Walked) (p : Processed) {old new : Moment} {mid : Stage} {listed : Stream}
+    {seek_report sought_report list_report end_report last_report rules_report : ReportState} (lost unwritten : Bool)
+    (status : ℕ) (start lists : NameLists) → start.list.items ≡ [] → start.hidden ≡ 0 →
+    start.hidden_list.items ≡ [] → p.hidden ≡ lists.hidden → (lost ≡ false → sought_report.has_lost ≡ false) →
     Seeks job.arguments.now (begun job old.err) seek_report →
-    DoesFiles job files (record { calls = old.calls; out = old.out; report = seek_report }) mid counts start
-    lists → FindsOthers job.arguments.now mid.out.failed files mid.calls new.calls mid.report sought_report others →
+    DoesFiles job walked.files.items (record { calls = old.calls; out = old.out; report = seek_report }) mid p.counts start
+    lists → FindsOthers job.arguments.now mid.out.failed walked.files.items mid.calls new.calls mid.report sought_report p.others →
     WritesList job.arguments.now lists sought_report.remaining.list lost mid.out listed →
     TellsIf list_message lost sought_report list_report → Sends listed new.out [] → unwritten ≡ new.out.failed →
     (new.out.failed ≡ false → new.out.unflushed ≡ false) → TellsIf write_message unwritten list_report end_report →
-    TellsEnd job.arguments.now counts faults hidden (names_of others.named.items) others.unsearched end_report last_report → (job.arguments.now.quiet ≡ false → last_report.is_shown ≡ false) →
-    (last_report.is_shown ≡ false → Says last_report rules_report (rule_lines job.arguments.now rules)) → (job.arguments.now.quiet ≡ true → rules_report ≡ last_report) → new.err ≡ rules_report.err →
-    counts.faulty ≤ faults →
-    (in_walk + (cond lost 1 0 + cond unwritten 1 0) + counts.faulty < 2 ^ 64 →
-    faults ≡ in_walk + (cond lost 1 0 + cond unwritten 1 0) + counts.faulty) → (unheard : Bool) →
+    TellsEnd job.arguments.now p end_report last_report → (job.arguments.now.quiet ≡ false → last_report.is_shown ≡ false) →
+    (last_report.is_shown ≡ false → Says last_report rules_report (rule_lines job.arguments.now (map (λ r. r.items) walked.rules.items))) → (job.arguments.now.quiet ≡ true → rules_report ≡ last_report) → new.err ≡ rules_report.err →
+    p.counts.faulty ≤ p.faults →
+    (walked.faults + (cond lost 1 0 + cond unwritten 1 0) + p.counts.faulty < 2 ^ 64 →
+    p.faults ≡ walked.faults + (cond lost 1 0 + cond unwritten 1 0) + p.counts.faulty) → (unheard : Bool) →
     unheard ≡ new.err.failed →
-    status ≡ tree_status job.arguments.now.task job.arguments.now.plan.run.settings.exit_mode unheard faults
-    counts.changed → EndsWriting job in_walk old files rules new status
-ends job files rules {old = old} {new = new} {mid = mid} {seek_report = seek_report} {sought_report = sought_report} {end_report = end_report} {counts = counts} {others = others} lost unwritten in_walk faults hidden
+    status ≡ tree_status job.arguments.now.task job.arguments.now.plan.run.settings.exit_mode unheard p.faults
+    p.counts.changed → EndsWriting job walked old new status
+ends job walked p {old = old} {new = new} {mid = mid} {seek_report = seek_report} {sought_report = sought_report} {end_report = end_report} lost unwritten
     status start lists no_name none no_condition hidden_now whole_report sought_now d o l t f failed flushed u e unshown said silent stream few all
     unheard heard is =
     let w = d.does in
     let h = w.counted in
     let args = job.arguments.now in
+    let rules = map (λ r. r.items) walked.rules.items in
     let of_output = joined (output_messages lost unwritten) in
     let both = tells_same (sym (output_told lost unwritten)) (tells_then t u) in
     let left = end_report.remaining in
@@ -283,7 +285,7 @@ ends job files rules {old = old} {new = new} {mid = mid} {seek_report = seek_rep
     let before = writes_then (writes_kept q.screen) w.writes in
     let finds = finds_same (append-nil (texts_of h.results)) (append-nil (outputs_of h.results))
     (finds_then (texts_of h.results) [] (outputs_of h.results) [] w.finds (finds_none {new = sought_report} o.remaining o.kept o.unnamed)) in
-    let last = last_lines args counts.changed counts.unchanged faults hidden counts.edits left.count left.defined (still_unnamed args end_report.unnamed) (names_of others.named.items) others.unsearched ++ rule_lines args rules in
+    let last = end_of args p end_report ++ rule_lines args rules in
     let ruled = rules_sent args rules args.quiet refl unshown said silent in
     let all_names = w.adds.names ∙ ap (λ (x : List ℕ). x ++ (listed_of h.results).names) no_name in
     let all_hidden = w.adds.hidden_list ∙ ap (λ (x : List ℕ). x ++ (listed_of h.results).hidden_list) no_condition in
@@ -298,7 +300,7 @@ ends job files rules {old = old} {new = new} {mid = mid} {seek_report = seek_rep
           each = h.each;
         };
         is_lost = lost;
-        tally = record { faults = faults; hidden = hidden; edits = counts.edits; remaining = left.count; defined = left.defined; unnamed = still_unnamed args end_report.unnamed; others = others; rules = rules };
+        tally = record { faults = p.faults; hidden = p.hidden; edits = p.counts.edits; remaining = left.count; defined = left.defined; unnamed = still_unnamed args end_report.unnamed; others = p.others; rules = rules };
         failed = mid.out.failed;
         stays_failed = λ is. still_failed f (still_failed l.sent is);
         seeks = record { touches = o.seeks.touches; unsought = o.seeks.unsought; found = λ whole. o.seeks.found (whole_report whole) };
@@ -335,17 +337,17 @@ ends job files rules {old = old} {new = new} {mid = mid} {seek_report = seek_rep
               (rw both.keeps.unnamed (finds.unnamed (whole_report whole) calls represents));
         };
         has_status = record {
-          faults_are = subst (λ (b : Bool). in_walk + length (output_messages lost b) + faulty_in h.results < 2 ^ 64 → faults ≡ in_walk + length (output_messages lost b) + faulty_in h.results) failed
+          faults_are = subst (λ (b : Bool). walked.faults + length (output_messages lost b) + faulty_in h.results < 2 ^ 64 → p.faults ≡ walked.faults + length (output_messages lost b) + faulty_in h.results) failed
               (rw (output_count lost unwritten, ← h.counts_are.faulty) all);
           reported = rw (← h.counts_are.faulty) few;
-          status_is = is ∙ ap (tree_status args.task args.plan.run.settings.exit_mode unheard faults) h.counts_are.changed
-              ∙ ap (λ (b : Bool). tree_status args.task args.plan.run.settings.exit_mode b faults (changed_in h.results)) heard;
+          status_is = is ∙ ap (tree_status args.task args.plan.run.settings.exit_mode unheard p.faults) h.counts_are.changed
+              ∙ ap (λ (b : Bool). tree_status args.task args.plan.run.settings.exit_mode b p.faults (changed_in h.results)) heard;
           flushed = flushed;
         };
         tells = record {
           told_is = ap (λ (x : List ℕ). (x ++ of_output) ++ last) h.told_is ∙ ap (λ (b : Bool). (told_of h.results ++ joined (output_messages lost b)) ++ last) failed;
-          last_is = ap (λ (x : List ℕ). x ++ rule_lines args rules) (ap (λ (x : ℕ). last_lines args x counts.unchanged faults hidden counts.edits left.count left.defined (still_unnamed args end_report.unnamed) (names_of others.named.items) others.unsearched) h.counts_are.changed
-              ∙ ap (λ (x : ℕ). last_lines args (changed_in h.results) x faults hidden counts.edits left.count left.defined (still_unnamed args end_report.unnamed) (names_of others.named.items) others.unsearched) h.counts_are.unchanged);
+          last_is = ap (λ (x : List ℕ). x ++ rule_lines args rules) (ap (λ (x : ℕ). last_lines args x p.counts.unchanged p.faults p.hidden p.counts.edits left.count left.defined (still_unnamed args end_report.unnamed) (names_of p.others.named.items) p.others.unsearched) h.counts_are.changed
+              ∙ ap (λ (x : ℕ). last_lines args (changed_in h.results) x p.faults p.hidden p.counts.edits left.count left.defined (still_unnamed args end_report.unnamed) (names_of p.others.named.items) p.others.unsearched) h.counts_are.unchanged);
         };
       };
       rules_are = refl;
@@ -354,7 +356,7 @@ ends job files rules {old = old} {new = new} {mid = mid} {seek_report = seek_rep
         streams_are = refl;
         sent = sends_same (append-nil (w.shown ++ l.listed)) (sends_then (sends_then w.sent l.sent) f);
         ended = rw stream (e.told.0, sends_then e.told.1 ruled);
-        tells = λ p. let told = writes_then before (writes_then (writes_kept o.screen) both.writes) in let plain = plain_begun job old.err p in rw stream (sends_then (told.sent plain) (sends_then (e.alone (told.plain plain).unshown) ruled));
+        tells = λ plainly. let told = writes_then before (writes_then (writes_kept o.screen) both.writes) in let plain = plain_begun job old.err plainly in rw stream (sends_then (told.sent plain) (sends_then (e.alone (told.plain plain).unshown) ruled));
       };
     }
 
@@ -401,24 +403,25 @@ ends_counted n m same h = record {
 
 -- The run processed the files that the walk found.
 pub ran_from : (job : Job) {given left : Source} {old mid new : Moment} {first r : ReportState}
-    {found files : List Found} {rules : List (List ℕ)} {status : ℕ} (in_walk : ℕ) → files ≡ found → first ≡ begun job old.err →
-    in_walk ≡ r.faulty → mid.err ≡ r.err → FindsFiles job.arguments.now given left old.calls mid.calls found rules first r →
-    mid.out ≡ old.out → EndsWriting job in_walk mid files rules new status → RunsTree job given left old new status
+    {walked : Walked} {status : ℕ} → first ≡ begun job old.err →
+    mid.err ≡ r.err → FindsFiles job.arguments.now given left old.calls mid.calls first r walked →
+    mid.out ≡ old.out → EndsWriting job walked mid new status → RunsTree job given left old new status
 unfolding ends_counted
-ran_from job {old = old} {mid = mid} {new = new} {files = files} in_walk is first_is number stream w same h = record {
+ran_from job {old = old} {mid = mid} {new = new} {walked = walked} first_is stream w same h = record {
   messages = w.reports.messages;
   ending = h.ending;
   is_run = inr (record {
     text = w.paths.text;
     mid = mid.calls;
-    files = files;
+    files = walked.files.items;
     takes = w.paths.takes;
-    misses = subst (λ (fs : List Found). MissesNone job.arguments.now w.paths.text old.calls mid.calls StandsIn fs (0 < length w.reports.messages)) (sym is) w.paths.misses;
-    is_walk = subst (λ (fs : List Found). IsWalk old.calls mid.calls fs) (sym is) w.is_walk;
+    misses = w.paths.misses;
+    is_walk = w.is_walk;
     walk = w.reports.walk;
-    some = subst (λ (fs : List Found). job.arguments.now.from_input ≡ false → 0 < length fs) (sym is) w.some;
-    ends = ends_counted in_walk (length w.reports.messages) (λ small.
+    some = w.some;
+    ends = ends_counted walked.faults (length w.reports.messages) (λ small.
         let none = ap (λ (q : ReportState). q.faulty) first_is in
+        let number = w.faults_are in
         let counted = w.reports.counted (omega (arith, none, small)) in omega (arith, none, number, counted)) h.ends;
     leaves = subst (LeavesRules job.arguments.now old.calls mid.calls (length w.reports.messages)) (sym h.rules_are) w.leaves;
   });

@@ -9,13 +9,14 @@ use Rattle.std.proofs.lemmas.List.Recursion.{is_count_by}
 use Rattle.ud_cond.specs.symbols.Marks.{is_marked}
 use Rattle.ud_tree.specs.Reports.{ReportState, Says}
 use Rattle.ud_tree.specs.declared.arguments.Arguments.{Arguments}
-use Rattle.ud_tree.specs.declared.counts.Counts.{Counts}
+use Rattle.ud_tree.specs.declared.last_lines.Processed.{Processed}
 use Rattle.ud_tree.specs.declared.walk.Found.{Found}
 use Rattle.ud_tree.specs.Runs.{names_of}
 use Rattle.ud_tree.specs.declared.arguments.Task.TheVariants.{Names}
 use Rattle.ud_io.specs.Streams.{Stream, Sends}
-use Rattle.ud_tree.specs.Summaries.{line_of, changes_line, files_text, hidden_text, summary, remaining_text, remaining_line, removed_line, removed_text, edited_line, edited_text, defined_line, still_unnamed, none_named_line, unnamed_line, unnamed_lines, unnamed_text, others_line, others_text, unsearched_line, unsearched_text, TellsEnd}
+use Rattle.ud_tree.specs.Summaries.{line_of, changes_line, files_text, hidden_text, summary, remaining_text, remaining_line, removed_line, removed_text, edited_line, edited_text, defined_line, still_unnamed, none_named_line, unnamed_line, unnamed_lines, unnamed_text, others_line, others_text, unsearched_line, unsearched_text}
 use Rattle.ud_tree.specs.Visible.{visible}
+use Rattle.ud_tree.specs.Writing.{TellsEnd}
 use Rattle.ud_io.proofs.StreamLemmas.{sends_none, sends_same, sends_then}
 
 -- A line was written in three parts.
@@ -134,13 +135,11 @@ pub unsearched_told : (count : ℕ) (text : List ℕ) → ¬ (count ≡ 0) → t
 unsearched_told count text some q = grind (arith, common_steps)
 
 -- A quiet run ends with nothing.
-pub ends_quiet : (args : Arguments) (counts : Counts) (faults hidden : ℕ) (others : List (List ℕ)) (unsearched : ℕ) (r : ReportState) → args.quiet ≡ true →
-    TellsEnd args counts faults hidden others unsearched r r
-ends_quiet args counts faults hidden others unsearched r quiet = rw quiet (record { told = (r.err, sends_none r.err); alone = λ e. sends_none r.err })
+pub ends_quiet : (args : Arguments) (p : Processed) (r : ReportState) → args.quiet ≡ true → TellsEnd args p r r
+ends_quiet args p r quiet = rw quiet (record { told = (r.err, sends_none r.err); alone = λ e. sends_none r.err })
 
--- Other runs end with the lines.
-pub ends_told : (args : Arguments) (counts : Counts) (faults hidden : ℕ) (others : List (List ℕ)) (unsearched : ℕ) {a b : ReportState} → args.quiet ≡ false →
-    Says a b (summary args.task args.list_hidden counts.changed counts.unchanged faults hidden ++ removed_line counts.edits.lines ++ edited_line args.plan.prunes counts.edits.conditions ++
-    remaining_line args.list_remaining a.remaining.count ++ defined_line args.list_remaining a.remaining.defined ++ unnamed_lines args faults (still_unnamed args a.unnamed) ++ others_line others ++ unsearched_line unsearched) →
-    TellsEnd args counts faults hidden others unsearched a b
-ends_told args counts faults hidden others unsearched {a = a} {b = b} loud h = rw loud (record { told = (h.cleared, h.sent); alone = λ e. subst (λ (s : Stream). Sends s b.err _) (h.unshown e) h.sent })
+pub ends_told : (args : Arguments) (p : Processed) {a b : ReportState} → args.quiet ≡ false →
+    Says a b (summary args.task args.list_hidden p.counts.changed p.counts.unchanged p.faults p.hidden ++ removed_line p.counts.edits.lines ++ edited_line args.plan.prunes p.counts.edits.conditions ++
+    remaining_line args.list_remaining a.remaining.count ++ defined_line args.list_remaining a.remaining.defined ++ unnamed_lines args p.faults (still_unnamed args a.unnamed) ++ others_line (names_of p.others.named.items) ++ unsearched_line p.others.unsearched) →
+    TellsEnd args p a b
+ends_told args p {a = a} {b = b} loud h = rw loud (record { told = (h.cleared, h.sent); alone = λ e. subst (λ (s : Stream). Sends s b.err _) (h.unshown e) h.sent })

@@ -19,18 +19,15 @@
 --   unsearched_line count     how many files of other names couldn't be searched
 --   last_lines args changed unchanged faults hidden edits remaining defined unnamed others
 --       unsearched            these lines, unless quiet
---   TellsEnd args counts faults hidden others unsearched old new   they were written last
 --   EndsWith s bytes          the last bytes that were written to `s`
-use Rattle.std.specs.Prelude.{◌≡◌, ℕ, List, [], ◌∷◌, ◌++◌, Bool, false, not, ◌&&◌, ◌||◌, ◌==◌}
+use Rattle.std.specs.Prelude.{ℕ, List, [], ◌∷◌, ◌++◌, Bool, not, ◌&&◌, ◌||◌, ◌==◌}
 use Rattle.std.specs.Prelude.{if◌then◌else◌, codes, decimal, length, map, filter, nat_lt}
 use Rattle.std.specs.List.{flat_map}
 use Rattle.ud_cond.specs.symbols.Marks.{is_marked}
 use Rattle.ud_tree.specs.declared.arguments.Task.{Task}
 use Rattle.ud_tree.specs.declared.arguments.Task.TheVariants.{Replace, Diff, Names}
 use Rattle.ud_tree.specs.declared.arguments.Arguments.{Arguments}
-use Rattle.ud_tree.specs.declared.counts.Counts.{Counts}
 use Rattle.ud_tree.specs.declared.counts.Edits.{Edits}
-use Rattle.ud_tree.specs.Reports.{ReportState}
 use Rattle.ud_io.specs.Streams.{Stream, Sends}
 use Rattle.ud_tree.specs.Visible.{visible}
 
@@ -182,15 +179,3 @@ last_lines args changed unchanged faults hidden edits remaining defined unnamed 
     removed_line edits.lines ++ edited_line args.plan.prunes edits.conditions ++
     remaining_line args.list_remaining remaining ++ defined_line args.list_remaining defined ++
     unnamed_lines args faults unnamed ++ others_line others ++ unsearched_line unsearched
-
--- `TellsEnd args counts faults hidden others unsearched old new`: the last lines were written, with
--- these numbers and files, those of conditions and definitions, and the names that the report has
--- marked. Nothing else was, unless a terminal showed the number of files.
-pub record TellsEnd (args : Arguments) (counts : Counts) (faults hidden : ℕ)
-    (others : List (List ℕ)) (unsearched : ℕ) (old new : ReportState) : Type 0 where
-  pub told : EndsWith new.err (last_lines args counts.changed counts.unchanged faults hidden
-      counts.edits old.remaining.count old.remaining.defined
-      (still_unnamed args old.unnamed) others unsearched)
-  pub alone : old.is_shown ≡ false → Sends old.err new.err (last_lines args counts.changed
-      counts.unchanged faults hidden counts.edits old.remaining.count old.remaining.defined
-      (still_unnamed args old.unnamed) others unsearched)

@@ -16,7 +16,7 @@
 --   TellsAll args results is_lost tally ending   which messages there are, and which last lines
 --   Ends args in_walk old files new ending  all of this: the files are processed
 --   HasEnding is_terminal before after messages ending status   a run ends so at a moment
---   EndsWriting job in_walk before files rules after status   the same, and all was written
+--   EndsWriting job walked before after status   the same, and all was written
 --   Run                                     the arguments of a run, its calls, and its ending
 --   StopsEarly run                          no file follows the walk
 --   ProcessesFiles run                      the files that the walk found are processed
@@ -29,7 +29,7 @@
 -- input has before and after. `messages` are the walk's messages, and `in_walk` is their number.
 -- `is_lost`: memory ran out for something to be shown or listed.
 use Rattle.std.specs.Prelude.{◌≡◌, ◌⊎◌, ℕ, ◌+◌, ◌≤◌, ◌<◌, ◌^◌, List, [], ◌++◌, length}
-use Rattle.std.specs.Prelude.{Bool, true, false, take, filter, Result}
+use Rattle.std.specs.Prelude.{Bool, true, false, filter, map, take, Result}
 use Rattle.ud_model.specs.conditions.Conditions.{is_listed}
 use Rattle.ud_model.specs.conditions.Table.{Argument}
 use Rattle.ud_cond.specs.symbols.SymbolTable.{TableRepresents}
@@ -41,6 +41,7 @@ use Rattle.ud_tree.specs.declared.arguments.Task.TheVariants.{Replace, Diff, Nam
 use Rattle.ud_tree.specs.declared.arguments.Arguments.{Arguments}
 use Rattle.ud_tree.specs.declared.counts.Counts.{Counts}
 use Rattle.ud_tree.specs.declared.counts.Edits.{Edits}
+use Rattle.ud_tree.specs.declared.find_files.Walked.{Walked}
 use Rattle.ud_tree.specs.declared.job.Job.{Job}
 use Rattle.ud_tree.specs.declared.other_files.Others.{Others}
 use Rattle.ud_tree.specs.declared.walk.Found.{Found}
@@ -257,13 +258,13 @@ pub record HasEnding (is_terminal : Bool) (before after : Moment) (messages : Li
   pub tells : is_terminal ≡ false →
       Sends before.err after.err (joined messages ++ ending.told)
 
--- `EndsWriting job in_walk before files rules after status`: the files are processed, and all that
+-- `EndsWriting job walked before after status`: the files of the walk are processed, and all that
 -- is to be written for them was written, with the lines of these arguments of `-g`.
-pub record EndsWriting (job : Job) (in_walk : ℕ) (before : Moment) (files : List Found)
-    (rules : List (List ℕ)) (after : Moment) (status : ℕ) : Type 0 where
+pub record EndsWriting (job : Job) (walked : Walked) (before after : Moment) (status : ℕ) :
+    Type 0 where
   pub ending : Ending
-  pub ends : Ends job.arguments.now in_walk before.calls files after.calls ending
-  pub rules_are : ends.tally.rules ≡ rules
+  pub ends : Ends job.arguments.now walked.faults before.calls walked.files.items after.calls ending
+  pub rules_are : ends.tally.rules ≡ map (λ r. r.items) walked.rules.items
   pub written : HasEnding job.is_terminal before after [] ending status
 
 -- `Run`: the arguments of a run, what the input has before and after it, the calls before and after

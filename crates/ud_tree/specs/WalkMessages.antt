@@ -18,7 +18,7 @@
 --   TakesEach given left calls calls' found told   the input was read, and each path was given
 --   TakesPaths args given left calls calls' has found told   all paths are taken
 --   WalksAll args given left calls calls' found old new all   a walk over all paths, or not
---   FindsFiles args given left calls calls' files rules old new   a walk that found files
+--   FindsFiles args given left calls calls' old new walked   a walk that found files
 --   EndsWalk args given left calls calls' old new found   a walk that found files, or none
 --
 -- `old` and `new` are the report before and after, or the calls, the newest first. `given` and
@@ -210,21 +210,23 @@ pub record WalksAll (args : Arguments) (given left : Source) (calls calls' : Lis
   pub takes : all ≡ true → TakesPaths args given left calls calls' IsIn found (0 < new.faulty)
   pub stops : all ≡ false → old.faulty ≡ 0 → StopsWalk args.from_input left calls calls' old new
 
--- `FindsFiles args given left calls calls' files rules old new`: the paths are taken. Since
--- `calls`, a whole walk found `files`, at least one if the paths are those of the command line. Its
--- messages were written and counted. `rules` are the arguments of `-g` that the last lines have.
+-- `FindsFiles args given left calls calls' old new walked`: the paths are taken. Since `calls`, a
+-- whole walk found the files, at least one if the paths are those of the command line. Its messages
+-- were written and counted. The rules are the arguments of `-g` that the last lines have.
 pub record FindsFiles (args : Arguments) (given left : Source) (calls calls' : List Call)
-    (files : List Found) (rules : List (List ℕ)) (old new : ReportState) : Type 0 where
-  pub is_walk : IsWalk calls calls' files
-  pub some : args.from_input ≡ false → 0 < length files
+    (old new : ReportState) (walked : Walked) : Type 0 where
+  pub is_walk : IsWalk calls calls' walked.files.items
+  pub some : args.from_input ≡ false → 0 < length walked.files.items
   pub reports : ReportsWalk calls calls' old new
-  pub paths : TakesPaths args given left calls calls' StandsIn files (0 < length reports.messages)
-  pub leaves : LeavesRules args calls calls' (length reports.messages) rules
+  pub paths : TakesPaths args given left calls calls' StandsIn walked.files.items
+      (0 < length reports.messages)
+  pub leaves : LeavesRules args calls calls' (length reports.messages)
+      (map (λ r. r.items) walked.rules.items)
+  pub faults_are : walked.faults ≡ new.faulty
 
 -- `EndsWalk args given left calls calls' old new found`: the walk found these files, or no file
 -- follows it.
 pub record EndsWalk (args : Arguments) (given left : Source) (calls calls' : List Call)
     (old new : ReportState) (found : Option Walked) : Type 0 where
-  pub files : IfSome found (λ w. FindsFiles args given left calls calls' w.files.items
-      (map (λ r. r.items) w.rules.items) old new)
+  pub files : IfSome found (FindsFiles args given left calls calls' old new)
   pub stops : IfNone found (StopsWalk args.from_input left calls calls' old new)

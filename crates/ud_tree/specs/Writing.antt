@@ -1,4 +1,4 @@
--- Writing: what is written for the files of a run to the output.
+-- Writing: what is written for the files of a run.
 --
 --   Moment                                the calls so far, the output and the error stream
 --   moment history contents reported tree out err   the moment of a tree and two writers
@@ -8,6 +8,8 @@
 --   ProcessesOne args P name before after update edits lists lists'   what is listed was added, too
 --   WritesAll args P before names after counts lists lists'   each file in turn was processed
 --   WritesList args names rest lost out out'   what is listed after the files was written
+--   end_of args processed report          the last lines
+--   TellsEnd args processed old new       they were written last
 use Rattle.std.specs.Prelude.{◌≡◌, ℕ, List, [], Option, Result, Bool, true, false}
 use Rattle.ud_io.specs.Watched.{WatchedState}
 use Rattle.ud_replace.specs.declared.error.Update.{Update}
@@ -19,11 +21,13 @@ use Rattle.ud_tree.specs.declared.arguments.Arguments.{Arguments}
 use Rattle.ud_tree.specs.declared.arguments.Task.TheVariants.{Names}
 use Rattle.ud_tree.specs.declared.counts.Counts.{Counts}
 use Rattle.ud_tree.specs.declared.counts.Edits.{Edits}
+use Rattle.ud_tree.specs.declared.last_lines.Processed.{Processed}
 use Rattle.ud_tree.specs.Reports.{ReportState, Writes}
 use Rattle.ud_tree.specs.Lists.{Adds}
 use Rattle.ud_tree.specs.Remainders.{FindsAll}
 use Rattle.ud_tree.specs.Runs.{FileResult, Counted, Listed, listed_of, lost_in, Output, outputs_of}
-use Rattle.ud_tree.specs.Runs.{texts_of}
+use Rattle.ud_tree.specs.Runs.{names_of, texts_of}
+use Rattle.ud_tree.specs.Summaries.{EndsWith, last_lines, still_unnamed}
 use Rattle.ud_io.specs.Streams.{Stream, stream_of, Sends}
 
 -- `Moment`: the calls so far, the newest first, the output and the error stream.
@@ -122,3 +126,16 @@ pub record WritesList (args : Arguments) (names : NameLists) (rest : List ℕ) (
   pub is_wanted : ¬ (args.task ≡ Names) → args.list_remaining ≡ false → listed ≡ []
   pub remains : ¬ (args.task ≡ Names) → args.list_remaining ≡ true → listed ≡ rest
   pub sent : Sends out out' listed
+
+-- `end_of args processed report`: the last lines, with the numbers of conditions and definitions of
+-- the report, and the names that it has marked.
+abbrev pub end_of : Arguments → Processed → ReportState → List ℕ
+end_of args p r = last_lines args p.counts.changed p.counts.unchanged p.faults p.hidden
+    p.counts.edits r.remaining.count r.remaining.defined (still_unnamed args r.unnamed)
+    (names_of p.others.named.items) p.others.unsearched
+
+-- `TellsEnd args processed old new`: the last lines were written. Nothing else was, unless a
+-- terminal showed the number of files.
+pub record TellsEnd (args : Arguments) (p : Processed) (old new : ReportState) : Type 0 where
+  pub told : EndsWith new.err (end_of args p old)
+  pub alone : old.is_shown ≡ false → Sends old.err new.err (end_of args p old)

@@ -30,6 +30,8 @@ pub(crate) struct Walked {
     /// The arguments of `-g` that matched nothing, each between quotes. There are none after a
     /// fault, or if the paths come from the input.
     pub rules: Vec<Vec<u8>>,
+    /// The number of faults that the walk has reported.
+    pub faults: usize,
 }
 
 /// Returns the files of the run; `None` if the input can't be read, if a path of the command line
@@ -52,16 +54,21 @@ pub(crate) fn find_files<T: Tree, R: Read, E: Write>(
     if !all {
         return Ok(None);
     }
-    let rules = unmatched_rules(job, &walk, report.faulty())?;
+    let faults = report.faulty();
+    let rules = unmatched_rules(job, &walk, faults)?;
     let files = walk.finish()?;
     if files.is_empty() && !job.arguments.from_input {
-        if 0 < report.faulty() {
+        if 0 < faults {
             return Ok(None);
         }
         report.line(&[b"No file matches"]);
         return Ok(None);
     }
-    Ok(Some(Walked { files, rules }))
+    Ok(Some(Walked {
+        files,
+        rules,
+        faults,
+    }))
 }
 
 /// Returns the arguments of `-g` that matched nothing, each between quotes; none after a fault, or

@@ -5,12 +5,13 @@
 
 ghost use Rattle.std.specs.Prelude.{◌≡◌, ◌++◌, false, decimal};
 ghost use Rattle.ud_tree.specs.Reports.{Says};
-ghost use Rattle.ud_tree.specs.Summaries.{TellsEnd, changes_line, summary};
+ghost use Rattle.ud_tree.specs.Summaries.{changes_line, summary};
 ghost use Rattle.ud_tree.specs.Summaries.{edited_line, hidden_text, plural, remaining_line};
 ghost use Rattle.ud_tree.specs.Runs.{names_of};
 ghost use Rattle.ud_tree.specs.Summaries.{removed_line, defined_line, defined_text, line_of};
 ghost use Rattle.ud_tree.specs.Summaries.{others_line, still_unnamed, unnamed_lines};
 ghost use Rattle.ud_tree.specs.Summaries.{unsearched_line};
+ghost use Rattle.ud_tree.specs.Writing.{TellsEnd};
 
 use crate::arguments::{Arguments, Task};
 use crate::counts::Counts;
@@ -21,65 +22,65 @@ use crate::walk::Found;
 use itoa::Buffer;
 use std::io::Write;
 
+/// What became of the files of a run.
+#[derive(Drop)]
+pub(crate) struct Processed {
+    /// The numbers of files by their fates, and of their edits.
+    pub counts: Counts,
+    /// The number of faults, also of the walk and of the output.
+    pub faults: usize,
+    /// The number of conditions whose names can't be listed.
+    pub hidden: usize,
+    /// The files of other names.
+    pub others: Others,
+}
+
 /// Writes the last lines, unless the run is quiet: the counts, how many lines were removed, how
 /// many conditions were edited, how many still name a symbol, how many lines define one, which
-/// symbols no condition names, how many of the files `others` there are, and how many files of
-/// other names couldn't be searched.
-pub(crate) fn report_end<E: Write>(
-    job: &Job<'_>,
-    report: &mut Report<E>,
-    hidden: usize,
-    counts: Counts,
-    faults: usize,
-    others: &Others,
-)
-    ensures tells { TellsEnd job.now.arguments.now counts faults hidden
-        (names_of others.now.named.items) others.now.unsearched report.old report.new }
+/// symbols no condition names, and how many files of other names name one or couldn't be searched.
+pub(crate) fn report_end<E: Write>(job: &Job<'_>, report: &mut Report<E>, processed: &Processed)
+    ensures tells { TellsEnd job.now.arguments.now processed.now report.old report.new }
     ensures unshown { job.now.arguments.now.quiet ≡ false → report.new.is_shown ≡ false }
 {
     if job.arguments.quiet {
         return;
     }
-    report_counts(job.arguments, report, hidden, counts, faults);
-    report_removed(report, counts.edits.lines);
-    report_edited(job.arguments.plan.prunes, report, counts.edits.conditions);
+    report_counts(job.arguments, report, processed);
+    report_removed(report, processed.counts.edits.lines);
+    report_edited(
+        job.arguments.plan.prunes,
+        report,
+        processed.counts.edits.conditions,
+    );
     report_remaining(job.arguments, report);
     report_defined(job.arguments, report);
-    report_unnamed(job, report, faults);
-    report_others(report, others.named.as_slice());
-    report_unsearched(report, others.unsearched);
+    report_unnamed(job, report, processed.faults);
+    report_others(report, processed.others.named.as_slice());
+    report_unsearched(report, processed.others.unsearched);
 }
 
 /// Writes the counts.
-fn report_counts<E: Write>(
-    arguments: &Arguments,
-    report: &mut Report<E>,
-    hidden: usize,
-    counts: Counts,
-    faults: usize,
-)
-    ensures { Says report.old report.new
-        (summary arguments.now.task arguments.now.list_hidden counts.changed counts.unchanged
-        faults hidden) }
+fn report_counts<E: Write>(arguments: &Arguments, report: &mut Report<E>, processed: &Processed)
+    ensures { Says report.old report.new (summary arguments.now.task arguments.now.list_hidden
+        processed.now.counts.changed processed.now.counts.unchanged processed.now.faults
+        processed.now.hidden) }
 {
     match arguments.task {
-        Task::Replace => report_changes(report, b" changed, ", counts, faults),
-        Task::Diff => report_changes(report, b" would change, ", counts, faults),
-        Task::Names => {
-            report_listed(arguments.list_hidden, report, hidden, counts, faults);
-        }
+        Task::Replace => report_changes(report, b" changed, ", processed),
+        Task::Diff => report_changes(report, b" would change, ", processed),
+        Task::Names => report_listed(arguments.list_hidden, report, processed),
     }
 }
 
 /// Writes how many files changed, or would change; `word` says which.
-fn report_changes<E: Write>(report: &mut Report<E>, word: &[u8], counts: Counts, faults: usize)
-    ensures { Says report.old report.new
-        (changes_line word.now counts.changed counts.unchanged faults) }
+fn report_changes<E: Write>(report: &mut Report<E>, word: &[u8], processed: &Processed)
+    ensures { Says report.old report.new (changes_line word.now processed.now.counts.changed
+        processed.now.counts.unchanged processed.now.faults) }
 {
     let (mut first, mut second, mut third) = (Buffer::new(), Buffer::new(), Buffer::new());
-    let changed = first.format(counts.changed).as_bytes();
-    let unchanged = second.format(counts.unchanged).as_bytes();
-    let faulty = third.format(faults).as_bytes();
+    let changed = first.format(processed.counts.changed).as_bytes();
+    let unchanged = second.format(processed.counts.unchanged).as_bytes();
+    let faulty = third.format(processed.faults).as_bytes();
     report.line(&[
         changed,
         word,
@@ -91,27 +92,23 @@ fn report_changes<E: Write>(report: &mut Report<E>, word: &[u8], counts: Counts,
 }
 
 /// Writes how many files were listed, and how many conditions couldn't be.
-fn report_listed<E: Write>(
-    lists_hidden: bool,
-    report: &mut Report<E>,
-    hidden: usize,
-    counts: Counts,
-    faults: usize,
-)
-    ensures { Says report.old report.new
-        (summary Task.Names lists_hidden counts.changed counts.unchanged faults hidden) }
+fn report_listed<E: Write>(lists_hidden: bool, report: &mut Report<E>, processed: &Processed)
+    ensures { Says report.old report.new (summary Task.Names lists_hidden
+        processed.now.counts.changed processed.now.counts.unchanged processed.now.faults
+        processed.now.hidden) }
 {
     let (mut first, mut second, mut third) = (Buffer::new(), Buffer::new(), Buffer::new());
-    let listed = first.format(counts.unchanged).as_bytes();
-    let faulty = second.format(faults).as_bytes();
-    let unlisted = third.format(hidden).as_bytes();
+    let count = processed.counts.unchanged;
+    let listed = first.format(count).as_bytes();
+    let faulty = second.format(processed.faults).as_bytes();
+    let unlisted = third.format(processed.hidden).as_bytes();
     report.line(&[
         listed,
-        plural(counts.unchanged, b" file listed, ", b" files listed, "),
+        plural(count, b" file listed, ", b" files listed, "),
         faulty,
         b" faulty; ",
         unlisted,
-        hidden_text(lists_hidden, hidden),
+        hidden_text(lists_hidden, processed.hidden),
     ]);
 }
 

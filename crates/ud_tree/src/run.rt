@@ -1,6 +1,6 @@
 //! The run over all files of a tree.
 
-ghost use Rattle.std.specs.Prelude.{◌≡◌, ◌++◌, [], map, true, false, OnOk};
+ghost use Rattle.std.specs.Prelude.{◌≡◌, ◌++◌, [], true, false, OnOk};
 ghost use Rattle.std.specs.List.{All, AllPairs};
 ghost use Rattle.ud_passes.specs.names.NameTables.{names_in, Tabulates};
 ghost use Rattle.ud_tree.specs.Messages.{TellsIf, list_message, write_message};
@@ -14,7 +14,7 @@ ghost use Rattle.ud_tree.specs.Writing.{WritesList, moment};
 use crate::arguments::{Arguments, Task};
 use crate::find_files::{Walked, find_files};
 use crate::job::Job;
-use crate::last_lines::report_end;
+use crate::last_lines::{Processed, report_end};
 use crate::other_files::find_others;
 use crate::process_files::process_files;
 use crate::report::Report;
@@ -62,27 +62,22 @@ pub fn run_tree<T: Tree, R: Read, W: Write, E: Write>(
             (report.into_stream(), EXIT_TROUBLE)
         }
         Ok(None) => (report.into_stream(), EXIT_TROUBLE),
-        Ok(Some(walked)) => {
-            let faults = report.faulty();
-            process_all(job, tree, &walked, faults, out, report.into_stream())
-        }
+        Ok(Some(walked)) => process_all(job, tree, &walked, out, report.into_stream()),
     }
 }
 
 /// Processes the files in order, and writes the counts. Returns the error stream after that, and
-/// the exit status. `walk_faults` is the number of faults that the walk has reported.
+/// the exit status.
 fn process_all<T: Tree, W: Write, E: Write>(
     job: &Job<'_>,
     tree: &mut T,
     walked: &Walked,
-    walk_faults: usize,
     out: &mut Watched<W>,
     err: Watched<E>,
 ) -> (Watched<E>, u8)
     requires { AllPairs IsBefore walked.now.files.items }
-    ensures { EndsWriting job.now walk_faults
-        (moment T.history W.contents E.contents tree.old out.old err) walked.now.files.items
-        (map (λ r. r.items) walked.now.rules.items)
+    ensures { EndsWriting job.now walked.now
+        (moment T.history W.contents E.contents tree.old out.old err)
         (moment T.history W.contents E.contents tree.new out.new result.0) result.1 }
 {
     let mut report = Report::new(job, err);
@@ -93,11 +88,19 @@ fn process_all<T: Tree, W: Write, E: Write>(
     let others = find_others(job, tree, files, out, &mut report);
     let list_fault = write_lists(job, out, &mut report, &names);
     let out_fault = finish_output(out, &mut report);
-    let faults = walk_faults
+    let faults = walked
+        .faults
         .saturating_add(usize::from(list_fault))
         .saturating_add(usize::from(out_fault))
         .saturating_add(counts.faulty);
-    report_end(job, &mut report, names.hidden(), counts, faults, &others);
+    let hidden = names.hidden();
+    let processed = Processed {
+        counts,
+        faults,
+        hidden,
+        others,
+    };
+    report_end(job, &mut report, &processed);
     report.report_rules(job, walked.rules.as_slice());
     let err = report.into_stream();
     let status = status(job.arguments, err.failed(), faults, counts.changed);

@@ -10,10 +10,10 @@ use Rattle.ud_tree.proofs.find_files.find_files.Goals as goal
 pub returns-then-not-all-clause-ends : goal.returns-then-not-all-clause-ends
 returns-then-not-all-clause-ends g c = λ none. record { files = tt; stops = c.in_ok-all.ensures.walks.stops c.if-not-all.true none }
 
-pub returns-then-faulty-gt0-clause-ends : goal.returns-then-faulty-gt0-clause-ends
-returns-then-faulty-gt0-clause-ends g c = λ none. record {
+pub returns-then-faults-gt0-clause-ends : goal.returns-then-faults-gt0-clause-ends
+returns-then-faults-gt0-clause-ends g c = λ none. record {
   files = tt;
-  stops = stops_bad _ none c.if-not-job.true (subst (λ (n : ℕ). 0 < n) c.faulty-then-not-job.ensures c.if-faulty-gt0.true) c.walk_all.ensures.goes_on.told;
+  stops = stops_bad _ none c.if-not-job.true (subst (λ (n : ℕ). 0 < n) c.faulty-faults.ensures c.if-faults-gt0.true) c.walk_all.ensures.goes_on.told;
 }
 
 pub returns-then-not-job-clause-ends : goal.returns-then-not-job-clause-ends
@@ -33,12 +33,13 @@ returns-clause-ends g c = λ none. record {
         (length c.walk_all.ensures.goes_on.told.messages) none c.walk_all.ensures.goes_on.told.counted some)
         c.in_ok-files.ensures.kept c.in_ok-files.ensures.from
         (c.in_ok-all.ensures.walks.takes c.if-not-all.false);
-    leaves = leaves_rules (length c.walk_all.ensures.goes_on.told.messages) c.faulty.result
-        (λ few. c.faulty.ensures ∙ counted_from c.args.report.now.faulty c.walk_all.new.report.faulty (length c.walk_all.ensures.goes_on.told.messages) none c.walk_all.ensures.goes_on.told.counted few)
+    leaves = leaves_rules (length c.walk_all.ensures.goes_on.told.messages) c.faulty-faults.result
+        (λ few. c.faulty-faults.ensures ∙ counted_from c.args.report.now.faulty c.walk_all.new.report.faulty (length c.walk_all.ensures.goes_on.told.messages) none c.walk_all.ensures.goes_on.told.counted few)
         (λ some. ap (map (λ r. r.items)) (c.in_ok-rules.ensures.faulty some)) (λ input. ap (map (λ r. r.items)) (c.in_ok-rules.ensures.input input))
         c.in_ok-rules.ensures.each (λ paths. c.in_ok-all.ensures.marks c.if-not-all.false paths)
         (scope_same c.args.job.now.arguments.now c.in_ok-walk.walk (c.in_ok-walk.ensures.paths ∙ c.as_slice-paths.ensures.value) (c.in_ok-walk.ensures.patterns ∙ c.as_slice.ensures.value))
         (unmarked_first c.in_ok-walk.walk c.in_ok-walk.ensures.patterns c.in_ok-walk.ensures.marks);
+    faults_are = c.faulty-faults.ensures;
   };
   stops = tt;
 }

@@ -5,8 +5,8 @@ use Rattle.ud_tree.proofs.ReportLemmas.{says_same}
 use Rattle.ud_tree.proofs.last_lines.report_listed.Goals as goal
 
 pub returns : goal.returns
-returns g c = says_same
-    (listed_joined c.args.lists_hidden c.args.counts.changed c.args.counts.unchanged c.args.faults c.args.hidden
+returns g c = let p = c.args.processed.now in says_same
+    (listed_joined c.args.lists_hidden p.counts.changed p.counts.unchanged p.faults p.hidden
     c.as_bytes-listed.result.now c.as_bytes-faulty.result.now c.as_bytes-unlisted.result.now c.plural.result.now
     c.hidden_text.result.now
     (c.as_bytes-listed.ensures.value ∙ c.format.ensures.text)

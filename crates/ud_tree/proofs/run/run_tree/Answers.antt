@@ -15,6 +15,6 @@ returns-in-Ok-None-clause-runs g c =
 
 pub returns-in-Ok-Some-clause-runs : goal.returns-in-Ok-Some-clause-runs
 returns-in-Ok-Some-clause-runs g c =
-    ran_from c.args.job.now _ refl c.new-report.ensures c.faulty-faults.ensures c.into_stream-in-Ok-Some.ensures
+    ran_from c.args.job.now c.new-report.ensures c.into_stream-in-Ok-Some.ensures
     (rw c.in-Ok-Some.field-0-is at (c.in-Ok-Some.ensures.ends (ap (λ (r : ReportState). r.faulty) c.new-report.ensures))).files refl
     c.process_all.ensures
