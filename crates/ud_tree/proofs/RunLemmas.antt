@@ -17,7 +17,8 @@ use Rattle.ud_tree.specs.declared.walk.Found.{Found}
 use Rattle.ud_tree.specs.declared.arguments.Arguments.{Arguments}
 use Rattle.ud_tree.specs.declared.arguments.Task.{Task}
 use Rattle.ud_tree.specs.declared.arguments.Task.TheVariants.{Names}
-use Rattle.ud_tree.specs.Fates.{fate_of, is_changed, is_same, is_faulty, no_edits}
+use Rattle.ud_tree.specs.declared.file_result.Done.{Done}
+use Rattle.ud_tree.specs.Fates.{fate_of, is_changed, is_same, is_faulty, no_edits, unedited}
 use Rattle.ud_tree.specs.Runs.{FileResult, Unshown, EachFile, no_file, then_file, changed_in, faulty_in, edited_in, removed_in, told_of, Counted, names_of, nothing_listed, listed_of, lost_in, outputs_of, texts_of}
 use Rattle.ud_tree.specs.Remainders.{FindsAll, listing_of, list_of, count_of, defined_of}
 use Rattle.ud_tree.specs.Unnamed.{Seeks}
@@ -33,8 +34,6 @@ use Rattle.ud_tree.specs.Summaries.{last_lines, still_unnamed}
 use Rattle.ud_tree.specs.Unmatched.{LeavesRules, rule_lines}
 use Rattle.ud_tree.proofs.MessageLemmas.{output_told, output_count}
 use Rattle.ud_tree.proofs.ReportLemmas.{tells_none, tells_then, tells_same, writes_kept, writes_then}
-use Rattle.ud_tree.specs.Covering.{StandsIn, MissesNone}
-use Rattle.ud_tree.specs.Walks.{IsWalk}
 use Rattle.ud_tree.specs.WalkMessages.{joined, StopsWalk, FindsFiles}
 use Rattle.ud_passes.specs.declared.names.Names.{Names as NameLists}
 use Rattle.ud_passes.specs.names.NameTables.{names_in, Tabulates}
@@ -143,20 +142,20 @@ finds_push results r h k =
 -- files was shown.
 pub writes_push : {args : Arguments} {P : List ℕ → List Call → List Call → FileResult → Type 0} {old mid new : Stage} {next_report file_report : ReportState} {before : Counts}
     {lists mid_lists new_lists : NameLists}
-    (files : List Found) (i : ℕ) (f : Found) (name : List ℕ) (update : Result Update ReplaceError) (edits : Edits) (fate : Fate) (after : Counts) → i < length files → f ≡ get_or files i f →
+    (files : List Found) (i : ℕ) (f : Found) (name : List ℕ) (one : Done) (fate : Fate) (after : Counts) → i < length files → f ≡ get_or files i f →
     name ≡ string_bytes f.path → WritesAll args P old (names_of (take i files)) mid before lists mid_lists → Tells mid.report next_report [] → KeepsScreen next_report file_report →
-    ProcessesOne args P name (record mid { report = next_report }) (record new { report = file_report }) update edits
-    mid_lists new_lists → TellsOf (IsTold name update) file_report new.report → fate ≡ fate_of update →
+    ProcessesOne args P name (record mid { report = next_report }) (record new { report = file_report }) one
+    mid_lists new_lists → TellsOf (IsTold name one.update) file_report new.report → fate ≡ fate_of one.update →
     after.changed ≡ before.changed + cond (is_changed fate) 1 0 →
     after.unchanged ≡ before.unchanged + cond (is_same fate) 1 0 →
     after.faulty ≡ before.faulty + cond (is_faulty fate) 1 0 →
-    (before.edits.conditions + edits.conditions < 2 ^ 64 → after.edits.conditions ≡ before.edits.conditions + edits.conditions) →
-    (before.edits.lines + edits.lines < 2 ^ 64 → after.edits.lines ≡ before.edits.lines + edits.lines) →
+    (before.edits.conditions + one.edits.conditions < 2 ^ 64 → after.edits.conditions ≡ before.edits.conditions + one.edits.conditions) →
+    (before.edits.lines + one.edits.lines < 2 ^ 64 → after.edits.lines ≡ before.edits.lines + one.edits.lines) →
     WritesAll args P old (names_of (take (i + 1) files)) new after lists new_lists
 unfolding counted_push
-writes_push files i f name update edits fate after within is named h progress screen p t e a b c d l =
+writes_push files i f name one fate after within is named h progress screen p t e a b c d l =
     let w = p.writes in
-    let result : FileResult = record { update = update; shown = w.shown; told = t.message; edits = edits; listed = p.listed; outputs = w.outputs; texts = w.texts; lost = w.lost } in
+    let result : FileResult = record { update = one.update; shown = w.shown; told = t.message; edits = one.edits; listed = p.listed; outputs = w.outputs; texts = w.texts; lost = w.lost } in
     let later = finds_then [] w.texts [] w.outputs (finds_kept progress.keeps)
     (finds_same (append-nil w.texts) (append-nil w.outputs) (finds_then w.texts [] w.outputs [] w.finds (finds_kept t.tells.keeps))) in
     record {
@@ -177,11 +176,11 @@ writes_all files i is h = grind (arith, take_all)
 
 -- A file was processed of which nothing is shown.
 pub lists_unshown : {args : Arguments} {plan : TextPlan} {lists : Bool} {name : List ℕ} {calls calls' : List Call}
-    {old new : NameLists} {update : Result Update ReplaceError} (out : Stream) (r : ReportState) {n : Edits} →
-    n ≡ no_edits → ListsInto plan lists name calls calls' old new update →
+    {old new : NameLists} {update : Result Update ReplaceError} (out : Stream) (r : ReportState) →
+    ListsInto plan lists name calls calls' old new update →
     ProcessesOne args (Unshown (ListsOne plan lists)) name (record { calls = calls; out = out; report = r })
-    (record { calls = calls'; out = out; report = r }) update n old new
-lists_unshown out r none h = record {
+    (record { calls = calls'; out = out; report = r }) (unedited update) old new
+lists_unshown out r h = record {
   listed = h.listed;
   writes =
       record {
@@ -190,7 +189,7 @@ lists_unshown out r none h = record {
         texts = [];
         lost = false;
         loses = λ whole. refl;
-        does = λ told. record { does = h.does; nothing = refl; unedited = none; no_output = refl; no_text = refl };
+        does = λ told. record { does = h.does; nothing = refl; unedited = refl; no_output = refl; no_text = refl };
         sent = sends_none out;
         finds = finds_none refl (λ lost. lost) refl;
       };
@@ -199,14 +198,13 @@ lists_unshown out r none h = record {
 
 -- A file was processed of which nothing is listed.
 pub unlisted_one : {args : Arguments} {P : List ℕ → List Call → List Call → FileResult → Type 0} {name : List ℕ}
-    {before after : Stage} {update : Result Update ReplaceError} {n : Edits} (lists : NameLists) →
-    WritesOne args P name before after update n nothing_listed →
-    ProcessesOne args P name before after update n lists lists
+    {before after : Stage} {one : Done} (lists : NameLists) → WritesOne args P name before after one nothing_listed →
+    ProcessesOne args P name before after one lists lists
 unlisted_one lists h = record { listed = nothing_listed; writes = h; adds = adds_none lists }
 
 -- The task of the arguments does what they ask for.
-pub done_by : (t : Task) (args : Arguments) {name : List ℕ} {before after : Stage} {update : Result Update ReplaceError} {n : Edits} {lists lists' : NameLists} →
-    args.task ≡ t → ProcessesOne args (DoesBy t args) name before after update n lists lists' → ProcessesOne args (DoesOne args) name before after update n lists lists'
+pub done_by : (t : Task) (args : Arguments) {name : List ℕ} {before after : Stage} {one : Done} {lists lists' : NameLists} →
+    args.task ≡ t → ProcessesOne args (DoesBy t args) name before after one lists lists' → ProcessesOne args (DoesOne args) name before after one lists lists'
 done_by t args is h = grind arith
 
 -- A list was written, if it is wanted.

@@ -18,7 +18,7 @@ use Rattle.ud_tree.specs.declared.arguments.Arguments.{Arguments}
 use Rattle.ud_tree.specs.Reports.{ReportState}
 use Rattle.ud_tree.specs.Remainders.{FindsAll}
 use Rattle.ud_tree.specs.declared.counts.Edits.{Edits}
-use Rattle.ud_tree.specs.Fates.{no_edits, removed_by}
+use Rattle.ud_tree.specs.Fates.{no_edits, removed_by, unedited}
 use Rattle.ud_tree.specs.Runs.{ReadsOne, nothing_listed, Output, made}
 use Rattle.ud_simplified.specs.FoldedTexts.{folded_text}
 use Rattle.ud_passes.specs.declared.names.Names.{Names}
@@ -115,28 +115,28 @@ has_diff o name text output diff h is = grind arith
 
 -- Nothing was written of a file.
 pub shows_none : {args : Arguments} {plan : TextPlan} {into : Bool} {r r' : ReportState} {outputs : List Output}
-    {name text : List ℕ} {calls calls' : List Call} {update : Result Update ReplaceError} (out : Stream) {n : Edits} →
-    n ≡ no_edits → ReadsOne name text calls calls' →
+    {name text : List ℕ} {calls calls' : List Call} {update : Result Update ReplaceError} (out : Stream) →
+    ReadsOne name text calls calls' →
     ((o : TextOptions) → IsPlanned plan o → ShowsFile o into name calls calls' update [] no_edits outputs) →
     FindsAll args (text ∷ []) outputs r r' →
     WritesOne args (ShowsOne plan into) name (record { calls = calls; out = out; report = r })
-    (record { calls = calls'; out = out; report = r' }) update n nothing_listed
-shows_none {into = into} {outputs = outputs} {name = name} {text = text} {calls = calls} {calls' = calls'} {update = update} out none read h finds = record {
+    (record { calls = calls'; out = out; report = r' }) (unedited update) nothing_listed
+shows_none {outputs = outputs} {text = text} out read h finds = record {
   shown = [];
   outputs = outputs;
   texts = text ∷ [];
   lost = false;
   loses = λ whole. refl;
-  does = λ told. record { text = text; is_text = refl; reads = read; shows = λ o p. subst (λ (k : Edits). ShowsFile o into name calls calls' update [] k outputs) (sym none) (h o p) };
+  does = λ told. record { text = text; is_text = refl; reads = read; shows = h };
   sent = sends_none out;
   finds = finds;
 }
 
 -- A file whose output differs is shown by its diff.
-pub shows_changed : (o : TextOptions) (into : Bool) (name text output seen diff : List ℕ) {edited : ℕ} (stat : FileStat) (calls calls' : List Call) →
-    WasRead name text stat calls calls' → RunsOver o text output true edited → (stat.links ≤ 1) ⊎ (into ≡ true) →
-    seen ≡ output → IsDiff name text output diff → (lines : ℕ) → lines ≡ removed_by Replaced text seen →
-    ShowsFile o into name calls calls' (Ok Replaced) diff (record { conditions = edited; lines = lines }) (made name seen)
+pub shows_changed : (o : TextOptions) (into : Bool) (name text output diff : List ℕ) (edits : Edits) (stat : FileStat) (calls calls' : List Call) →
+    WasRead name text stat calls calls' → RunsOver o text output true edits.conditions → (stat.links ≤ 1) ⊎ (into ≡ true) →
+    IsDiff name text output diff → edits.lines ≡ removed_by Replaced text output →
+    ShowsFile o into name calls calls' (Ok Replaced) diff edits (made name output)
 unfolding has_diff
-shows_changed o into name text output seen diff {edited = edited} stat calls calls' was h may q diffs lines fewer =
-    changed text seen diff (record { conditions = edited; lines = lines }) stat was may (has_diff o name text output diff h diffs) (q ∙ h.output_is) fewer
+shows_changed o into name text output diff edits stat calls calls' was h may diffs fewer =
+    changed text output diff edits stat was may (has_diff o name text output diff h diffs) h.output_is fewer

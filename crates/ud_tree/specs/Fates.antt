@@ -3,6 +3,7 @@
 --   fate_of r                the fate of a file, by the result of replacing it
 --   is_changed f, is_same f, is_faulty f   the file was changed, or wasn't, or has a fault
 --   no_edits                 there are no edits
+--   unedited update          a file without edits
 --   removed_by update text output   how many lines were removed
 use Rattle.std.specs.Prelude.{ℕ, List, ◌-◌, length, Bool, true, false, if◌then◌else◌}
 use Rattle.std.specs.Prelude.{Result, Ok, Err}
@@ -13,6 +14,7 @@ use Rattle.ud_replace.specs.declared.error.ReplaceError.{ReplaceError}
 use Rattle.ud_tree.specs.declared.counts.Edits.{Edits}
 use Rattle.ud_tree.specs.declared.counts.Fate.{Fate}
 use Rattle.ud_tree.specs.declared.counts.Fate.TheVariants.{Changed, Same, Faulty}
+use Rattle.ud_tree.specs.declared.file_result.Done.{Done}
 
 -- `fate_of r`: the fate of a file.
 abbrev pub fate_of : Result Update ReplaceError → Fate
@@ -42,6 +44,10 @@ is_faulty Faulty = true
 -- `no_edits`: no condition was edited, and no line removed.
 abbrev pub no_edits : Edits
 no_edits = record { conditions = 0; lines = 0 }
+
+-- `unedited update`: a file with this result, and without edits.
+abbrev pub unedited : Result Update ReplaceError → Done
+unedited update = record { update = update; edits = no_edits }
 
 -- `removed_by update text output`: how many lines fewer `output` has than `text`, counted by
 -- newlines, if the file was changed.

@@ -2,8 +2,8 @@
 --
 --   DoesBy task args name old new result   what a task does with a file
 --   DoesOne args name old new result       what the arguments ask for is done with a file
---   WritesBy task args name before after update edits   a file was processed by the task
---   DoesFile job name before after update edits lists lists'   what is asked for is done
+--   WritesBy task args name before after done   a file was processed by the task
+--   DoesFile job name before after done lists lists'   what is asked for is done
 --   DoesJob job files before after counts lists lists'   the same with each file
 --   shows_changes args                      changes are shown, made or not
 --   IsDone args failed files done           which files are processed before a run ends
@@ -29,18 +29,17 @@
 -- input has before and after. `messages` are the walk's messages, and `in_walk` is their number.
 -- `is_lost`: memory ran out for something to be shown or listed.
 use Rattle.std.specs.Prelude.{◌≡◌, ◌⊎◌, ℕ, ◌+◌, ◌≤◌, ◌<◌, ◌^◌, List, [], ◌++◌, length}
-use Rattle.std.specs.Prelude.{Bool, true, false, filter, map, take, Result}
+use Rattle.std.specs.Prelude.{Bool, true, false, filter, map, take}
 use Rattle.ud_model.specs.conditions.Conditions.{is_listed}
 use Rattle.ud_model.specs.conditions.Table.{Argument}
 use Rattle.ud_cond.specs.symbols.SymbolTable.{TableRepresents}
 use Rattle.ud_replace.specs.Calls.{Call}
-use Rattle.ud_replace.specs.declared.error.Update.{Update}
-use Rattle.ud_replace.specs.declared.error.ReplaceError.{ReplaceError}
 use Rattle.ud_tree.specs.declared.arguments.Task.{Task}
 use Rattle.ud_tree.specs.declared.arguments.Task.TheVariants.{Replace, Diff, Names}
 use Rattle.ud_tree.specs.declared.arguments.Arguments.{Arguments}
 use Rattle.ud_tree.specs.declared.counts.Counts.{Counts}
 use Rattle.ud_tree.specs.declared.counts.Edits.{Edits}
+use Rattle.ud_tree.specs.declared.file_result.Done.{Done}
 use Rattle.ud_tree.specs.declared.find_files.Walked.{Walked}
 use Rattle.ud_tree.specs.declared.job.Job.{Job}
 use Rattle.ud_tree.specs.declared.other_files.Others.{Others}
@@ -77,21 +76,16 @@ DoesBy Names args = Unshown (ListsOne args.plan args.list_hidden)
 abbrev pub DoesOne : Arguments → List ℕ → List Call → List Call → FileResult → Type 0
 DoesOne args = DoesBy args.task args
 
--- `DoesFile job name before after update edits lists lists'`: what the arguments ask for is done
--- with the file `name`, what is shown of it was written, and what is listed of it was added to
--- `lists`.
-abbrev pub DoesFile : Job → List ℕ → Stage → Stage → Result Update ReplaceError → Edits →
-    NameLists → NameLists → Type 0
-DoesFile job name before after update edits lists lists' =
-    ProcessesOne job.arguments.now (DoesOne job.arguments.now) name before after update edits
-    lists lists'
+-- `DoesFile job name before after done lists lists'`: what the arguments ask for is done with the
+-- file `name`, what is shown of it was written, and what is listed of it was added to `lists`.
+abbrev pub DoesFile : Job → List ℕ → Stage → Stage → Done → NameLists → NameLists → Type 0
+DoesFile job = ProcessesOne job.arguments.now (DoesOne job.arguments.now)
 
--- `WritesBy task args name before after update edits`: the file `name` is replaced or shown, by the
--- task (`WritesOne`). Nothing is listed of it.
-abbrev pub WritesBy : Task → Arguments → List ℕ → Stage → Stage → Result Update ReplaceError →
-    Edits → Type 0
-WritesBy task args name before after update edits =
-    WritesOne args (DoesBy task args) name before after update edits nothing_listed
+-- `WritesBy task args name before after done`: the file `name` is replaced or shown, by the task
+-- (`WritesOne`). Nothing is listed of it.
+abbrev pub WritesBy : Task → Arguments → List ℕ → Stage → Stage → Done → Type 0
+WritesBy task args name before after done =
+    WritesOne args (DoesBy task args) name before after done nothing_listed
 
 -- `DoesJob job files before after counts lists lists'`: what the arguments ask for is done with
 -- each file in turn, what is shown and told of them was written, and what is listed of them was

@@ -4,23 +4,21 @@
 --   moment history contents reported tree out err   the moment of a tree and two writers
 --   Stage                                 the calls so far, the output and the report
 --   stage history contents tree out report   those of a tree and a writer
---   WritesOne args P name before after update edits listed   a file was processed, and shown
---   ProcessesOne args P name before after update edits lists lists'   what is listed was added, too
+--   WritesOne args P name before after done listed   a file was processed, and shown
+--   ProcessesOne args P name before after done lists lists'   what is listed was added, too
 --   WritesAll args P before names after counts lists lists'   each file in turn was processed
 --   WritesList args names rest lost out out'   what is listed after the files was written
 --   end_of args processed report          the last lines
 --   TellsEnd args processed old new       they were written last
-use Rattle.std.specs.Prelude.{◌≡◌, ℕ, List, [], Option, Result, Bool, true, false}
+use Rattle.std.specs.Prelude.{◌≡◌, ℕ, List, [], Option, Bool, true, false}
 use Rattle.ud_io.specs.Watched.{WatchedState}
-use Rattle.ud_replace.specs.declared.error.Update.{Update}
-use Rattle.ud_replace.specs.declared.error.ReplaceError.{ReplaceError}
 use Rattle.ud_passes.specs.declared.names.Names.{Names as NameLists}
 use Rattle.ud_passes.specs.names.NameTables.{names_in, Tabulates}
 use Rattle.ud_replace.specs.Calls.{Call}
 use Rattle.ud_tree.specs.declared.arguments.Arguments.{Arguments}
 use Rattle.ud_tree.specs.declared.arguments.Task.TheVariants.{Names}
 use Rattle.ud_tree.specs.declared.counts.Counts.{Counts}
-use Rattle.ud_tree.specs.declared.counts.Edits.{Edits}
+use Rattle.ud_tree.specs.declared.file_result.Done.{Done}
 use Rattle.ud_tree.specs.declared.last_lines.Processed.{Processed}
 use Rattle.ud_tree.specs.Reports.{ReportState, Writes}
 use Rattle.ud_tree.specs.Lists.{Adds}
@@ -59,24 +57,23 @@ abbrev pub stage : {T W : Type 0} → (T → List Call) → (W → Option (List 
 stage history contents tree out report =
     record { calls = history tree; out = stream_of contents out; report = report }
 
--- `WritesOne args P name before after update edits listed`: `P` holds of a file with this result,
--- these edits, and what is listed of it. What is shown of it was written. The conditions of its
+-- `WritesOne args P name before after done listed`: `P` holds of a file with this result, these
+-- edits, and what is listed of it. What is shown of it was written. The conditions of its
 -- output that still name a symbol were added to the report, and it looked for names in its text. If
 -- memory ran out for some of that (`lost`), the report records it.
 pub record WritesOne (args : Arguments)
     (P : List ℕ → List Call → List Call → FileResult → Type 0) (name : List ℕ)
-    (before after : Stage) (update : Result Update ReplaceError) (edits : Edits)
-    (listed : Listed) : Type 0 where
+    (before after : Stage) (done : Done) (listed : Listed) : Type 0 where
   pub shown : List ℕ
   pub outputs : List Output
   pub texts : List (List ℕ)
   pub lost : Bool
   pub does : (told : List ℕ) →
       P name before.calls after.calls (record {
-        update = update;
+        update = done.update;
         shown = shown;
         told = told;
-        edits = edits;
+        edits = done.edits;
         listed = listed;
         outputs = outputs;
         texts = texts;
@@ -86,14 +83,13 @@ pub record WritesOne (args : Arguments)
   pub finds : FindsAll args texts outputs before.report after.report
   pub loses : after.report.has_lost ≡ false → lost ≡ false
 
--- `ProcessesOne args P name before after update edits lists lists'`: the same, and what is listed
--- of the file was added to `lists`.
+-- `ProcessesOne args P name before after done lists lists'`: the same, and what is listed of the
+-- file was added to `lists`.
 pub record ProcessesOne (args : Arguments)
     (P : List ℕ → List Call → List Call → FileResult → Type 0) (name : List ℕ)
-    (before after : Stage) (update : Result Update ReplaceError) (edits : Edits)
-    (lists lists' : NameLists) : Type 0 where
+    (before after : Stage) (done : Done) (lists lists' : NameLists) : Type 0 where
   pub listed : Listed
-  pub writes : WritesOne args P name before after update edits listed
+  pub writes : WritesOne args P name before after done listed
   pub adds : Adds lists lists' listed
 
 -- `WritesAll args P before names after counts lists lists'`: `P` holds of each file in turn,

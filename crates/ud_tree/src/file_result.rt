@@ -1,17 +1,41 @@
-//! The fate of a file, and its message.
+//! What became of a file: its fate, its edits, and its message.
 
 ghost use Rattle.std.specs.Prelude.{◌≡◌};
 ghost use Rattle.ud_tree.specs.Messages.{IsMessageOf, IsTold};
 ghost use Rattle.ud_tree.specs.Fates.{fate_of};
 ghost use Rattle.ud_tree.specs.Reports.{TellsOf};
 
-use crate::counts::Fate;
+use crate::counts::{Edits, Fate};
 use crate::disk::is_other_file;
 use crate::job::Job;
 use crate::report::Report;
 use crate::tree::Tree;
 use std::io::{self, Write};
 use ud_replace::{ReplaceError, Update};
+
+/// The result of a file, and its edits.
+#[derive(Clone, Copy)]
+pub(crate) struct Done {
+    /// The result of replacing it, or the one that a run would have.
+    pub update: Result<Update, ReplaceError>,
+    /// The edits of its text, made or only shown.
+    pub edits: Edits,
+}
+
+impl Done {
+    ghost use Rattle.std.specs.Prelude.{◌≡◌};
+    ghost use Rattle.ud_tree.specs.Fates.{unedited};
+
+    /// Returns that a file, whose result is `update`, has no edits.
+    pub(crate) fn unedited(update: Result<Update, ReplaceError>) -> Done
+        ensures { result ≡ unedited update }
+    {
+        Done {
+            update,
+            edits: Edits::none(),
+        }
+    }
+}
 
 /// Returns the fate of a file.
 pub(crate) fn fate_of(update: Result<Update, ReplaceError>) -> Fate

@@ -22,7 +22,7 @@ use crate::walk::Found;
 use itoa::Buffer;
 use std::io::Write;
 
-/// What became of the files of a run.
+/// The totals over the files of a run.
 #[derive(Drop)]
 pub(crate) struct Processed {
     /// The numbers of files by their fates, and of their edits.

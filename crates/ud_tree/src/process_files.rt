@@ -1,14 +1,13 @@
 //! Processing all files of a run.
 
 ghost use Rattle.std.specs.Prelude.{◌≡◌, true, false};
-ghost use Rattle.ud_tree.specs.Fates.{no_edits};
 ghost use Rattle.ud_tree.specs.Reports.{KeepsScreen};
 ghost use Rattle.ud_tree.specs.TreeRuns.{DoesFile, DoesFiles, shows_changes};
 ghost use Rattle.ud_tree.specs.Writing.{stage};
 
 use crate::arguments::{Arguments, Task};
-use crate::counts::{Counts, Edits};
-use crate::file_result::fate_of;
+use crate::counts::Counts;
+use crate::file_result::{Done, fate_of};
 use crate::job::Job;
 use crate::list_file::list_file;
 use crate::replace_file::replace_file;
@@ -19,7 +18,15 @@ use crate::walk::{FileAt, Found};
 use std::io::Write;
 use ud_engine::Watched;
 use ud_passes::Names;
-use ud_replace::{ReplaceError, Update};
+
+/// The report and the names of a run, which it keeps while it goes over its files.
+#[derive(Drop)]
+pub(crate) struct Session<E: Write> {
+    /// The messages, and what the texts and the outputs say of the symbols.
+    pub report: Report<E>,
+    /// The names that are listed.
+    pub names: Names,
+}
 
 /// Does what the arguments ask for with each file in turn, and reports its fault. Returns the
 /// counts of the files.
@@ -31,26 +38,25 @@ pub(crate) fn process_files<T: Tree, W: Write, E: Write>(
     tree: &mut T,
     files: &[Found],
     out: &mut Watched<W>,
-    names: &mut Names,
-    report: &mut Report<E>,
+    session: &mut Session<E>,
 ) -> Counts
-    requires { names.old.lists_hidden ≡ job.now.arguments.now.list_hidden }
+    requires { session.old.names.lists_hidden ≡ job.now.arguments.now.list_hidden }
     ensures { DoesFiles job.now files.now
-        (stage T.history W.contents tree.old out.old report.old)
-        (stage T.history W.contents tree.new out.new report.new) result names.old names.new }
+        (stage T.history W.contents tree.old out.old session.old.report)
+        (stage T.history W.contents tree.new out.new session.new.report) result
+        session.old.names session.new.names }
 {
     let mut counts = Counts::new();
     for (done, found) in files.iter().enumerate() {
         if is_unrecorded(job.arguments, out) {
             return counts;
         }
-        report.progress(done, files.len());
+        session.report.progress(done, files.len());
         let name = found.path.as_bytes();
         let file = FileAt { name, id: found.id };
-        let mut edits = Edits::none();
-        let update = process_file(job, tree, file, out, names, report, &mut edits);
-        report.file_result(job, tree, name, update);
-        counts.add(fate_of(update), edits);
+        let result = process_file(job, tree, file, out, session);
+        session.report.file_result(job, tree, name, result.update);
+        counts.add(fate_of(result.update), result.edits);
     }
     counts
 }
@@ -69,33 +75,26 @@ fn is_unrecorded<W: Write>(arguments: &Arguments, out: &Watched<W>) -> bool
     }
 }
 
-/// Does what the arguments ask for with a file. Leaves the edits of its text, made or only shown,
-/// in `edits`, which has none before.
-///
-/// # Errors
-/// As `replace_file`, `show_file` or `list_file`.
+/// Does what the arguments ask for with a file.
 fn process_file<T: Tree, W: Write, E: Write>(
     job: &Job<'_>,
     tree: &mut T,
     file: FileAt<'_>,
     out: &mut Watched<W>,
-    names: &mut Names,
-    report: &mut Report<E>,
-    edits: &mut Edits,
-) -> Result<Update, ReplaceError>
-    requires none { edits.old ≡ no_edits }
+    session: &mut Session<E>,
+) -> Done
     requires recorded { job.now.arguments.now.task ≡ Task.Replace →
         job.now.arguments.now.show_changes ≡ true → out.old.failed ≡ false }
-    requires lists { names.old.lists_hidden ≡ job.now.arguments.now.list_hidden }
+    requires lists { session.old.names.lists_hidden ≡ job.now.arguments.now.list_hidden }
     ensures writes { DoesFile job.now file.entry.name.now
-        (stage T.history W.contents tree.old out.old report.old)
-        (stage T.history W.contents tree.new out.new report.new) result edits.new
-        names.old names.new }
-    ensures screen { KeepsScreen report.old report.new }
+        (stage T.history W.contents tree.old out.old session.old.report)
+        (stage T.history W.contents tree.new out.new session.new.report) result
+        session.old.names session.new.names }
+    ensures screen { KeepsScreen session.old.report session.new.report }
 {
     match job.arguments.task {
-        Task::Replace => replace_file(job, tree, file, out, report, edits),
-        Task::Diff => show_file(job, tree, file, out, report, edits),
-        Task::Names => list_file(job, tree, file, names),
+        Task::Replace => replace_file(job, tree, file, out, &mut session.report),
+        Task::Diff => show_file(job, tree, file, out, &mut session.report),
+        Task::Names => Done::unedited(list_file(job, tree, file, &mut session.names)),
     }
 }

@@ -3,7 +3,7 @@
 ghost use Rattle.std.specs.Prelude.{◌≡◌, true, false, Ok, is_ok};
 ghost use Rattle.ud_replace.specs.MadeOutcomes.{IsFresh, output_of};
 ghost use Rattle.ud_tree.specs.Changes.{KeepsAs, ShowsChange};
-ghost use Rattle.ud_tree.specs.Fates.{fate_of, is_changed, no_edits, removed_by};
+ghost use Rattle.ud_tree.specs.Fates.{fate_of, is_changed, removed_by};
 ghost use Rattle.ud_tree.specs.Runs.{ReplacesOne};
 ghost use Rattle.ud_tree.specs.Reports.{KeepsScreen};
 ghost use Rattle.ud_tree.specs.TreeRuns.{WritesBy};
@@ -12,6 +12,7 @@ ghost use Rattle.ud_tree.specs.Writing.{stage};
 use crate::arguments::Task;
 use crate::counts::Edits;
 use crate::file_diff::diff_of;
+use crate::file_result::Done;
 use crate::job::Job;
 use crate::paths::fresh_name;
 use crate::report::Report;
@@ -25,24 +26,22 @@ use ud_text::count_lines;
 /// Replaces a file, and adds the conditions of its output that still name a symbol to the report.
 /// Looks for names in the text, even after an error.
 /// Writes the diff of a changed file, if the arguments ask for it; the output hasn't failed before.
-/// Leaves the edits of its text in `edits`, which has none before.
 ///
 /// # Errors
-/// As `replace_keeping`. `OutOfMemory` also if memory for the new file's name can't be allocated.
-/// If memory for the diff can't be, the file is changed, and the report records that.
+/// The result is an error as of `replace_keeping`. It is `OutOfMemory` also if memory for the new
+/// file's name can't be allocated. If memory for the diff can't be, the file is changed, and the
+/// report records that.
 pub(crate) fn replace_file<T: Tree, W: Write, E: Write>(
     job: &Job<'_>,
     tree: &mut T,
     file: FileAt<'_>,
     out: &mut Watched<W>,
     report: &mut Report<E>,
-    edits: &mut Edits,
-) -> Result<Update, ReplaceError>
-    requires none { edits.old ≡ no_edits }
+) -> Done
     requires recorded { job.now.arguments.now.show_changes ≡ true → out.old.failed ≡ false }
     ensures writes { WritesBy Task.Replace job.now.arguments.now file.entry.name.now
         (stage T.history W.contents tree.old out.old report.old)
-        (stage T.history W.contents tree.new out.new report.new) result edits.new }
+        (stage T.history W.contents tree.new out.new report.new) result }
     ensures screen { KeepsScreen report.old report.new }
 {
     let mut kept = Kept::new(job.alloc);
@@ -50,19 +49,16 @@ pub(crate) fn replace_file<T: Tree, W: Write, E: Write>(
         Ok(update) => update,
         Err(error) => {
             report.find_names(job, kept.text.as_slice());
-            return Err(error);
+            return Done::unedited(Err(error));
         }
     };
-    let text = kept.text.as_slice();
-    let output = kept.output();
-    *edits = Edits {
-        conditions: kept.outcome.edited,
-        lines: removed_by(update, text, output),
-    };
-    report.find(job, file.name, text, output, kept.outcome.output.is_none());
+    report.find(job, file.name, &kept);
     let diff = change_of(job, file.name, update, &kept, report);
     send(out, diff.as_slice());
-    Ok(update)
+    Done {
+        update: Ok(update),
+        edits: edits_of(update, &kept),
+    }
 }
 
 /// Returns the diff of a changed file, if the arguments ask for it; else nothing. If memory runs
@@ -97,14 +93,19 @@ fn change_of<E: Write>(
     }
 }
 
-/// Returns how many lines fewer a file's output has than its text, if the file was changed.
-pub(crate) fn removed_by(update: Update, text: &[u8], output: &[u8]) -> usize
-    ensures { result ≡ removed_by update text.now output.now }
+/// Returns the edits of a file's text. No line counts as removed unless the file was changed.
+pub(crate) fn edits_of(update: Update, kept: &Kept) -> Edits
+    ensures conditions { result.conditions ≡ kept.now.outcome.edited }
+    ensures lines { result.lines ≡ removed_by update kept.now.text.items (output_of kept.now) }
 {
+    let conditions = kept.outcome.edited;
     if is_change(update) {
-        count_lines(text).saturating_sub(count_lines(output))
-    } else {
-        0
+        let lines = count_lines(kept.text.as_slice()).saturating_sub(count_lines(kept.output()));
+        return Edits { conditions, lines };
+    }
+    Edits {
+        conditions,
+        lines: 0,
     }
 }
 

@@ -1,16 +1,15 @@
 //! Shows what would change in one file.
 
 ghost use Rattle.std.specs.Prelude.{◌≡◌, ◌⊎◌, ◌<◌, ◌≤◌, true, false};
-ghost use Rattle.ud_tree.specs.Fates.{no_edits};
 ghost use Rattle.ud_tree.specs.Reports.{KeepsScreen};
 ghost use Rattle.ud_tree.specs.TreeRuns.{WritesBy};
 ghost use Rattle.ud_tree.specs.Writing.{stage};
 
 use crate::arguments::Task;
-use crate::counts::Edits;
 use crate::file_diff::diff_of;
+use crate::file_result::Done;
 use crate::job::Job;
-use crate::replace_file::removed_by;
+use crate::replace_file::edits_of;
 use crate::report::Report;
 use crate::run_file::run_file;
 use crate::tree::Tree;
@@ -20,27 +19,25 @@ use ud_io::{Watched, send};
 use ud_replace::{FileStat, Kept, ReplaceError, Update};
 
 /// Writes the diff of a file, and adds the conditions of its output that still name a symbol to the
-/// report. Looks for names in the text, even if that has a fault. Returns `Replaced` if the file
-/// would change. Leaves the edits of its text in `edits`, which has none before.
+/// report. Looks for names in the text, even if that has a fault. The result is `Replaced` if the
+/// file would change.
 ///
 /// The only call reads the file, once.
 ///
 /// # Errors
-/// As `run_file`. `OutOfMemory` also if memory for the diff can't be allocated. `SeveralLinks` if
-/// the file would change, and a run would only write into it, which isn't allowed. Then no
-/// condition is added to the report.
+/// The result is an error as of `run_file`. It is `OutOfMemory` also if memory for the diff can't
+/// be allocated, and `SeveralLinks` if the file would change, and a run would only write into it,
+/// which isn't allowed. Then no condition is added to the report.
 pub(crate) fn show_file<T: Tree, W: Write, E: Write>(
     job: &Job<'_>,
     tree: &mut T,
     file: FileAt<'_>,
     out: &mut Watched<W>,
     report: &mut Report<E>,
-    edits: &mut Edits,
-) -> Result<Update, ReplaceError>
-    requires none { edits.old ≡ no_edits }
+) -> Done
     ensures writes { WritesBy Task.Diff job.now.arguments.now file.entry.name.now
         (stage T.history W.contents tree.old out.old report.old)
-        (stage T.history W.contents tree.new out.new report.new) result edits.new }
+        (stage T.history W.contents tree.new out.new report.new) result }
     ensures screen { KeepsScreen report.old report.new }
 {
     let mut kept = Kept::new(job.alloc);
@@ -48,28 +45,26 @@ pub(crate) fn show_file<T: Tree, W: Write, E: Write>(
         Ok(ran) => ran,
         Err(error) => {
             report.find_names(job, kept.text.as_slice());
-            return Err(error);
+            return Done::unedited(Err(error));
         }
     };
-    let name = file.name;
-    let text = kept.text.as_slice();
-    let output = kept.output();
     if !ran.differs {
-        report.find(job, name, text, output, kept.outcome.output.is_none());
-        return Ok(Update::Unchanged);
+        report.find(job, file.name, &kept);
+        return Done::unedited(Ok(Update::Unchanged));
     }
-    report.find_names(job, text);
+    report.find_names(job, kept.text.as_slice());
     if is_left_alone(&ran.stat, job.arguments.write_into) {
-        return Err(ReplaceError::SeveralLinks);
+        return Done::unedited(Err(ReplaceError::SeveralLinks));
     }
-    let diff = diff_of(job.alloc, name, &kept)?;
-    *edits = Edits {
-        conditions: kept.outcome.edited,
-        lines: removed_by(Update::Replaced, text, output),
+    let Ok(diff) = diff_of(job.alloc, file.name, &kept) else {
+        return Done::unedited(Err(ReplaceError::OutOfMemory));
     };
-    report.search(job, name, output);
+    report.search(job, file.name, kept.output());
     send(out, diff.as_slice());
-    Ok(Update::Replaced)
+    Done {
+        update: Ok(Update::Replaced),
+        edits: edits_of(Update::Replaced, &kept),
+    }
 }
 
 /// Returns whether a run leaves a file alone because it has several links.

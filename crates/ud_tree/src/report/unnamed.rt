@@ -7,6 +7,7 @@ ghost use Rattle.std.specs.Prelude.{◌≡◌, ◌∷◌, [], false, true, filte
 ghost use Rattle.std.specs.List.{count_by, flat_map};
 ghost use Rattle.ud_cond.specs.symbols.Marks.{is_marked};
 ghost use Rattle.ud_io.specs.Streams.{Sends, stream_of};
+ghost use Rattle.ud_replace.specs.MadeOutcomes.{output_of};
 ghost use Rattle.ud_tree.specs.Remainders.{FindsAll};
 ghost use Rattle.ud_tree.specs.Reports.{KeepsScreen, Says};
 ghost use Rattle.ud_tree.specs.Runs.{made};
@@ -22,6 +23,7 @@ use std::io::Write;
 use ud_cond::Symbols;
 use ud_io::Watched;
 use ud_passes::{Listing, Remaining};
+use ud_replace::Kept;
 
 /// Writes a line for each of some names whose row is marked.
 fn report_marked<E: Write>(
@@ -85,22 +87,16 @@ impl<E: Write> Report<E> {
     }
 
     /// Searches the text of a file and the output for it: takes away the marks of the names that a
-    /// condition of the text has, and adds the mentions of symbols in the output. If `same`, these
-    /// are one text, which is mostly searched once. If memory runs out, records that.
-    pub(crate) fn find(
-        &mut self,
-        job: &Job<'_>,
-        name: &[u8],
-        text: &[u8],
-        output: &[u8],
-        same: bool,
-    )
-        requires same { same ≡ true → text.now ≡ output.now }
+    /// condition of the text has, and adds the mentions of symbols in the output. If these are one
+    /// text, it is mostly searched once. If memory runs out, records that.
+    pub(crate) fn find(&mut self, job: &Job<'_>, name: &[u8], kept: &Kept)
         ensures screen { KeepsScreen self.old self.new }
-        ensures finds { FindsAll job.now.arguments.now (text.now ∷ [])
-            (made name.now output.now) self.old self.new }
+        ensures finds { FindsAll job.now.arguments.now (kept.now.text.items ∷ [])
+            (made name.now (output_of kept.now)) self.old self.new }
     {
-        if same && job.arguments.search_remaining() {
+        let text = kept.text.as_slice();
+        let output = kept.output();
+        if kept.outcome.output.is_none() && job.arguments.search_remaining() {
             let (symbols, mode) = (job.arguments.plan.run.symbols(), job.mode());
             match self
                 .remaining

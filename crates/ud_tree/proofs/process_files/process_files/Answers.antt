@@ -10,13 +10,13 @@ loop-done-init g c = grind (arith, common_steps, writes_none)
 pub loop-done-preserved : goal.loop-done-preserved
 loop-done-preserved g c = record {
   counted = omega arith;
-  lists = c.process_file-update.ensures.writes.adds.lists ∙ c.loop-done.invariant.lists;
+  lists = c.process_file-result.ensures.writes.adds.lists ∙ c.loop-done.invariant.lists;
   written =
       writes_push c.args.files.now c.loop-done.done c.index-files-done.result c.as_bytes-name.result.now
-      c.process_file-update.result c.process_file-update.new.edits c.fate_of.result c.add.new.self c.loop-done-test.true
+      c.process_file-result.result c.fate_of.result c.add.new.self c.loop-done-test.true
       c.index-files-done.is c.as_bytes-name.ensures.value c.loop-done.invariant.written
-      c.progress.ensures c.process_file-update.ensures.screen
-      c.process_file-update.ensures.writes c.file_result.ensures c.fate_of.ensures c.add.ensures.changed c.add.ensures.unchanged c.add.ensures.faulty c.add.ensures.conditions c.add.ensures.lines;
+      c.progress.ensures c.process_file-result.ensures.screen
+      c.process_file-result.ensures.writes c.file_result.ensures c.fate_of.ensures c.add.ensures.changed c.add.ensures.unchanged c.add.ensures.faulty c.add.ensures.conditions c.add.ensures.lines;
 }
 
 pub returns-then-is_unrecorded : goal.returns-then-is_unrecorded

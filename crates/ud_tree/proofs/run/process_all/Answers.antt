@@ -5,7 +5,7 @@ use Rattle.ud_tree.proofs.run.process_all.Goals as goal
 pub returns : goal.returns
 returns g c =
     ends c.args.job.now c.args.walked.now _ c.write_lists-list_fault.result c.finish_output-out_fault.result c.status-status.result
-    c.new-names.result c.process_files-counts.new.names c.new-names.ensures.list c.new-names.ensures.hidden c.new-names.ensures.hidden_list c.hidden-hidden.ensures c.write_lists-list_fault.ensures.whole
+    c.new-names.result c.process_files-counts.new.session.names c.new-names.ensures.list c.new-names.ensures.hidden c.new-names.ensures.hidden_list c.hidden-hidden.ensures c.write_lists-list_fault.ensures.whole
     (rw c.new-report.ensures at c.seek_names.ensures) (rw c.as_slice-files.ensures.value at c.process_files-counts.ensures) (rw c.as_slice-files.ensures.value at c.find_others-others.ensures) c.write_lists-list_fault.ensures.writes
     c.write_lists-list_fault.ensures.told c.finish_output-out_fault.ensures.sent c.finish_output-out_fault.ensures.failed c.finish_output-out_fault.ensures.flushed
     c.finish_output-out_fault.ensures.told c.report_end.ensures.tells c.report_end.ensures.unshown
