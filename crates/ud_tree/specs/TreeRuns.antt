@@ -22,7 +22,7 @@
 --   ProcessesFiles run                      the files that the walk found are processed
 --   IsRun run                               either of these: a whole run
 --   IsClean run                             a run in which nothing failed
---   TellsUnnamed run processes              it tells of each symbol that no condition names
+--   TellsUnnamed run processes              it tells of the symbols that no condition names
 --   RunsTree job given left before after status   a whole run, and all of it was written
 --
 -- `old` and `new` are the calls before and after, the newest first. `given` and `left` are what the
@@ -253,7 +253,7 @@ pub record HasEnding (is_terminal : Bool) (before after : Moment) (messages : Li
       Sends before.err after.err (joined messages ++ ending.told)
 
 -- `EndsWriting job walked before after status`: the files of the walk are processed, and all that
--- is to be written for them was written, with the lines of these arguments of `-g`.
+-- is to be written for them was written, with the lines of its arguments of `-g`.
 pub record EndsWriting (job : Job) (walked : Walked) (before after : Moment) (status : ℕ) :
     Type 0 where
   pub ending : Ending
@@ -313,8 +313,9 @@ pub record IsClean (run : Run) : Type 0 where
   pub flushed : run.ending.streams.unflushed ≡ false
   pub heard : run.ending.streams.unheard ≡ false
 
--- `TellsUnnamed run processes`: the last lines have exactly the symbols that no condition of all
--- texts names, unless the run is quiet or some were lost.
+-- `TellsUnnamed run processes`: unless some were lost, the symbols of which the last lines say that
+-- no condition names them are exactly those that no condition of all texts names; none if the run
+-- is quiet. After a fault the lines are left out (`unnamed_lines`).
 abbrev pub TellsUnnamed : (run : Run) → ProcessesFiles run → Type 0
 TellsUnnamed run processes = processes.ends.is_lost ≡ false → (calls : List Argument) →
     TableRepresents run.args.plan.run.symbols calls → processes.ends.tally.unnamed ≡

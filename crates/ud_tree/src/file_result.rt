@@ -26,7 +26,7 @@ impl Done {
     ghost use Rattle.std.specs.Prelude.{◌≡◌};
     ghost use Rattle.ud_tree.specs.Fates.{unedited};
 
-    /// Returns that a file, whose result is `update`, has no edits.
+    /// Returns `update` as the result of a file without edits.
     pub(crate) fn unedited(update: Result<Update, ReplaceError>) -> Done
         ensures { result ≡ unedited update }
     {

@@ -38,9 +38,10 @@ pub fn law_run_shows()
         run.args.task ≡ Diff → ShowsDiffs o run }
 {}
 
-/// If the arguments are those of a command line, the last lines have exactly the symbols of its
-/// options that no condition of a file names, in the order of the options. A quiet run has none,
-/// and a run that lacked memory may have others.
+/// If the arguments are those of a command line, the symbols of which the last lines say that no
+/// condition names them are exactly those of its options that no condition of a file names, in the
+/// order of the options; none in a quiet run. A run that lacked memory may have others. After an
+/// error the last lines say nothing of them.
 pub fn law_run_unnamed()
     ensures { (given : List Parsed) (run : Run) → IsArgumentsOf given run.args →
         (processes : ProcessesFiles run) → TellsUnnamed run processes }
