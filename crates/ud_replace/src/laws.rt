@@ -12,7 +12,7 @@ ghost use Rattle.ud_replace.specs.TextOutcomes.{TextOptions, TextOutcome, HasMar
 
 /// A text has one outcome at most, with its marks: the output, the fault, whether it differs, how
 /// many conditions were edited, and what became of each line.
-pub fn law_one_outcome()
+pub fn law_one_text_outcome()
     ensures { (o : TextOptions) (text : List ℕ) (r s : TextOutcome) (ms ns : List ℕ) →
         HasMarkedOutcome o text r ms → HasMarkedOutcome o text s ns → (r ≡ s) × (ms ≡ ns) }
 {}

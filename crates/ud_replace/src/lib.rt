@@ -31,7 +31,7 @@ pub use directory::{CreateError, Directory};
 pub use error::{ReplaceError, Update};
 pub use history::History;
 pub use kept::Kept;
-pub use laws::{law_old_or_new, law_one_outcome, law_one_rename};
+pub use laws::{law_old_or_new, law_one_rename, law_one_text_outcome};
 pub use node::{FileId, Lookup, Node, NodeKind, Sample};
 pub use outcome::{Outcome, folded, may_fold, run_over};
 pub use replacement::{Target, replace, replace_keeping};
