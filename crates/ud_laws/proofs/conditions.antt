@@ -3,7 +3,7 @@
 --   ResidualTruth.tells                   the residual is true exactly if the condition is
 --   OneValue.one_value                    an expression has one value at most by the same numbers
 --   ResidualOperands.operands_undecided   each operand that is left is undecided
---   ResidualAgain.cells_again             a second simplification removes nothing
+--   ResidualAgain.residual_stays          a second simplification removes nothing
 --   StrictLess.cond_keeps                 what is decided under `-K` is decided alike without it
 --   NeverTurns.cond_after                 further symbols never reverse a condition
 --   ChoiceValues.choice_may               the value by allowed numbers is one that C may give

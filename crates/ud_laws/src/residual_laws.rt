@@ -1,21 +1,13 @@
 //! Laws of residuals: conditions and texts without the operands that the table decides.
 
-ghost use Rattle.std.specs.Prelude.{◌≡◌, ◌↔◌, ◌⊎◌, ℕ, List, [], ◌∷◌, ◌++◌, map, Some, true, false};
-ghost use Rattle.std.specs.Prelude.{Bool};
-ghost use Rattle.std.specs.List.{flat_map};
-ghost use Rattle.ud_model.specs.text.Lines.{Line, lines_of};
+ghost use Rattle.std.specs.Prelude.{◌≡◌, ◌↔◌, ℕ, List, ◌∷◌, ◌++◌, map, Bool};
+ghost use Rattle.ud_model.specs.text.Lines.{lines_of};
 ghost use Rattle.ud_model.specs.text.Scans.{Reading};
-ghost use Rattle.ud_model.specs.text.Lexemes.{Cell, shown};
-ghost use Rattle.ud_model.specs.text.Scanning.{scan_after, scan_after_run};
-ghost use Rattle.ud_simplified.specs.OtherLines.{AreReadAlike, StandsAlone};
-ghost use Rattle.ud_model.specs.conditions.Parsing.{expression_of};
 ghost use Rattle.ud_model.specs.conditions.Table.{Argument};
-ghost use Rattle.ud_model.specs.conditions.Expressions.{Expression, spelling, HasPrecedence};
-ghost use Rattle.ud_model.specs.conditions.Conditions.{Rules, tree_cond};
+ghost use Rattle.ud_model.specs.conditions.Expressions.{Expression};
+ghost use Rattle.ud_model.specs.conditions.Conditions.{Rules};
 ghost use Rattle.ud_model.specs.laws.CValues.{Number, IsZero};
-ghost use Rattle.ud_model.specs.aids.Residuals.{residual, simplified, operands, AreUndecided};
-ghost use Rattle.ud_model.specs.aids.Residuals.{chosen, keeps};
-ghost use Rattle.ud_simplified.specs.ResidualTexts.{simplified_cells};
+ghost use Rattle.ud_model.specs.aids.Residuals.{residual};
 ghost use Rattle.ud_simplified.specs.Sublists.{IsSublist};
 ghost use Rattle.ud_laws.specs.conditions.Choices.{Choice, IsAllowed, HasValue, stay};
 ghost use Rattle.ud_model.specs.sections.Directives.{Directive, directive, content_of, test_of};
@@ -26,9 +18,7 @@ ghost use Rattle.ud_model.specs.aids.ReadAs.{read_as};
 ghost use Rattle.ud_simplified.specs.SimplifiedTexts.{simplified_line, simplified_text};
 ghost use Rattle.ud_simplified.specs.SimplifiedTexts.{simplified_under};
 ghost use Rattle.ud_laws.specs.output.LeftOperands.{IsSimplified};
-ghost use Rattle.ud_simplified.specs.FoldedTexts.{folded_text, folded_line, is_foldable, continued};
-ghost use Rattle.ud_simplified.specs.FoldedTexts.{shown_lines, IsReadAs, has_tab, logical_lines};
-ghost use Rattle.ud_simplified.specs.FoldedTexts.{folded_readings, unnumbered, c_lines, CLine};
+ghost use Rattle.ud_simplified.specs.FoldedTexts.{CLine};
 ghost use Rattle.ud_laws.specs.output.Processing.{Processes, HasOneChoice};
 ghost use Rattle.ud_laws.specs.output.LogicalProcessing.{over_logical_lines, IsCTree, IsRewritten};
 ghost use Rattle.ud_laws.specs.output.LogicalProcessing.{RewrittenTree};
@@ -61,53 +51,6 @@ pub fn law_residual_truth()
         (residual table rules e).cond ≡ Cond.No → IsZero c }
     ensures allowed { (table : List Argument) (rules : Rules) (e : Expression) (m : Choice e) →
         IsAllowed table m → IsAllowed table (stay table rules m) }
-{}
-
-/// The residual of a condition has tokens of the condition, in their order, and no others.
-///
-/// Each operand that is left is unknown as a condition of its own, unless `&&` and `||` are strict.
-/// Simplifying again removes nothing, and the simplified form of an unknown condition is unknown.
-pub fn law_residual_shape()
-    ensures tokens { (table : List Argument) (rules : Rules) (e : Expression) →
-        IsSublist (spelling (residual table rules e).tree) (spelling e) }
-    ensures flags { (table : List Argument) (rules : Rules) (e : Expression) →
-        spelling (residual table rules e).tree ≡ chosen (keeps table rules e) (spelling e) }
-    ensures precedence { (table : List Argument) (rules : Rules) (e : Expression) (k : ℕ) →
-        HasPrecedence k e → HasPrecedence k (residual table rules e).tree }
-    ensures operands { (table : List Argument) (rules : Rules) (e : Expression) →
-        rules.strict ≡ false → (residual table rules e).cond ≡ Cond.Unknown →
-        AreUndecided table rules (operands (residual table rules e).tree) }
-    ensures again { (table : List Argument) (rules : Rules) (e : Expression) →
-        simplified table rules (simplified table rules e) ≡ simplified table rules e }
-    ensures unknown { (table : List Argument) (rules : Rules) (e : Expression) →
-        tree_cond e table rules ≡ Cond.Unknown →
-        tree_cond (simplified table rules e) table rules ≡ Cond.Unknown }
-{}
-
-/// A simplified text is read as the residual of its tree, or is the text itself.
-///
-/// Cells are only removed, and none moves. Simplifying again removes nothing (C11 6.10.1).
-pub fn law_residual_text()
-    ensures read { (table : List Argument) (rules : Rules) (e : Expression) (cells : List Cell) →
-        expression_of (map shown cells) ≡ Some e → (f : Expression) ×
-        (expression_of (map shown (simplified_cells table rules cells)) ≡ Some f) ×
-        ((f ≡ e) ⊎ (f ≡ (residual table rules e).tree)) }
-    ensures cells { (table : List Argument) (rules : Rules) (cells : List Cell) →
-        IsSublist (simplified_cells table rules cells) cells }
-    ensures again { (table : List Argument) (rules : Rules) (cells : List Cell) →
-        simplified_cells table rules (simplified_cells table rules cells) ≡
-        simplified_cells table rules cells }
-{}
-
-/// A line that joins no neighbour changes the scan of no other line.
-///
-/// Texts that differ in such lines alone are read alike: each line that they share has the same
-/// scan, and each other one the scan that it has by itself (C11 5.1.1.2).
-pub fn law_other_lines_stay()
-    ensures alike { (before after : List Reading) → AreReadAlike before after →
-        (m : Mode) (l : Line) → scan_after before m l ≡ scan_after after m l }
-    ensures alone { (before : List Reading) (l : Line) → StandsAlone before l →
-        scan_after before Mode.C l ≡ scan_after [] Mode.C l }
 {}
 
 /// A simplified text has bytes of the text, in their order, and no others.
@@ -147,37 +90,6 @@ pub fn law_answer_simplified()
         IsPlainC (options_of args) → LinesFit (lines_of a.output) →
         let text = simplified_under (options_of args) a.output in
         IsAnswer args text (copy_answer args text) }
-{}
-
-/// A folded line has the directive that its lines form.
-///
-/// Its masked bytes are theirs, with white space in place of each newline that continues the
-/// directive. It has the kind and the keyword that are on the first of the lines. After that come
-/// the bytes of the logical line but for white space, and its tokens, which the newlines don't part
-/// (C11 5.1.1.2, phases 2 and 3).
-pub fn law_folded_lines()
-    ensures masked { (rs : List Reading) → is_foldable rs ≡ true →
-        (scan_after_run [] (folded_line rs)).masked ≡ shown_lines rs }
-    ensures directive { (bytes : List ℕ) (before after : List Reading) (r : Reading)
-        (d : Directive) → read_as Mode.C bytes ≡ before ++ r ∷ after →
-        content_of r.scan ≡ directive d → is_foldable (r ∷ continued after) ≡ true →
-        (e : Directive) × (content_of (scan_after_run [] (folded_line (r ∷ continued after))) ≡
-        directive e) × IsReadAs e d (continued after) }
-{}
-
-/// C reads the same logical lines in a folded text as in the text.
-///
-/// Each logical line stays, or is folded to one line that is read by itself. A directive keeps its
-/// kind, and the bytes after its keyword but for white space. All other lines keep their bytes and
-/// their scans. No line is lost, and only the numbers of lines change (C11 5.1.1.2, phases 2 and 3,
-/// 6.10p2).
-pub fn law_folded_text()
-    ensures all { (bytes : List ℕ) → let rs = read_as Mode.C bytes in
-        flat_map (λ (line : List Reading). line) (logical_lines rs) ≡ rs }
-    ensures readings { (bytes : List ℕ) → has_tab bytes ≡ false →
-        map unnumbered (read_as Mode.C (folded_text bytes)) ≡
-        map unnumbered (flat_map folded_readings (logical_lines (read_as Mode.C bytes))) }
-    ensures same { (bytes : List ℕ) → c_lines (folded_text bytes) ≡ c_lines bytes }
 {}
 
 /// A program stays the same, by logical lines, also if its files are simplified while folded.

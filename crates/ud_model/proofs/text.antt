@@ -9,7 +9,6 @@
 --   ScanLaws.readings_grow        further lines change no scan before them
 --   ScanBytes.scan_after-same     nor does the number of a line
 --   ScanBytes.content-prefix      position i of a masked line is position i of the line's body
---   TextEnd.end_in_open           the end of a text lies in its last lexeme, if that is open
 --   Pushes.ByPush                 a list from its last element: the induction over the lines so far
 pub mod ByteLemmas
 pub mod ByteTables
@@ -20,6 +19,5 @@ pub mod LexStateLemmas
 pub mod ScanLemmas
 pub mod LexLemmas
 pub mod LexExists
-pub mod TextEnd
 pub mod ScanLaws
 pub mod ScanBytes

@@ -3,37 +3,23 @@
 //! The laws about options are in `option_laws`, those about the output in `output_laws`, and those
 //! about the answer to arguments and an input in `answer_laws`.
 
-ghost use Rattle.std.specs.Prelude.{◌≡◌, ◌≢◌, ◌⊎◌, ◌↔◌, ◌++◌, ℕ, suc, List, [], ◌∷◌, length, map};
-ghost use Rattle.std.specs.Prelude.{true, false, Bool, Option, Some, ℤ, pos, bytes_eq, codes};
+ghost use Rattle.std.specs.Prelude.{◌≡◌, ◌≢◌, ◌++◌, ℕ, suc, List, [], ◌∷◌, length, map};
+ghost use Rattle.std.specs.Prelude.{true, Bool, Option, Some, ℤ, pos};
 ghost use Rattle.ud_model.specs.text.Lines.{Line, AreLines, AreSplitLines, texts_of, text_of};
 ghost use Rattle.ud_model.specs.text.Lines.{lines_of, whole_lines, partial_line};
-ghost use Rattle.ud_model.specs.text.Scans.{Scan, Reading};
-ghost use Rattle.ud_model.specs.text.Splicing.{content, c_run_of, is_spliced, last_is_spliced};
-ghost use Rattle.ud_model.specs.text.Splicing.{spliced_text};
-ghost use Rattle.ud_model.specs.text.Lexemes.{Lexeme, LexemeKind, block_comment, line_comment};
-ghost use Rattle.ud_model.specs.text.Lexemes.{single, Cell, IsLexeme, AreLexemes, LastIsOpen};
-ghost use Rattle.ud_model.specs.text.Lexemes.{cells_of, lexeme_at, lex, shown, kind_at_end};
-ghost use Rattle.ud_model.specs.text.Scanning.{joins, content_cells, scan_after, readings_after};
-ghost use Rattle.ud_model.specs.text.Scanning.{readings_of, AreCLexemes, EndsLogicalLine};
-ghost use Rattle.ud_model.specs.text.Scanning.{c_comment_after};
+ghost use Rattle.ud_model.specs.text.Scans.{Reading};
+ghost use Rattle.ud_model.specs.text.Lexemes.{Lexeme, LexemeKind, IsLexeme, AreLexemes, cells_of};
+ghost use Rattle.ud_model.specs.text.Lexemes.{lexeme_at, lex};
+ghost use Rattle.ud_model.specs.text.Scanning.{readings_of};
 ghost use Rattle.ud_model.specs.declared.kind.Mode.{Mode};
-ghost use Rattle.ud_model.specs.declared.kind.CommentAt.{CommentAt};
-ghost use Rattle.ud_model.specs.sections.Directives.{Directive, cut_keyword, directive, text};
-ghost use Rattle.ud_model.specs.sections.Directives.{content_of};
-ghost use Rattle.ud_model.specs.aids.DirectiveParts.{DirectiveParts, AreParts, HasDirective};
-ghost use Rattle.ud_model.specs.aids.DirectiveParts.{HasSplitKeyword};
 ghost use Rattle.ud_model.specs.sections.Tree.{Item, Tree, lines};
 ghost use Rattle.ud_model.specs.sections.Pruning.{marks, marks_in};
 ghost use Rattle.ud_model.specs.aids.SoFar.{marks_so_far};
-ghost use Rattle.ud_model.specs.sections.Items.{Options, line_of};
-ghost use Rattle.ud_model.specs.answer.Printing.{Judged, judged_lines, tree_pieces};
-ghost use Rattle.ud_model.specs.answer.Listing.{levels};
+ghost use Rattle.ud_model.specs.sections.Items.{Options};
+ghost use Rattle.ud_model.specs.answer.Printing.{Judged, tree_pieces};
 ghost use Rattle.ud_model.specs.sections.Faults.{Fault, FaultOf, NoneHolds, cases};
 ghost use Rattle.ud_model.specs.answer.Outcomes.{Outcome, ReadsAs, ReadsSoFar, HasOutcome};
 ghost use Rattle.ud_model.specs.answer.Outcomes.{HasOutcomeSoFar};
-ghost use Rattle.ud_model.specs.answer.CommandLine.{option_letters, operands_from, parsed_from};
-ghost use Rattle.ud_model.specs.answer.CommandLine.{parsed_by, parsed_after_option};
-ghost use Rattle.ud_model.specs.aids.LettersThen.{parsed_letters, IsOptionWord};
 ghost use Rattle.ud_model.specs.answer.Answer.{Answer, IsAnswer};
 ghost use Rattle.ud_model.specs.conditions.Table.{Argument, HaveSameEntries};
 ghost use Rattle.ud_model.specs.conditions.Symbols.{ResolvesTo, resolve};
@@ -78,62 +64,10 @@ pub fn law_lexemes()
         ≡ record { kind = kind; more = length bytes } }
 {}
 
-/// The end of a text lies in a comment or a literal exactly if the last lexeme is open.
-///
-/// So lines join the next one exactly if the last of them is spliced or the last lexeme is an open
-/// block comment, and the comment at a line's end is that lexeme (C11 5.1.1.2).
-pub fn law_end_of_text()
-    ensures open { (text : List ℕ) (pieces : List Lexeme) → AreLexemes pieces text →
-        (kind : LexemeKind) → kind ≢ single → (kind_at_end text ≡ kind) ↔ LastIsOpen kind pieces }
-    ensures joins { (lines : List Line) (pieces : List Lexeme) →
-        AreLexemes pieces (spliced_text lines) →
-        (joins lines ≡ true) ↔ ((last_is_spliced lines ≡ true) ⊎ LastIsOpen block_comment pieces) }
-    ensures block { (before : List Reading) (l : Line) (pieces : List Lexeme) →
-        AreCLexemes before l pieces →
-        (c_comment_after before l ≡ CommentAt.InBlock) ↔ LastIsOpen block_comment pieces }
-    ensures line { (before : List Reading) (l : Line) (pieces : List Lexeme) →
-        AreCLexemes before l pieces → (c_comment_after before l ≡ CommentAt.InLine) ↔
-        ((is_spliced l ≡ true) × LastIsOpen line_comment pieces) }
-{}
-
-/// A scan depends on the logical line alone: after a line with an ending that doesn't join the next
-/// one, lines are scanned as if none came before them.
-pub fn law_scan_alone()
-    ensures line { (before group : List Reading) (m : Mode) (l : Line) → EndsLogicalLine before →
-        scan_after (before ++ group) m l ≡ scan_after group m l }
-    ensures lines { (before group : List Reading) (ls : List (Mode × Line)) →
-        EndsLogicalLine before →
-        readings_after (before ++ group) ls ≡ before ++ readings_after group ls }
-{}
-
-/// Position i of a masked line is position i of the body: the masked line shows a cell for each
-/// byte of the line's content, in order, and the body begins with the content.
-pub fn law_scan_bytes()
-    ensures shows { (before : List Reading) (l : Line) →
-        (scan_after before Mode.C l).masked ≡ map shown (content_cells (c_run_of before) l) }
-    ensures bytes { (run : List Line) (l : Line) →
-        map (λ (c : Cell). c.byte) (content_cells run l) ≡ content l }
-    ensures len { (before : List Reading) (l : Line) →
-        length (scan_after before Mode.C l).masked ≡ length (content l) }
-    ensures prefix { (l : Line) → IsPrefix (content l) l.body }
-{}
-
 /// Further lines never change the scans of the lines before them.
 pub fn law_scans_stay()
     ensures { (ls more : List (Mode × Line)) →
         IsPrefix (readings_of ls) (readings_of (ls ++ more)) }
-{}
-
-/// The content of a line is that of its masked line, which splits in one way at most: white space,
-/// `#`, white space, a word and the rest (C11 6.10).
-pub fn law_directive()
-    ensures parts { (masked : List ℕ) (p q : DirectiveParts) → AreParts p masked →
-        AreParts q masked → p ≡ q }
-    ensures split { (scan : Scan) → (content_of scan ≡ cut_keyword) ↔ HasSplitKeyword scan }
-    ensures found { (scan : Scan) (d : Directive) →
-        (content_of scan ≡ directive d) ↔ HasDirective scan d }
-    ensures none { (scan : Scan) → (content_of scan ≡ text) ↔
-        ((HasSplitKeyword scan → ⊥) × ((d : Directive) → HasDirective scan d → ⊥)) }
 {}
 
 /// The lines of a text are nested in one way at most.
@@ -147,14 +81,6 @@ pub fn law_marks_stay()
     ensures table { (t : Tree Reading) → marks_in true t ≡ marks_so_far true t }
     ensures stays { (t u : Tree Reading) (more : List (Item Reading)) → lines u ≡ lines t ++ more →
         IsPrefix (marks t) (marks u) }
-{}
-
-/// Each line of a text has exactly one mark and one level, so no line is left out.
-pub fn law_each_line()
-    ensures marks { (t : Tree Reading) → length (marks t) ≡ length (lines t) }
-    ensures judged { (t : Tree Reading) → map (λ (j : Judged). j.line)
-        (judged_lines (lines t) (marks t)) ≡ map line_of (lines t) }
-    ensures levels { (t : Tree Reading) → length (levels t) ≡ length (lines t) }
 {}
 
 /// A line has at most one fault, and none if no case holds.
@@ -196,27 +122,6 @@ pub fn law_output_grows()
         IsPrefix r.output s.output }
 {}
 
-/// A text is read in exactly one way, as items with a tree, up to its first fault. The items are
-/// the lines of the tree. A text that goes on is read in exactly one way, too.
-pub fn law_one_reading()
-    ensures exists { (o : Options) (input : List ℕ) →
-        (xs : List (Item Reading)) × (t : Tree Reading) × (f : Option Fault) ×
-        ReadsAs o input xs t f }
-    ensures only { (o : Options) (input : List ℕ) (xs ys : List (Item Reading)) (t u : Tree Reading)
-        (f g : Option Fault) → ReadsAs o input xs t f → ReadsAs o input ys u g →
-        (xs ≡ ys) × (t ≡ u) × (f ≡ g) }
-    ensures lines { (o : Options) (input : List ℕ) (xs : List (Item Reading)) (t : Tree Reading)
-        (f : Option Fault) → ReadsAs o input xs t f → lines t ≡ xs }
-    ensures exists_so_far { (o : Options) (given : List ℕ) →
-        (xs : List (Item Reading)) × (t : Tree Reading) × (f : Option Fault) ×
-        ReadsSoFar o given xs t f }
-    ensures only_so_far { (o : Options) (given : List ℕ) (xs ys : List (Item Reading))
-        (t u : Tree Reading) (f g : Option Fault) → ReadsSoFar o given xs t f →
-        ReadsSoFar o given ys u g → (xs ≡ ys) × (t ≡ u) × (f ≡ g) }
-    ensures lines_so_far { (o : Options) (given : List ℕ) (xs : List (Item Reading))
-        (t : Tree Reading) (f : Option Fault) → ReadsSoFar o given xs t f → lines t ≡ xs }
-{}
-
 /// A text has exactly one outcome, whether it has ended or goes on: that of its items.
 pub fn law_one_outcome()
     ensures exists { (o : Options) (input : List ℕ) → (r : Outcome) × HasOutcome o input r }
@@ -226,24 +131,6 @@ pub fn law_one_outcome()
         (r : Outcome) × HasOutcomeSoFar o given r }
     ensures only_so_far { (o : Options) (given : List ℕ) (r s : Outcome) →
         HasOutcomeSoFar o given r → HasOutcomeSoFar o given s → r ≡ s }
-{}
-
-/// Each argument is parsed by itself, in order.
-///
-/// After `--` every argument is an operand, and so is every argument after the first operand. An
-/// argument's letters give options, and the last may wait for the next argument. Reading letter by
-/// letter, as the code does, gives the same.
-pub fn law_arguments()
-    ensures ended { (n : ℕ) (args : List (List ℕ)) →
-        parsed_from n (codes "--" ∷ args) ≡ operands_from (suc n) args }
-    ensures operand { (n : ℕ) (w : List ℕ) (args : List (List ℕ)) →
-        bytes_eq w (codes "--") ≡ false → option_letters w ≡ [] →
-        parsed_from n (w ∷ args) ≡ operands_from n (w ∷ args) }
-    ensures options { (n : ℕ) (w : List ℕ) (args : List (List ℕ)) (c : ℕ) (cs : List ℕ) →
-        IsOptionWord w c cs → parsed_from n (w ∷ args) ≡ parsed_by (suc n) (c ∷ cs) args }
-    ensures letters { (n : ℕ) (cs : List ℕ) (args : List (List ℕ)) →
-        parsed_letters n cs (λ d. parsed_after_option d n args) (parsed_from n args)
-        ≡ parsed_by n cs args }
 {}
 
 /// Arguments and an input have exactly one answer.

@@ -3,7 +3,7 @@
 ghost use Rattle.std.specs.Prelude.{◌≡◌, ℕ, List, not, false, bytes_eq, None};
 ghost use Rattle.ud_model.specs.text.Lines.{lines_of};
 ghost use Rattle.ud_model.specs.text.Scans.{Reading};
-ghost use Rattle.ud_model.specs.sections.Tree.{Nodes, closed, lines, with_lines};
+ghost use Rattle.ud_model.specs.sections.Tree.{Nodes, closed, with_lines};
 ghost use Rattle.ud_model.specs.sections.Items.{Options};
 ghost use Rattle.ud_model.specs.answer.Outcomes.{Outcome, HasOutcome};
 ghost use Rattle.ud_model.specs.laws.Worlds.{World, Agrees};

@@ -6,7 +6,7 @@ use Rattle.std.proofs.lemmas.List.{take-map, take-append-drop}
 use Rattle.ud_model.proofs.text.ScanBytes.{content-prefix, length-masked}
 use Rattle.ud_model.specs.text.Bytes.{slash, space, backslash, number_sign, is_white, is_word_byte}
 use Rattle.ud_model.specs.aids.SpacedBytes.{spaced}
-use Rattle.ud_model.specs.text.Lines.{Line, lines_of}
+use Rattle.ud_model.specs.text.Lines.{Line}
 use Rattle.ud_model.specs.text.Lexemes.{LexemeKind, single, lexeme_at, lex_from, lex, shown_as, shown}
 use Rattle.ud_model.specs.text.Splicing.{is_spliced, content, newline_of, spliced_part}
 use Rattle.ud_model.specs.text.Scans.{Scan, Reading}
@@ -17,11 +17,13 @@ use Rattle.ud_model.specs.declared.kind.Kind.{Kind}
 use Rattle.ud_model.proofs.sections.SplitLines.{directive_is}
 use Rattle.std.proofs.lemmas.Slice.Eq.{bytes_eq-Decides}
 use Rattle.ud_model.specs.conditions.Parsing.{tokens_of}
-use Rattle.ud_model.specs.aids.ReadAs.{in_mode, read_as}
+use Rattle.ud_model.specs.aids.ReadAs.{in_mode}
 use Rattle.ud_model.specs.declared.kind.Mode.TheVariants.{C}
-use Rattle.ud_simplified.specs.FoldedTexts.{is_foldable, IsReadAs, vertical_tab, continued, folded_body, folded_line, shown_lines, is_blank, blank_follows, tabs_are_beside}
+use Rattle.ud_simplified.specs.FoldedTexts.{is_foldable, IsReadAs, vertical_tab, folded_body}
+use Rattle.ud_simplified.specs.FoldedTexts.{folded_line, shown_lines, is_blank, blank_follows}
+use Rattle.ud_simplified.specs.FoldedTexts.{tabs_are_beside}
 use Rattle.ud_model.proofs.conditions.SpreadTexts.{begins_white, IsSpread, nothing, kept, behind, in_front, Spread, spread_tokens}
-use Rattle.ud_model.proofs.output.Each.{Each, each_parts, each_both}
+use Rattle.ud_model.proofs.output.Each.{Each, each_both}
 use Rattle.ud_model.proofs.output.LeftLines.{spliced_body}
 use Rattle.ud_model.proofs.text.ScanLaws.{unspliced}
 
@@ -359,19 +361,3 @@ pub measured : (before : List Reading) (ls : List Line) → Each IsMeasured befo
 measured before [] i = i
 measured before (l ∷ ls) i =
     measured (before ++ next_reading before C l ∷ []) ls (each_both IsMeasured before (next_reading before C l ∷ []) i (next_measured before l, tt))
-
-each_continued : (rs : List Reading) → Each IsMeasured rs → Each IsMeasured (continued rs)
-each_continued [] i = tt
-each_continued (r ∷ rs) i = by r.scan.joins_before (each_continued rs i.1)
-  where
-    by : (b : Bool) → Each IsMeasured (continued rs) → Each IsMeasured (if b then r ∷ continued rs else [])
-    by true j = (i.0, j)
-    by false j = tt
-
--- The folded line has the directive of its lines.
-pub folded_read : (bytes : List ℕ) (before after : List Reading) (r : Reading) (d : Directive) →
-    read_as C bytes ≡ before ++ r ∷ after → content_of r.scan ≡ directive d →
-    is_foldable (r ∷ continued after) ≡ true → (e : Directive) × (content_of (scan_after_run [] (folded_line (r ∷ continued after))) ≡ directive e) × IsReadAs e d (continued after)
-folded_read bytes before after r d q e f =
-    let i : Each IsMeasured (r ∷ after) = (each_parts IsMeasured before (r ∷ after) (subst (λ (rs : List Reading). Each IsMeasured rs) q (measured [] (lines_of bytes) tt))).1 in
-    folded_has r (continued after) d (i.0, each_continued after i.1) (folded_shown (r ∷ continued after) f) ((directive_is r.scan d).0 e)

@@ -8,13 +8,15 @@ use Rattle.std.proofs.lemmas.Slice.Eq.{bytes_eq-Decides}
 use Rattle.ud_model.specs.text.Lines.{Line, NoNewline, IsWhole, IsUnterminated, AreFormed, text_of, ending_of, line_at, numbered_from, lines_of, texts_of}
 use Rattle.ud_model.specs.text.Scans.{Scan, Reading, plain_scan}
 use Rattle.ud_model.specs.text.Splicing.{content}
-use Rattle.ud_model.specs.text.Scanning.{scan_after_run, scan_after, next_reading, with_next, readings_after, EndsLogicalLine, ends_with}
+use Rattle.ud_model.specs.text.Scanning.{scan_after_run, scan_after, next_reading, readings_after}
 use Rattle.ud_model.specs.sections.Directives.{Content, directive, Directive, content_of, is_outside}
 use Rattle.ud_model.specs.aids.ReadAs.{in_mode, read_in, read_as}
 use Rattle.ud_simplified.specs.FoldedTexts.{IsReadAs, vertical_tab, has_tab, continued, continued_part, folded_body, last_ending, folded_line, is_foldable, is_directive, logical_lines, folded_bytes, folded_lines, folded_text, folded_readings, unnumbered, CLine, other_lines, c_line_by, c_line, c_lines}
 use Rattle.ud_model.specs.declared.kind.Mode.TheVariants.{C}
 use Rattle.ud_model.proofs.text.ScanBytes.{bare, content-prefix, scan_after-same, unnumbered as unnumbered_line}
-use Rattle.ud_model.proofs.text.ScanLaws.{joins_before-code, joins_after-code, readings_after-append, read_more, after_end}
+use Rattle.ud_model.proofs.text.ScanLaws.{joins_before-code, joins_after-code, with_next}
+use Rattle.ud_model.proofs.text.ScanLaws.{EndsLogicalLine, ends_with, after_end}
+use Rattle.ud_model.proofs.text.ScanLaws.{readings_after-append, read_more}
 use Rattle.ud_model.proofs.text.ScanLemmas.{run_of_last}
 use Rattle.ud_model.proofs.text.LinesLemmas.{no_newline-append, text_of-line_at, lines_exist}
 use Rattle.ud_model.proofs.sections.SplitLines.{directive_is}

@@ -6,7 +6,7 @@
 --                                            lines
 --   SimplifiedReadings.readings_simplified   and are read as the lines of the text, but for their
 --                                            conditions
---   FoldedLines.folded_read                  a folded line has the directive of its lines
+--   FoldedLines.folded_has                   a folded line has the directive of its lines
 --   FoldedReadings.readings_folded           the folded text is read as the folded logical lines
 --   FoldedReadings.same_c_lines              and C reads the same logical lines
 --   OtherLineScans.scanned_alike             a line that stands alone changes the scan of no other

@@ -1,12 +1,29 @@
--- Other line scans: a line that stands alone changes the scan of no other line.
-use Rattle.std.proofs.Common.{◌≡◌, List, [], ◌∷◌, ◌++◌, refl, sym, ◌∙◌, ap, append_assoc, append-nil, inl, inr, ◌⊎◌, arith}
+-- Other line scans: texts that differ only in lines that join no neighbour. Such a line changes the
+-- scan of no other line.
+use Rattle.std.proofs.Common.{◌≡◌, ◌≢◌, false, List, [], ◌∷◌, ◌++◌, refl, sym, ◌∙◌, ap}
+use Rattle.std.proofs.Common.{append_assoc, append-nil, inl, inr, ◌⊎◌, arith}
 use Rattle.ud_model.specs.text.Lines.{Line}
 use Rattle.ud_model.specs.text.Scans.{Scan, Reading}
-use Rattle.ud_model.specs.text.Scanning.{scan_after, next_reading, with_next, EndsLogicalLine, ends_with}
-use Rattle.ud_simplified.specs.OtherLines.{StandsAlone, AreReadAlike, no_lines, same_line, other_line}
+use Rattle.ud_model.specs.text.Scanning.{scan_after, next_reading}
 use Rattle.ud_model.specs.declared.kind.Mode.{Mode}
 use Rattle.ud_model.specs.declared.kind.Mode.TheVariants.{C}
-use Rattle.ud_model.proofs.text.ScanLaws.{after_end}
+use Rattle.ud_model.proofs.text.ScanLaws.{with_next, EndsLogicalLine, ends_with, after_end}
+
+-- A line has an ending and joins no line. No line precedes it, or a logical line ends before it.
+pub record StandsAlone (before : List Reading) (l : Line) : Type 0 where
+  pub begins : (before ≡ []) ⊎ EndsLogicalLine before
+  pub alone : (scan_after [] C l).joins_after ≡ false
+  pub has_ending : l.ending ≢ []
+
+-- Line for line, both texts have the same line, or different ones that stand alone. All lines are
+-- read in C mode.
+pub data AreReadAlike : List Reading → List Reading → Type 0 where
+  no_lines : AreReadAlike [] []
+  same_line : {before after : List Reading} → AreReadAlike before after → (l : Line) →
+      AreReadAlike (with_next before C l) (with_next after C l)
+  other_line : {before after : List Reading} → AreReadAlike before after → (l k : Line) →
+      StandsAlone before l → StandsAlone after k →
+      AreReadAlike (with_next before C l) (with_next after C k)
 
 -- A line that stands alone is scanned as if it were the first.
 pub scanned_alone : (before : List Reading) (l : Line) → (before ≡ []) ⊎ EndsLogicalLine before → scan_after before C l ≡ scan_after [] C l

@@ -1,5 +1,7 @@
 -- Residual read: a simplified text is read as the residual of its tree, and cells are only removed.
-use Rattle.std.proofs.Common.{◌≡◌, ℕ, zero, suc, ◌-◌, Bool, true, not, ◌&&◌, ◌||◌, if◌then◌else◌, List, [], ◌∷◌, ◌++◌, length, map, take, drop, Option, Some, None, refl, sym, ◌∙◌, ap, subst, inl, inr, ◌⊎◌, arith, rules}
+use Rattle.std.proofs.Common.{◌≡◌, ℕ, zero, suc, ◌-◌, Bool, true, not, ◌&&◌, ◌||◌, if◌then◌else◌}
+use Rattle.std.proofs.Common.{List, [], ◌∷◌, ◌++◌, length, map, take, drop, Option, Some, None}
+use Rattle.std.proofs.Common.{refl, sym, ap, subst, ◌⊎◌, arith, rules}
 use Rattle.std.proofs.lemmas.Slice.Eq.{bytes_eq-Decides}
 use Rattle.std.proofs.lemmas.Bool.{and_parts}
 use Rattle.ud_model.specs.text.Bytes.{skip_white, are_white}
@@ -55,16 +57,6 @@ module _ (table : List Argument) (rules : Rules) where
   pub untouched : (cells : List Cell) → expression_of (map shown cells) ≡ None → simplified_cells table rules cells ≡ cells
   unfolding simplified_cells
   untouched cells e = ap (λ o. simplified_by table rules o cells) e
-
-  -- The simplified text is read as the tree of the text, or as the residual.
-  pub read_as : (e : Expression) (cells : List Cell) → expression_of (map shown cells) ≡ Some e →
-      (f : Expression) × (expression_of (map shown (simplified_cells table rules cells)) ≡ Some f) × ((f ≡ e) ⊎ (f ≡ rest_of e))
-  read_as e cells p = by (same_or_left e cells p)
-    where
-      by : (simplified_cells table rules cells ≡ cells) ⊎ (expression_of (map shown (simplified_cells table rules cells)) ≡ Some (rest_of e)) →
-          (f : Expression) × (expression_of (map shown (simplified_cells table rules cells)) ≡ Some f) × ((f ≡ e) ⊎ (f ≡ rest_of e))
-      by (inl q) = (e, ap (λ (cs : List Cell). expression_of (map shown cs)) q ∙ p, inl refl)
-      by (inr q) = (rest_of e, q, inr refl)
 
 -- 3. Cells are only removed.
 

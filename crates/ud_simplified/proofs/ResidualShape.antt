@@ -1,14 +1,12 @@
--- Residual shape: the residual of an expression has only undecided operands, and is its own
--- residual.
-use Rattle.std.proofs.Common.{◌≡◌, ℕ, ◌≤◌, Bool, true, false, ◌&&◌, if◌then◌else◌, List, [], ◌∷◌, ◌++◌, refl, arith}
+-- Residual shape: sublists, and a residual is nested by precedence, like the expression.
+use Rattle.std.proofs.Common.{◌≡◌, ℕ, ◌≤◌, Bool, true, ◌&&◌, if◌then◌else◌, List, [], ◌∷◌, ◌++◌}
+use Rattle.std.proofs.Common.{refl, arith}
 use Rattle.ud_model.specs.conditions.Table.{Argument}
-use Rattle.ud_model.specs.conditions.Tokens.{operator, opening, closing}
-use Rattle.ud_model.specs.conditions.Expressions.{Expression, unary, binary, parens, precedence, spelling, HasPrecedence}
+use Rattle.ud_model.specs.conditions.Expressions.{Expression, unary, binary, parens, precedence}
+use Rattle.ud_model.specs.conditions.Expressions.{HasPrecedence}
 use Rattle.ud_model.specs.conditions.Conditions.{Rules}
-use Rattle.ud_model.specs.aids.Residuals.{Residual, joined_if, stands_alone, residual}
+use Rattle.ud_model.specs.aids.Residuals.{Residual, stands_alone, residual}
 use Rattle.ud_simplified.specs.Sublists.{IsSublist, nothing, without, with_same}
-use Rattle.ud_model.specs.declared.cond.Cond.{Cond}
-use Rattle.ud_model.specs.declared.operator.Operator.{Operator}
 use Rattle.ud_model.specs.declared.operator.Operator.TheVariants.{Or, And, Not}
 
 -- 1. Sublists.
@@ -31,41 +29,7 @@ of_left zs nothing = none_of_it zs
 of_left zs (without p) = without (of_left zs p)
 of_left zs (with_same p) = with_same (of_left zs p)
 
-of_right : {A : Type 0} {xs zs : List A} (ys : List A) → IsSublist xs zs → IsSublist xs (ys ++ zs)
-of_right [] p = p
-of_right (y ∷ ys) p = without (of_right ys p)
-
--- 2. Tokens are only removed.
-
-module _ (b d : Bool) (o : Operator) (c : Cond) (x y : Residual) (e f : Expression) (p : IsSublist (spelling x.tree) (spelling e)) (q : IsSublist (spelling y.tree) (spelling f)) where
-  joined_spelling : IsSublist (spelling (joined_if b d o c x y).tree)
-      (spelling e ++ operator o ∷ spelling f)
-  joined_spelling = by b d
-    where
-      by : (b d : Bool) → IsSublist (spelling (joined_if b d o c x y).tree)
-          (spelling e ++ operator o ∷ spelling f)
-      by true d = of_right (spelling e) (without q)
-      by false true = of_left (operator o ∷ spelling f) p
-      by false false = of_both p (with_same q)
-
-enclosed_spelling : (b : Bool) (x : Residual) (e : Expression) → IsSublist (spelling x.tree) (spelling e) →
-    IsSublist (spelling (if b then x else record x { tree = parens x.tree }).tree) (opening ∷ spelling e ++ closing ∷ [])
-enclosed_spelling true x e p = without (of_left (closing ∷ []) p)
-enclosed_spelling false x e p = with_same (of_both p (all_of_it (closing ∷ [])))
-
-module _ (table : List Argument) (rules : Rules) where
-  abbrev pub left : Expression → Residual
-  left e = residual table rules e
-
-  -- The tokens that are left are some of the expression's, in their order.
-  pub spelling_stays : (e : Expression) → IsSublist (spelling (left e).tree) (spelling e)
-  spelling_stays (unary Not a) = with_same (spelling_stays a)
-  spelling_stays (binary And a b) = grind (arith, joined_spelling, left, spelling_stays a, spelling_stays b)
-  spelling_stays (binary Or a b) = grind (arith, joined_spelling, left, spelling_stays a, spelling_stays b)
-  spelling_stays (parens a) = enclosed_spelling ((left a).lost && stands_alone (left a).tree) (left a) a (spelling_stays a)
-  spelling_stays e = grind (arith, all_of_it)
-
--- 3. The tree is nested by precedence.
+-- 2. The tree is nested by precedence.
 
 looser : (e : Expression) (j k : ℕ) → k ≤ j → HasPrecedence j e → HasPrecedence k e
 looser (binary o a b) j k l h = (let m : j ≤ precedence o = h.0 in omega arith, h.1, h.2)
@@ -80,10 +44,16 @@ enclosed_precedence : (b : Bool) (x : Residual) (k : ℕ) → (x.lost && stands_
 enclosed_precedence b x k e p = grind (arith, any_precedence)
 
 module _ (table : List Argument) (rules : Rules) where
+  abbrev pub left : Expression → Residual
+  left e = residual table rules e
+
   -- The residual is nested by precedence, like the expression.
-  pub precedence_stays : (e : Expression) (k : ℕ) → HasPrecedence k e → HasPrecedence k (left table rules e).tree
+  pub precedence_stays : (e : Expression) (k : ℕ) → HasPrecedence k e →
+      HasPrecedence k (left e).tree
   precedence_stays (unary Not a) k h = (h.0, precedence_stays a 10 h.1)
   precedence_stays (binary And a b) k h = grind (arith, looser, precedence_stays a 2 h.1, precedence_stays b 3 h.2)
   precedence_stays (binary Or a b) k h = grind (arith, looser, precedence_stays a 1 h.1, precedence_stays b 2 h.2)
-  precedence_stays (parens a) k h = enclosed_precedence ((left table rules a).lost && stands_alone (left table rules a).tree) (left table rules a) k refl (precedence_stays a 1 h)
+  precedence_stays (parens a) k h =
+      enclosed_precedence ((left a).lost && stands_alone (left a).tree) (left a) k refl
+      (precedence_stays a 1 h)
   precedence_stays _ _ h = h

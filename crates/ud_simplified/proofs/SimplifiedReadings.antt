@@ -6,8 +6,7 @@ use Rattle.std.proofs.lemmas.Bool.{or_parts}
 use Rattle.ud_model.specs.text.Lines.{Line, lines_of, texts_of}
 use Rattle.ud_model.specs.text.Scans.{Scan, Reading}
 use Rattle.ud_model.specs.text.Splicing.{c_run_of}
-use Rattle.ud_model.specs.text.Scanning.{joins, scan_after_run, scan_after, next_reading, with_next, EndsLogicalLine, ends_with}
-use Rattle.ud_simplified.specs.OtherLines.{AreReadAlike, no_lines, same_line, other_line}
+use Rattle.ud_model.specs.text.Scanning.{joins, scan_after_run, scan_after, next_reading}
 use Rattle.ud_model.specs.sections.Directives.{Directive}
 use Rattle.ud_model.specs.conditions.Table.{Argument}
 use Rattle.ud_model.specs.conditions.Conditions.{Rules}
@@ -16,8 +15,10 @@ use Rattle.ud_simplified.specs.SimplifiedTexts.{left_line, simplified_line}
 use Rattle.ud_model.specs.declared.kind.Mode.TheVariants.{C}
 use Rattle.ud_model.proofs.text.Pushes.{ByPush, none, push, by_push}
 use Rattle.ud_model.proofs.text.LinesLemmas.{lines_exist}
-use Rattle.ud_model.proofs.text.ScanLaws.{joins_before-code, joins_after-code, read_more}
+use Rattle.ud_model.proofs.text.ScanLaws.{joins_before-code, joins_after-code, with_next}
+use Rattle.ud_model.proofs.text.ScanLaws.{EndsLogicalLine, ends_with, read_more}
 use Rattle.ud_model.proofs.text.ScanLemmas.{run_of_last}
+use Rattle.ud_simplified.proofs.OtherLineScans.{AreReadAlike, no_lines, same_line, other_line}
 use Rattle.ud_simplified.proofs.OtherLineScans.{scanned_alone, scanned_alike}
 use Rattle.ud_model.proofs.output.Each.{Each, each_parts, Pairs, no_pair, pair, pairs_both}
 use Rattle.ud_model.proofs.output.LeavesOff.{HasEnd}

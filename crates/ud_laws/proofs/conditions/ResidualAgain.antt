@@ -1,5 +1,6 @@
 -- Residual again: the text of a residual stays as it is.
-use Rattle.std.proofs.Common.{◌≡◌, Bool, true, List, [], ◌∷◌, length, map, Option, Some, None, refl, sym, ◌∙◌, ap, ◌⊎◌, arith, ◌≤◌, false}
+use Rattle.std.proofs.Common.{◌≡◌, Bool, true, List, [], ◌∷◌, length, map, Some, refl, sym, ◌∙◌, ap}
+use Rattle.std.proofs.Common.{arith, ◌≤◌, false}
 use Rattle.ud_model.specs.text.Lexemes.{Cell, shown}
 use Rattle.ud_model.specs.conditions.Table.{Argument}
 use Rattle.ud_model.specs.conditions.Tokens.{NextToken, next_token}
@@ -10,7 +11,7 @@ use Rattle.ud_model.specs.aids.Residuals.{keeps, chosen}
 use Rattle.ud_simplified.specs.ResidualTexts.{left_by, left_from, simplified_cells}
 use Rattle.std.proofs.lemmas.List.{take-append-drop}
 use Rattle.ud_model.proofs.conditions.KeptTokens.{SameLength, choose, kept_are}
-use Rattle.ud_simplified.proofs.ResidualRead.{rest_of, same_or_left, untouched}
+use Rattle.ud_simplified.proofs.ResidualRead.{rest_of}
 use Rattle.ud_laws.proofs.conditions.ResidualOperands.{again}
 
 -- The text of a residual stays as it is.
@@ -61,15 +62,3 @@ module _ (table : List Argument) (rules : Rules) where
   pub residual_stays : (e : Expression) (cells : List Cell) → expression_of (map shown cells) ≡ Some (rest_of table rules e) → simplified_cells table rules cells ≡ cells
   unfolding simplified_cells
   residual_stays e cells p = grind (arith, all_stay, flags_true)
-
-  -- A simplified text stays.
-  pub cells_again : (cells : List Cell) → simplified_cells table rules (simplified_cells table rules cells) ≡ simplified_cells table rules cells
-  cells_again cells = by (expression_of (map shown cells)) refl
-    where
-      go : (e : Expression) → (simplified_cells table rules cells ≡ cells) ⊎ (expression_of (map shown (simplified_cells table rules cells)) ≡ Some (rest_of table rules e)) →
-          simplified_cells table rules (simplified_cells table rules cells) ≡ simplified_cells table rules cells
-      go e h = grind (arith, residual_stays)
-
-      by : (o : Option Expression) → expression_of (map shown cells) ≡ o → simplified_cells table rules (simplified_cells table rules cells) ≡ simplified_cells table rules cells
-      by None p = ap (simplified_cells table rules) (untouched table rules cells p)
-      by (Some e) p = go e (same_or_left table rules e cells p)

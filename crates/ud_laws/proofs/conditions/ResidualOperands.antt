@@ -2,8 +2,9 @@
 use Rattle.std.proofs.Common.{◌≡◌, Bool, false, ◌&&◌, if◌then◌else◌, List, [], ◌∷◌, ◌++◌, refl, ap, arith}
 use Rattle.ud_model.specs.conditions.Table.{Argument}
 use Rattle.ud_model.specs.conditions.Expressions.{Expression, unary, binary, parens}
-use Rattle.ud_model.specs.conditions.Conditions.{Rules, tree_cond}
-use Rattle.ud_model.specs.aids.Residuals.{Residual, is_unit, is_unknown, settled, joined_if, joined, negated, stands_alone, enclosed, residual, operands, simplified, AreUndecided}
+use Rattle.ud_model.specs.conditions.Conditions.{Rules}
+use Rattle.ud_model.specs.aids.Residuals.{Residual, is_unit, settled, joined_if, joined, negated}
+use Rattle.ud_model.specs.aids.Residuals.{stands_alone, enclosed, residual, operands, AreUndecided}
 use Rattle.ud_model.specs.declared.cond.Cond.TheVariants.{Unknown}
 use Rattle.ud_model.specs.declared.operator.Operator.{Operator}
 use Rattle.ud_model.specs.declared.operator.Operator.TheVariants.{Or, And, Not}
@@ -39,18 +40,6 @@ module _ (table : List Argument) (rules : Rules) where
       (left table rules a) (left table rules b) (residual table rules) refl refl (λ s t. refl) (again a) (again b)
   again (parens a) = enclosed_again ((left table rules a).lost && stands_alone (left table rules a).tree) (left table rules a) (residual table rules) (λ s. refl) (again a)
   again _ = refl
-
-  -- A second simplification changes nothing.
-  pub simplified_again : (e : Expression) → simplified table rules (simplified table rules e) ≡ simplified table rules e
-  simplified_again e = grind (arith, again)
-
-  unknown_by : (x : Residual) (e : Expression) (b c : Bool) → is_unknown x.cond ≡ b → is_unknown (tree_cond x.tree table rules) ≡ c → tree_cond e table rules ≡ Unknown →
-      tree_cond (if b && c then x.tree else e) table rules ≡ Unknown
-  unknown_by x e b c p q h = grind arith
-
-  -- The simplified form of an unknown condition is unknown.
-  pub simplified_unknown : (e : Expression) → tree_cond e table rules ≡ Unknown → tree_cond (simplified table rules e) table rules ≡ Unknown
-  simplified_unknown e h = grind (arith, unknown_by)
 
 -- 5. Each operand that is left is undecided.
 

@@ -15,7 +15,8 @@ use Rattle.ud_model.specs.aids.SoFar.{verdict_so_far, nodes_so_far, groups_so_fa
 use Rattle.ud_model.specs.sections.Items.{Options}
 use Rattle.ud_laws.specs.output.CSelection.{MayBe}
 use Rattle.ud_model.specs.laws.WrittenConditions.{condition_in, Condition, condition_with, condition_on}
-use Rattle.ud_laws.specs.output.Processing.{Preprocessor, over_readings, DecidesAsC, AgreesAs, NoneTrue, first_false, elif_false}
+use Rattle.ud_laws.specs.output.Processing.{Preprocessor, over_readings, DecidesAsC, NoneTrue}
+use Rattle.ud_laws.specs.output.Processing.{first_false, elif_false}
 use Rattle.ud_laws.proofs.conditions.SpacedTexts.{condition_spaced}
 use Rattle.ud_model.proofs.output.Each.{Pairwise, pairwise_parts}
 use Rattle.ud_laws.proofs.output.CConditions.{item_fits}
@@ -23,6 +24,7 @@ use Rattle.ud_model.proofs.output.Changed.{as_many_nodes, as_many_groups, as_man
 use Rattle.ud_laws.proofs.output.CSelected.{Clear, at_kept, elif_moves, elif_parts, many_both}
 use Rattle.ud_laws.proofs.output.CSelected.{not_any}
 use Rattle.ud_laws.proofs.output.ProcessedPruned.{IsRight, NodesRight, GroupsRight, ElifsRight}
+use Rattle.ud_laws.proofs.output.ProcessedPruned.{AgreesAs}
 
 -- Down the tree.
 

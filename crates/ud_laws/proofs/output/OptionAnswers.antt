@@ -13,7 +13,7 @@ use Rattle.ud_model.specs.laws.Rereading.{IsPlain}
 use Rattle.ud_model.specs.laws.Worlds.{selected}
 use Rattle.ud_laws.specs.output.ListedNames.{IsListed, IsNoValue, NeverCounts}
 use Rattle.ud_laws.specs.output.BlankedLines.{Blanks, AreBlankedBy}
-use Rattle.ud_laws.specs.output.SharedLines.{OnlyDecides, RunsWithComplement, ShareLines}
+use Rattle.ud_laws.specs.output.SharedLines.{OnlyDecides, ShareLines}
 use Rattle.ud_laws.specs.output.StrictLines.{KeepAsMuch, pieces_of}
 use Rattle.ud_laws.specs.output.InsertedLines.{KeepsNumbers, AddsNumbers, AnswersNumbered, CountsLines}
 use Rattle.ud_laws.specs.output.PresumedLines.{HasNoLineDirective, NumbersAsInput, NumbersSelected}
@@ -25,7 +25,7 @@ use Rattle.ud_laws.proofs.output.FlagArguments.{lists_names, complements, is_str
 use Rattle.ud_laws.proofs.output.ListAnswers.{answered_by_list}
 use Rattle.ud_laws.proofs.output.ListComplete.{alike_but_one}
 use Rattle.ud_laws.proofs.output.BlankedLineLemmas.{as_many, blanked_places}
-use Rattle.ud_laws.proofs.output.SharedLineLemmas.{same_fault, shared_lines}
+use Rattle.ud_laws.proofs.output.SharedLineLemmas.{RunsWithComplement, same_fault, shared_lines}
 use Rattle.ud_laws.proofs.output.StrictRuns.{strict_keeps, judged_are_all, judged_output}
 use Rattle.ud_laws.proofs.output.CountedText.{counted_lines, judged_few}
 use Rattle.ud_laws.proofs.output.PresumedNumbers.{right_numbers, all_clear}

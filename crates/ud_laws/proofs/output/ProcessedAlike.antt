@@ -10,13 +10,18 @@ use Rattle.ud_model.specs.sections.Tree.{Opener, Nodes, Groups, Elifs, nothing, 
 use Rattle.ud_model.specs.laws.Pruned.{Edited, edited, EachLine, GroupLines, ElifLines}
 use Rattle.ud_model.specs.laws.Rereading.{line_bytes}
 use Rattle.ud_model.specs.laws.WrittenConditions.{Condition, condition_on}
-use Rattle.ud_laws.specs.output.Processing.{Preprocessor, over_readings, of_origin, Processes, no_nodes, takes_line, includes_file, selects_group, ProcessesOne, no_group, true_group, true_before_else, else_group, ProcessesTrue, first_true, true_before, elif_true, NoneTrue, first_false, elif_false}
+use Rattle.ud_laws.specs.output.Processing.{Preprocessor, over_readings, Processes, no_nodes}
+use Rattle.ud_laws.specs.output.Processing.{takes_line, includes_file, selects_group, ProcessesOne}
+use Rattle.ud_laws.specs.output.Processing.{no_group, true_group, true_before_else, else_group}
+use Rattle.ud_laws.specs.output.Processing.{ProcessesTrue, first_true, true_before, elif_true}
+use Rattle.ud_laws.specs.output.Processing.{NoneTrue, first_false, elif_false}
 use Rattle.ud_laws.proofs.output.NodesAlike.{NodesAlike, nothing_alike, text_alike, section_alike, GroupsAlike, conditional_alike, otherwise_alike, ElifsAlike, first_alike, elif_alike}
 use Rattle.ud_model.proofs.output.Folded.{folded}
 use Rattle.ud_model.proofs.output.Undecided.{KeepsCondition, first_keeps}
 use Rattle.ud_model.proofs.output.EachLines.{AnyOpener, other_lines}
 use Rattle.ud_model.proofs.output.PrunedLines.{pruned_each}
 use Rattle.ud_model.proofs.output.SeenLines.{Seen, scanned, left_seen, left_text, text_scan}
+use Rattle.ud_laws.proofs.output.ProcessedPruned.{of_origin}
 
 -- 1. The lines of pruned nodes, and of nodes that are left as they are.
 

@@ -10,7 +10,7 @@ use Rattle.ud_model.specs.declared.verdict.Verdict.TheVariants.{Keep}
 use Rattle.ud_model.specs.laws.Pruned.{Edited, edited}
 use Rattle.ud_model.specs.laws.Rereading.{IsPlain, IsPlainC, AreRead, no_items, one_item, IsTreeOf, CleanRun}
 use Rattle.ud_model.specs.laws.WrittenConditions.{Condition}
-use Rattle.ud_laws.specs.output.Processing.{DecidesAsC, Preprocessor, over_readings, of_origin, Processes}
+use Rattle.ud_laws.specs.output.Processing.{DecidesAsC, Preprocessor, over_readings, Processes}
 use Rattle.ud_laws.specs.output.ProcessedFiles.{IsPrinted, printed, unedited, IsOutput, FileTree}
 use Rattle.ud_laws.specs.output.DecidedByNumbers.{KeepsNumbers}
 use Rattle.ud_simplified.specs.SimplifiedTexts.{simplified_under}
@@ -26,6 +26,7 @@ use Rattle.ud_model.proofs.output.Each.{Each, each_both, Pairwise}
 use Rattle.ud_model.proofs.output.Folded.{folded}
 use Rattle.ud_laws.proofs.output.ProcessedAlike.{IsText, LinesText, pruned_stay, whole_stay, IsDoneAlike, nodes_alike, processed_alike}
 use Rattle.ud_laws.proofs.output.ProcessedPruned.{HasOutput, is_pruned, is_kept, processed}
+use Rattle.ud_laws.proofs.output.ProcessedPruned.{of_origin}
 use Rattle.ud_model.proofs.output.RereadLaws.{reread, seen_alike}
 use Rattle.ud_model.proofs.output.EachLines.{IsOf, from_items, AnyOpener}
 use Rattle.ud_model.proofs.output.PrunedTree.{closed_same}

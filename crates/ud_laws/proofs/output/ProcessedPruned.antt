@@ -3,12 +3,34 @@
 use Rattle.std.proofs.Common.{◌≡◌, Bool, true, false, refl, sym, ◌∙◌, subst, ◌⊎◌, inl, inr, arith}
 use Rattle.ud_model.specs.declared.cond.Cond.{Cond}
 use Rattle.ud_model.specs.declared.cond.Cond.TheVariants.{Yes, No, Unknown}
-use Rattle.ud_model.specs.sections.Tree.{Opener, Nodes, Groups, Elifs, nothing, text, section, conditional, otherwise, first, elif, with_lines, groups_with_lines, elifs_with_lines}
+use Rattle.ud_model.specs.sections.Tree.{Opener, Nodes, Groups, Elifs, nothing, text, section}
+use Rattle.ud_model.specs.sections.Tree.{conditional, otherwise, first, elif, opener_with_line}
+use Rattle.ud_model.specs.sections.Tree.{with_lines, groups_with_lines, elifs_with_lines}
 use Rattle.ud_model.specs.sections.Pruning.{Part, an_if, an_elif}
 use Rattle.ud_model.specs.declared.verdict.Verdict.TheVariants.{Keep}
 use Rattle.ud_model.specs.laws.Pruned.{Edited, edited, then_nodes}
-use Rattle.ud_laws.specs.output.Processing.{Preprocessor, Processes, no_nodes, takes_line, includes_file, selects_group, ProcessesOne, no_group, true_group, true_before_else, else_group, ProcessesTrue, first_true, true_before, elif_true, NoneTrue, first_false, elif_false, AgreesAs, agreeing, of_origin}
+use Rattle.ud_laws.specs.output.Processing.{Preprocessor, Processes, no_nodes, takes_line}
+use Rattle.ud_laws.specs.output.Processing.{includes_file, selects_group, ProcessesOne, no_group}
+use Rattle.ud_laws.specs.output.Processing.{true_group, true_before_else, else_group, ProcessesTrue}
+use Rattle.ud_laws.specs.output.Processing.{first_true, true_before, elif_true, NoneTrue}
+use Rattle.ud_laws.specs.output.Processing.{first_false, elif_false}
 use Rattle.ud_model.proofs.output.Folded.{KeptGroups, none_kept, replaced, kept_groups, ended, with_group, with_else, then_kept, folded, kept_groups_of, kept_elifs_of}
+
+-- A condition that is decided has the truth, and leaves the state as it is. Any other condition may
+-- have either, and change the state.
+abbrev pub AgreesAs : {S : Type 0} → Cond → Bool → S → S → Type 0
+AgreesAs Yes b s t = (b ≡ true) × (s ≡ t)
+AgreesAs No b s t = (b ≡ false) × (s ≡ t)
+AgreesAs Unknown b s t = Unit {0}
+
+-- A preprocessor over the lines of an output, each taken as the line that it comes from.
+abbrev pub of_origin : {S F L : Type 0} → Preprocessor S F L → Preprocessor S F (Edited L)
+of_origin p = record {
+  takes = λ s e t. p.takes s e.line t;
+  enters = λ s e f t. p.enters s e.line f t;
+  leaves = p.leaves;
+  decides = λ s o b t. p.decides s (opener_with_line (λ e. e.line) o) b t;
+}
 
 module _ {S F L : Type 0} (p : Preprocessor S F L) where
   -- Each decision on the opener agrees with its condition.
@@ -171,19 +193,3 @@ module _ {S F L : Type 0} (p : Preprocessor S F L) (files : F → Nodes L) (outp
   -- The output of a file is processed as the file.
   pub processed : (f : F) (s t : S) → Processes p files (files f) s t → Processes out outputs (outputs f) s t
   processed f s t g = by_output (output f) (both g)
-
-module _ {S F L : Type 0} (p : Preprocessor S F L) where
-  mutual
-    -- Decisions that agree are right.
-    pub agreeing_right : (ns : Nodes L) → NodesRight (agreeing p) ns
-    agreeing_right nothing = tt
-    agreeing_right (text ns l) = agreeing_right ns
-    agreeing_right (section ns gs e) = (agreeing_right ns, groups_right gs)
-
-    groups_right : (gs : Groups L) → GroupsRight (agreeing p) gs
-    groups_right (conditional es) = elifs_right es
-    groups_right (otherwise es l ns) = (elifs_right es, λ s t h. agreeing_right ns)
-
-    elifs_right : (es : Elifs L) → ElifsRight (agreeing p) es
-    elifs_right (first o ns) = (λ s b t d. d.1, λ s t d. agreeing_right ns)
-    elifs_right (elif es o ns) = (elifs_right es, λ s t h. (λ u b v d. d.1, λ u v d. agreeing_right ns))

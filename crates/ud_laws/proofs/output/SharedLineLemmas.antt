@@ -14,7 +14,8 @@ use Rattle.ud_model.specs.answer.Printing.{Judged, piece_alone, complemented, ju
 use Rattle.ud_model.specs.answer.Outcomes.{Outcome, outcome_of, ReadsAs, HasOutcome, ran_as}
 use Rattle.ud_laws.specs.answer.Successes.{JudgedAs, judged_as}
 use Rattle.ud_model.specs.answer.Outcomes.ReadsAs.{stops, ends}
-use Rattle.ud_laws.specs.output.SharedLines.{OnlyDecides, with_complement, RunsWithComplement, ShareLines, no_line, stays, goes}
+use Rattle.ud_laws.specs.output.SharedLines.{OnlyDecides, with_complement, ShareLines, no_line}
+use Rattle.ud_laws.specs.output.SharedLines.{stays, goes}
 use Rattle.ud_model.specs.declared.settings.Settings.{Settings}
 use Rattle.ud_model.specs.declared.settings.Listing.TheVariants.{Off}
 use Rattle.ud_model.specs.declared.verdict.Verdict.{Verdict}
@@ -81,6 +82,12 @@ shared o input {xs = xs} {t = t} {r = r} {s = s} p a run turned =
       ap (λ (z : Outcome). z.fault) (one_run turned (ran_as d)) ∙ ap (λ (z : Outcome). z.fault) (one_run (ran_as a) run),
       subst (λ (q : List ℕ). ShareLines js r.output q) (sym there) (subst (λ (q : List ℕ). ShareLines js q (concat (map (lone false true) js))) (sym here) (share_all js)),
     )
+
+-- A text has an outcome under options that only decide, and another one with `-c`.
+pub record RunsWithComplement (o : Options) (input : List ℕ) (r s : Outcome) : Type 0 where
+  pub decides : OnlyDecides o
+  pub runs : HasOutcome o input r
+  pub complement : HasOutcome (with_complement o) input s
 
 -- The run with `-c` has the same fault.
 pub same_fault : (o : Options) (input : List ℕ) {r s : Outcome} → RunsWithComplement o input r s → s.fault ≡ r.fault

@@ -4,7 +4,7 @@
 --
 -- A condition that continues on the next line, or whose text is no expression, may be true or
 -- false. The lines are lines as read: under `-t` each by itself, with comments and continuations as
--- text, so a C compiler may select others (law_reading_selects).
+-- text, so a C compiler may select others (law_answer_selects).
 --
 -- Example: of `#if A && X`, `#elif X`, `#endif` with A undefined, the first condition is false in
 -- each C world, and the second one true or false. `#if 1 / 0` has no C world, since C gives its

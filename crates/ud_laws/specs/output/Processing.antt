@@ -8,10 +8,6 @@
 --   over_readings takes ..     the preprocessor with these choices over lines that were read
 --   DecidesAsC table decides   each condition is decided as C may
 --   HasOneChoice p             `p` has at most one choice in each state, like a program
---   agreeing p                 `p` with only the decisions that agree with the decided
---                              conditions
---   of_origin p                `p` over the lines of an output, each taken as the line that it
---                              comes from
 --
 -- A state has all that a preprocessor knows: its macros, the open files, the text written. So what
 -- it does at a line may depend on every line before, in this file and in others. A file may be
@@ -32,12 +28,9 @@ use Rattle.std.specs.Prelude.{◌≡◌, ℕ, List, Bool, true, false, Option, N
 use Rattle.ud_model.specs.text.Scans.{Scan, Reading}
 use Rattle.ud_model.specs.conditions.Table.{Argument}
 use Rattle.ud_model.specs.conditions.Expressions.{Expression}
-use Rattle.ud_model.specs.declared.cond.Cond.{Cond}
-use Rattle.ud_model.specs.declared.cond.Cond.TheVariants.{Yes, No, Unknown}
 use Rattle.ud_model.specs.sections.Tree.{Opener, Nodes, Groups, Elifs, nothing, section}
-use Rattle.ud_model.specs.sections.Tree.{conditional, otherwise, first, elif, opener_with_line}
+use Rattle.ud_model.specs.sections.Tree.{conditional, otherwise, first, elif}
 use Rattle.ud_model.specs.sections.Tree as tree
-use Rattle.ud_model.specs.laws.Pruned.{Edited}
 use Rattle.ud_model.specs.laws.Rereading.{line_bytes}
 use Rattle.ud_laws.specs.output.CSelection.{MayBe}
 use Rattle.ud_model.specs.laws.WrittenConditions.{condition_by_test, Condition, condition_on}
@@ -108,13 +101,6 @@ mutual
         NoneTrue p es s t → p.decides t o true u → Processes p files ns u v →
         ProcessesTrue p files (elif es o ns) s v
 
--- `AgreesAs c b s t`: a condition that is decided as `c` has the truth `b`, and leaves the state
--- `s` as it is: `t` is `s`.
-abbrev pub AgreesAs : {S : Type 0} → Cond → Bool → S → S → Type 0
-AgreesAs Yes b s t = (b ≡ true) × (s ≡ t)
-AgreesAs No b s t = (b ≡ false) × (s ≡ t)
-AgreesAs Unknown b s t = Unit {0}
-
 -- `over_readings takes enters leaves decides`: the preprocessor with these choices over lines that
 -- were read. It is given a text line's bytes and scan, and an opener's condition.
 abbrev pub over_readings : {S F : Type 0} → (S → List ℕ → Scan → S → Type 0) →
@@ -144,21 +130,3 @@ pub record HasOneChoice {S F L : Type 0} (p : Preprocessor S F L) : Type 0 where
   pub one_return : (s t u : S) → p.leaves s t → p.leaves s u → t ≡ u
   pub one_truth : (s : S) (o : Opener L) (b c : Bool) (t u : S) → p.decides s o b t →
       p.decides s o c u → (b ≡ c) × (t ≡ u)
-
--- `agreeing p`: `p` with only the decisions that agree with the decided conditions.
-abbrev pub agreeing : {S F L : Type 0} → Preprocessor S F L → Preprocessor S F L
-agreeing p = record {
-  takes = p.takes;
-  enters = p.enters;
-  leaves = p.leaves;
-  decides = λ s o b t. p.decides s o b t × AgreesAs o.cond b s t;
-}
-
--- `of_origin p`: `p` over the lines of an output, each taken as the line that it comes from.
-abbrev pub of_origin : {S F L : Type 0} → Preprocessor S F L → Preprocessor S F (Edited L)
-of_origin p = record {
-  takes = λ s e t. p.takes s e.line t;
-  enters = λ s e f t. p.enters s e.line f t;
-  leaves = p.leaves;
-  decides = λ s o b t. p.decides s (opener_with_line (λ e. e.line) o) b t;
-}

@@ -9,7 +9,6 @@ use Rattle.ud_model.specs.sections.Pruning.{is_removed}
 use Rattle.ud_model.specs.sections.Items.{Options}
 use Rattle.ud_model.specs.answer.CommandLine.{options_of}
 use Rattle.ud_model.specs.answer.Printing.{Judged, piece_by}
-use Rattle.ud_model.specs.answer.Outcomes.{Outcome, HasOutcome}
 use Rattle.ud_model.specs.answer.Answer.{Answer, IsAnswer}
 use Rattle.ud_model.specs.declared.settings.Listing.TheVariants.{Off}
 
@@ -27,13 +26,6 @@ with_complement o = record {
   table =
       o.table;
 }
-
--- `RunsWithComplement o input r s`: the text has the outcome `r` under options that only decide,
--- and the outcome `s` with `-c`.
-pub record RunsWithComplement (o : Options) (input : List ℕ) (r s : Outcome) : Type 0 where
-  pub decides : OnlyDecides o
-  pub runs : HasOutcome o input r
-  pub complement : HasOutcome (with_complement o) input s
 
 -- `AnswersWithComplement args input a c`: `a` is the answer to arguments that only decide, and `c`
 -- the answer to `-c` and these arguments.

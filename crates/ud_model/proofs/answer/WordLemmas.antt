@@ -1,6 +1,8 @@
 -- Arguments: each argument is parsed by itself, in order.
 use Rattle.std.proofs.Common.{◌≡◌, ℕ, suc, List, [], ◌∷◌, ◌++◌, false, Option, Some, None, bytes_eq, codes, refl, arith}
-use Rattle.ud_model.specs.answer.CommandLine.{ParsedArg, UsageFault, fault_or, option_letters, operands_from, parsed_from, parsed_after_option, letters_give, given_next}
+use Rattle.ud_model.specs.answer.CommandLine.{ParsedArg, UsageFault, fault_or, option_letters}
+use Rattle.ud_model.specs.answer.CommandLine.{parsed_from, parsed_after_option, letters_give}
+use Rattle.ud_model.specs.answer.CommandLine.{given_next}
 use Rattle.ud_model.specs.aids.LettersThen.{parsed_letters}
 
 -- If neither of two faults is there, there is none.
@@ -18,15 +20,6 @@ letters_split : (number : ℕ) (cs : List ℕ) (next : ℕ → List ParsedArg) (
     parsed_letters number cs next rest ≡ (letters_give number cs).given ++ waited (letters_give number cs).waits next rest
 letters_split number [] next rest = refl
 letters_split number (c ∷ cs) next rest = grind (arith, letters_split number cs next rest)
-
--- After `--` each argument is an operand.
-pub after_end : (n : ℕ) (args : List (List ℕ)) → parsed_from n (codes "--" ∷ args) ≡ operands_from (suc n) args
-after_end n args = refl
-
--- An argument without letters is an operand, and so is each after it.
-pub operand_given : (n : ℕ) (w : List ℕ) (args : List (List ℕ)) → bytes_eq w (codes "--") ≡ false → option_letters w ≡ [] →
-    parsed_from n (w ∷ args) ≡ operands_from n (w ∷ args)
-operand_given n w args e l = rw (e, l) refl
 
 -- An argument with letters gives their options, and then the arguments after it.
 pub options_given : (n : ℕ) (w : List ℕ) (args : List (List ℕ)) (c : ℕ) (cs : List ℕ) → bytes_eq w (codes "--") ≡ false → option_letters w ≡ c ∷ cs →

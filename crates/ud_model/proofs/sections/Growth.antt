@@ -4,7 +4,6 @@
 -- one has grown so from one other, and a tree and a line give one tree at most.
 use Rattle.std.proofs.Common.{◌≡◌, [], ◌∷◌, ◌++◌, refl, ap, append_assoc, append-nil, ◌⊎◌, inl, inr, arith}
 use Rattle.ud_model.specs.sections.Tree.{Opener, Item, text_line, if_line, elif_line, else_line, endif_line, Nodes, Groups, Elifs, Head, Tree, nothing, text, section, conditional, otherwise, first, elif, if_head, elif_head, else_head, closed, open_section, lines, lines_of_nodes, lines_of_groups, lines_of_head}
-use Rattle.ud_model.specs.sections.Pruning.{conds_of_groups, conds_of_head}
 
 module _ {L : Type 0} where
   -- The groups of a section whose last group has these nodes.
@@ -35,10 +34,6 @@ module _ {L : Type 0} where
   -- group.
   pub lines-complete : (h : Head L) (b : Nodes L) → lines_of_head h ++ lines_of_nodes b ≡ lines_of_groups (complete h b)
   lines-complete h b = grind arith
-
-  -- The conditions of a section are those of its head.
-  pub conds-complete : (h : Head L) (b : Nodes L) → conds_of_groups (complete h b) ≡ conds_of_head h
-  conds-complete h b = grind arith
 
   -- The lines of the longer tree are those of the shorter one, and then the line.
   pub lines-add : {t u : Tree L} {x : Item L} → Adds t x u → lines u ≡ lines t ++ x ∷ []

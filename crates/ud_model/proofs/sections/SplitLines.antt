@@ -6,9 +6,9 @@ use Rattle.std.proofs.lemmas.Slice.Eq.{bytes_eq-Decides}
 use Rattle.ud_model.specs.text.Bytes.{number_sign, is_white, is_word_byte, are_white, are_word_bytes, skip_white, leading_word, skip_word}
 use Rattle.ud_model.specs.text.Scans.{Scan}
 use Rattle.ud_model.specs.sections.Directives.{Content, Directive, cut_keyword, directive, text, content_of, skip_white_and_hash, skip_hash, may_split_keyword, has_split_keyword, content_after_hash, directive_at, kind_of, is_in_line, is_continued_outside_comment}
-use Rattle.ud_model.specs.aids.DirectiveParts.{DirectiveParts, AreParts, first_is, EndsInKeyword, nothing_follows, IsSplitKeyword, HasSplitKeyword, HasDirective}
+use Rattle.ud_model.specs.aids.DirectiveParts.{DirectiveParts, AreParts, first_is, EndsInKeyword}
+use Rattle.ud_model.specs.aids.DirectiveParts.{nothing_follows, IsSplitKeyword, HasDirective}
 use Rattle.ud_model.specs.declared.kind.Kind.{Kind}
-use Rattle.ud_model.proofs.text.LexLemmas.{same_front}
 
 -- White space after white space is skipped, too.
 past_white_then : (ws t : List ℕ) → are_white ws ≡ true → skip_white (ws ++ t) ≡ skip_white t
@@ -146,15 +146,6 @@ module _ (scan : Scan) (p : DirectiveParts) where
       content_by split fresh k ≡ directive d → HasDirective scan d
   to_directive h split fresh k d s f e g = grind (arith, has_this)
 
-  to_cut : (split fresh : Bool) (k : Option Kind) → content_by split fresh k ≡ cut_keyword → split ≡ true
-  to_cut split fresh k e = grind arith
-
-  to_text : AreParts p scan.masked → (split fresh : Bool) (k : Option Kind) → splits ≡ split → scan.fresh ≡ fresh → kind_of p.word ≡ k →
-      (HasSplitKeyword scan → ⊥) → ((d : Directive) → HasDirective scan d → ⊥) → content_by split fresh k ≡ text
-  to_text h true fresh k s f e n m = absurd (n (record { parts = p; are = h; split = to_split h s }))
-  to_text h false true (Some k) s f e n m = absurd (m (directive_by k) (has_this h f s k e))
-  to_text _ false _ _ _ _ _ n _ = refl
-
   unsplit : AreParts p scan.masked → ¬ IsSplitKeyword scan p → splits ≡ false
   unsplit h n = search (rules, to_split)
 
@@ -170,59 +161,6 @@ split_line scan = by_hash (skip_white_and_hash scan.masked) refl
     by_hash None e = unsigned (ap (λ (o : Option (List ℕ)). if has_split_keyword scan o then cut_keyword else content_after_hash scan o) e)
     by_hash (Some tail) e = let p : (p : DirectiveParts) × AreParts p scan.masked = parts_exist scan.masked tail e in signed p.0 p.1
 
--- A keyword is split exactly if the parts say so.
-pub split_is : (scan : Scan) → (content_of scan ≡ cut_keyword) ↔ HasSplitKeyword scan
-split_is scan = (to (split_line scan), back)
-  where
-    to : Split scan → content_of scan ≡ cut_keyword → HasSplitKeyword scan
-    to (unsigned t) e = let q : text ≡ cut_keyword = sym t ∙ e in cc
-    to (signed p h) e =
-        let s = to_cut scan p (splits scan p) scan.fresh (kind_of p.word) (sym (content_is scan p h) ∙ e) in
-        record { parts = p; are = h; split = to_split scan p h s }
-
-    back : HasSplitKeyword scan → content_of scan ≡ cut_keyword
-    back s = cc (content_is scan s.parts s.are, from_split scan s.parts s.are s.split)
-
 -- A line has a directive exactly if its parts say so.
 pub directive_is : (scan : Scan) (d : Directive) → (content_of scan ≡ directive d) ↔ HasDirective scan d
 directive_is scan d = search (rules, split_line, to_directive, content_is, computed, unsplit, place)
-
--- Each other line is text.
-pub text_is : (scan : Scan) → (content_of scan ≡ text) ↔ ((HasSplitKeyword scan → ⊥) × ((d : Directive) → HasDirective scan d → ⊥))
-text_is scan = (to, λ n. back n (split_line scan))
-  where
-    to : content_of scan ≡ text → (HasSplitKeyword scan → ⊥) × ((d : Directive) → HasDirective scan d → ⊥)
-    to e = (
-      λ s. let q : text ≡ cut_keyword = sym e ∙ (split_is scan).1 s in cc,
-      λ d h. let q : text ≡ directive d = sym e ∙ (directive_is scan d).1 h in cc,
-    )
-
-    back : (HasSplitKeyword scan → ⊥) × ((d : Directive) → HasDirective scan d → ⊥) → Split scan → content_of scan ≡ text
-    back n (unsigned t) = t
-    back n (signed p h) = content_is scan p h ∙ to_text scan p h (splits scan p) scan.fresh (kind_of p.word) refl refl refl n.0 n.1
-
-same_parts : {a b c d e f g h : List ℕ} → a ≡ b → c ≡ d → e ≡ f → g ≡ h →
-    ◌≡◌ {A = DirectiveParts} (record { white = a; gap = c; word = e; rest = g }) (record { white = b; gap = d; word = f; rest = h })
-same_parts i j k l = cc
-
--- Texts that are the same, and end the same, begin the same.
-front_same : (s t rest more : List ℕ) → s ++ rest ≡ t ++ more → rest ≡ more → s ≡ t
-front_same s t rest more e f = let a = length-append s rest in
-    let b = length-append t more in
-    let c = ap (λ (l : List ℕ). length l) e in
-    let d = ap (λ (l : List ℕ). length l) f in
-    (same_front s t rest more e (omega (arith, a, b, c, d))).0
-
--- A masked line has one split at most.
-pub parts_same : (masked : List ℕ) (p q : DirectiveParts) → AreParts p masked → AreParts q masked → p ≡ q
-parts_same masked p q h i = let a = computed p masked h in
-    let b = computed q masked i in
-    let some : Some (p.gap ++ (p.word ++ p.rest)) ≡ Some (q.gap ++ (q.word ++ q.rest)) = sym a.tail ∙ b.tail in
-    let tails : p.gap ++ (p.word ++ p.rest) ≡ q.gap ++ (q.word ++ q.rest) = cc in
-    let behind : p.word ++ p.rest ≡ q.word ++ q.rest = sym a.behind ∙ ap skip_white tails ∙ b.behind in
-    same_parts
-    (front_same p.white q.white (number_sign ∷ (p.gap ++ (p.word ++ p.rest))) (number_sign ∷ (q.gap ++ (q.word ++ q.rest))) (sym h.joined ∙ i.joined)
-    (ap (λ (l : List ℕ). number_sign ∷ l) tails))
-    (front_same p.gap q.gap (p.word ++ p.rest) (q.word ++ q.rest) tails behind)
-    (sym a.word ∙ ap leading_word behind ∙ b.word)
-    (sym a.rest ∙ ap skip_word behind ∙ b.rest)

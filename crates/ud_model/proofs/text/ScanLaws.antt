@@ -6,7 +6,8 @@ use Rattle.ud_model.specs.text.Lines.{Line}
 use Rattle.ud_model.specs.text.Scans.{Scan, Reading}
 use Rattle.ud_model.specs.text.Splicing.{is_spliced, is_empty, content, stays_open, spliced_part, spliced_text, extended_run, c_run_from, c_run_of, last_is_spliced}
 use Rattle.ud_model.specs.text.Lexemes.{kind_at_end}
-use Rattle.ud_model.specs.text.Scanning.{is_block, joins, comment_at, scan_after_run, scan_after, next_reading, readings_after, readings_of, EndsLogicalLine, ends_with}
+use Rattle.ud_model.specs.text.Scanning.{is_block, joins, comment_at, scan_after_run, scan_after}
+use Rattle.ud_model.specs.text.Scanning.{next_reading, readings_after, readings_of}
 use Rattle.ud_model.specs.aids.LexStates.{LexState, in_text, LexesTo, next_state, opens_comment, masked_byte, stays_white, kind_in_state, fresh_at, state_after_line, white_after_line, blank_last, Masks}
 use Rattle.ud_model.specs.declared.kind.Mode.{Mode}
 use Rattle.ud_model.specs.declared.kind.Mode.TheVariants.{C}
@@ -153,18 +154,20 @@ pub scan_alone : (prefix group : List Reading) (m n : Mode) (last line : Line) �
     scan_after ((prefix ++ next_reading prefix m last ∷ []) ++ group) n line ≡ scan_after group n line
 scan_alone prefix group m n last line alone some = grind (arith, anew_code, c_run_from-append)
 
+-- The readings before, and the one of a line in this mode.
+abbrev pub with_next : List Reading → Mode → Line → List Reading
+with_next before mode line = before ++ next_reading before mode line ∷ []
+
+-- A logical line ends with the last of the readings: that line has an ending, and doesn't join the
+-- next line.
+pub data EndsLogicalLine : List Reading → Type 0 where
+  ends_with : (before : List Reading) (mode : Mode) (line : Line) →
+      (scan_after before mode line).joins_after ≡ false → line.ending ≢ [] →
+      EndsLogicalLine (with_next before mode line)
+
+-- After a logical line a scan doesn't depend on what came before.
 pub after_end : (before group : List Reading) (m : Mode) (l : Line) → EndsLogicalLine before → scan_after (before ++ group) m l ≡ scan_after group m l
 after_end before group m l (ends_with prefix n last alone some) = scan_alone prefix group n m last l alone some
-
--- So further lines are read as if no line came before them.
-pub readings_alone : (prefix group : List Reading) (m : Mode) (last : Line) (lines : List (Mode × Line)) → (scan_after prefix m last).joins_after ≡ false →
-    last.ending ≢ [] → readings_after ((prefix ++ next_reading prefix m last ∷ []) ++ group) lines ≡ (prefix ++ next_reading prefix m last ∷ []) ++ readings_after group lines
-readings_alone prefix group m last [] alone some = refl
-readings_alone prefix group m last (l ∷ lines) alone some =
-    let before : List Reading = prefix ++ next_reading prefix m last ∷ [] in
-    ap (λ (s : Scan). readings_after ((before ++ group) ++ record { line = l.1; mode = l.0; scan = s } ∷ []) lines) (scan_alone prefix group m l.0 last l.1 alone some)
-    ∙ ap (λ (rs : List Reading). readings_after rs lines) (append_assoc before group (next_reading group l.0 l.1 ∷ []))
-    ∙ readings_alone prefix (group ++ next_reading group l.0 l.1 ∷ []) m last lines alone some
 
 -- Lines are read after those before them.
 pub readings_after-append : (before : List Reading) (lines more : List (Mode × Line)) →

@@ -1,8 +1,8 @@
 -- Directive parts: a masked line split once, as white space, `#`, white space, a word and the rest.
 -- C11 6.10.
 --
--- A masked line has at most one split, and none unless `#` is its first byte that isn't white
--- space. These parts give the content of a line (`content_of`, law_directive).
+-- A masked line has no split unless `#` is its first byte that isn't white space. These parts give
+-- the directive of a line (`content_of`), by the lemma `directive_is`.
 --
 -- Example: the parts of `  # ifdef A` are two spaces, one space, `ifdef` and ` A`.
 use Rattle.std.specs.Prelude.{◌≡◌, ◌≢◌, ℕ, suc, ◌+◌, List, [], ◌∷◌, ◌++◌, length, Bool, true, false}
@@ -57,12 +57,6 @@ pub record IsSplitKeyword (scan : Scan) (p : DirectiveParts) : Type 0 where
   -- No line comment continues on the next line.
   pub no_line_comment : is_in_line scan.comment ≡ false
   pub ends : EndsInKeyword scan p
-
--- `HasSplitKeyword scan`: a line with this scan has a keyword that may continue on the next line.
-pub record HasSplitKeyword (scan : Scan) : Type 0 where
-  pub parts : DirectiveParts
-  pub are : AreParts parts scan.masked
-  pub split : IsSplitKeyword scan parts
 
 -- `HasDirective scan d`: a line with this scan has the directive `d`. The line is fresh, its word
 -- is a keyword and isn't split, and the rest follows the keyword.

@@ -1,6 +1,5 @@
 -- Letters, and then: the options of an argument's letters, followed by what comes after them. Code
--- reads them in this form, letter by letter. By law_arguments it agrees with `letters_give` and
--- `given_next`.
+-- reads them in this form, letter by letter. It agrees with `letters_give` and `given_next`.
 use Rattle.std.specs.Prelude.{ℕ, List, [], ◌∷◌, encode_utf8_all, if◌then◌else◌, ◌≡◌, false}
 use Rattle.std.specs.Prelude.{bytes_eq, codes}
 use Rattle.ud_model.specs.answer.CommandLine.{ParsedArg, flag, option, unknown, is_flag}

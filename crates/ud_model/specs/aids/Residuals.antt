@@ -117,10 +117,6 @@ module _ (table : List Argument) (rules : Rules) where
   abbrev pub is_undecided : Residual → Bool
   is_undecided x = is_unknown x.cond && is_unknown (tree_cond x.tree table rules)
 
-  -- `simplified e`: the condition `e` without the operands that are decided.
-  abbrev pub simplified : Expression → Expression
-  simplified e = if is_undecided (residual e) then (residual e).tree else e
-
 -- `operands e`: the operands of the tree, in order: what its `&&`, `||` and `!` join, unless they
 -- are inside an operand of another operator.
 abbrev pub operands : Expression → List Expression

@@ -132,12 +132,6 @@ parsed_from n args = given_next None n args
 abbrev pub parsed_after_option : ℕ → ℕ → List (List ℕ) → List ParsedArg
 parsed_after_option c n args = given_next (Some c) n args
 
--- `parsed_by n letters args`: the options of the letters of the argument with this number, and then
--- the parsed arguments after it.
-abbrev pub parsed_by : ℕ → List ℕ → List (List ℕ) → List ParsedArg
-parsed_by n letters args =
-    (letters_give n letters).given ++ given_next (letters_give n letters).waits n args
-
 -- `parsed_args args`: the parsed arguments of a command line.
 abbrev pub parsed_args : List (List ℕ) → List ParsedArg
 parsed_args args = parsed_from 0 args

@@ -3,7 +3,6 @@
 --
 --   IsLexeme bytes rest kind   `bytes` is a lexeme of this kind if the text goes on with `rest`
 --   AreLexemes pieces text     `pieces` are the lexemes of `text`, in order
---   LastIsOpen kind pieces     the last of them has this kind, and is open
 --   cells_of pieces            each byte of the lexemes with the kind of its lexeme
 --   lexeme_at b rest           the extent of the lexeme that begins with `b` before `rest`,
 --                              computed
@@ -90,29 +89,6 @@ abbrev pub AreLexemes : List Lexeme → List ℕ → Type 0
 AreLexemes [] text = text ≡ []
 AreLexemes (p ∷ pieces) text = (rest : List ℕ) × (text ≡ p.bytes ++ rest) ×
     IsLexeme p.bytes rest p.kind × AreLexemes pieces rest
-
--- `IsOpen bytes kind`: a lexeme of this kind with these bytes has no end of its own: a text that
--- ends with it ends inside it.
-pub data IsOpen (bytes : List ℕ) : LexemeKind → Type 0 where
-  -- A block comment without its `*/`.
-  unclosed_comment : (inside : List ℕ) → bytes ≡ slash ∷ star ∷ inside → NoClose inside →
-      IsOpen bytes block_comment
-  -- Every line comment, since the newline isn't part of it.
-  each_line_comment : (inside : List ℕ) → bytes ≡ slash ∷ slash ∷ inside → NoNewline inside →
-      IsOpen bytes line_comment
-  -- A literal without its closing quote.
-  unclosed_literal : (quote : ℕ) (inside : List ℕ) → is_quote quote ≡ true →
-      bytes ≡ quote ∷ inside → IsLiteralBody quote inside → IsOpen bytes literal
-  -- Such a literal whose last byte is a backslash.
-  unclosed_at_backslash : (quote : ℕ) (inside : List ℕ) → is_quote quote ≡ true →
-      bytes ≡ quote ∷ (inside ++ backslash ∷ []) → IsLiteralBody quote inside →
-      IsOpen bytes literal
-
--- `LastIsOpen kind pieces`: the last of `pieces` is a lexeme of this kind, and it is open.
-abbrev pub LastIsOpen : LexemeKind → List Lexeme → Type 0
-LastIsOpen kind [] = ⊥
-LastIsOpen kind (p ∷ []) = (p.kind ≡ kind) × IsOpen p.bytes kind
-LastIsOpen kind (p ∷ q ∷ pieces) = LastIsOpen kind (q ∷ pieces)
 
 -- A byte, and the kind of the lexeme that it lies in.
 pub record Cell : Type 0 where
@@ -217,6 +193,6 @@ last_kind before [] = before
 last_kind before (c ∷ cells) = last_kind c.kind cells
 
 -- `kind_at_end text`: the kind of lexeme that the end of `text` lies in: a space there would belong
--- to it. It is the kind of the last lexeme if that is open, else `single` (law_end_of_text).
+-- to it. It is the kind of the last lexeme if that is open, else `single`.
 unfoldable pub kind_at_end : List ℕ → LexemeKind
 kind_at_end text = last_kind single (lex (text ++ space ∷ []))

@@ -6,10 +6,7 @@
 --   comment_at spliced kind       the comment left open at the end of a line
 --   scan_after_run run line       the scan of a line in C mode after a C run
 --   scan_after before mode line   the scan of a line in this mode after these readings
---   c_comment_after before line   the comment at the end of a line that is read in C mode
 --   next_reading before mode l    the reading of the line, with its mode and its scan
---   with_next before mode l       the readings before, and the reading of the line
---   EndsLogicalLine readings      the last line has an ending and doesn't join the next one
 --   readings_of lines             the readings of these lines, each in its mode
 --   content_cells run line        the cells of a line's content after a C run
 --
@@ -18,9 +15,8 @@
 --
 -- Example: after the line `/\`, which isn't blank, the line `* c */ #ifdef A` is shown as seven
 -- spaces and `#ifdef A`. It is fresh, for the `/` before it has become the first byte of a comment.
-use Rattle.std.specs.Prelude.{◌≡◌, ◌≢◌, ℕ, List, [], ◌∷◌, ◌++◌, length, take, drop, map, Bool}
-use Rattle.std.specs.Prelude.{true, false, ◌||◌}
-use Rattle.std.specs.Prelude.{if◌then◌else◌}
+use Rattle.std.specs.Prelude.{List, [], ◌∷◌, ◌++◌, length, take, drop, map, Bool}
+use Rattle.std.specs.Prelude.{true, false, ◌||◌, if◌then◌else◌}
 use Rattle.std.specs.List.{list_all}
 use Rattle.ud_model.specs.text.Bytes.{is_white}
 use Rattle.ud_model.specs.text.Lines.{Line}
@@ -28,8 +24,7 @@ use Rattle.ud_model.specs.text.Scans.{Scan, Reading, plain_scan}
 use Rattle.ud_model.specs.text.Splicing.{is_spliced, content, spliced_part, spliced_text, c_run_of}
 use Rattle.ud_model.specs.text.Splicing.{last_is_spliced}
 use Rattle.ud_model.specs.text.Lexemes.{LexemeKind, block_comment, line_comment, literal, single}
-use Rattle.ud_model.specs.text.Lexemes.{Cell, Lexeme, AreLexemes, lex, shown, open_line}
-use Rattle.ud_model.specs.text.Lexemes.{kind_at_end}
+use Rattle.ud_model.specs.text.Lexemes.{Cell, lex, shown, open_line, kind_at_end}
 use Rattle.ud_model.specs.declared.kind.Mode.{Mode}
 use Rattle.ud_model.specs.declared.kind.Mode.TheVariants.{C, Plain}
 use Rattle.ud_model.specs.declared.kind.CommentAt.{CommentAt}
@@ -86,30 +81,6 @@ scan_after before Plain line = plain_scan line
 abbrev pub next_reading : List Reading → Mode → Line → Reading
 next_reading before mode line =
     record { line = line; mode = mode; scan = scan_after before mode line }
-
--- `with_next before mode line`: the readings `before`, and the one of `line` in this mode.
-abbrev pub with_next : List Reading → Mode → Line → List Reading
-with_next before mode line = before ++ next_reading before mode line ∷ []
-
--- `c_comment_after before line`: the comment left open at the end of `line`, which is read in C
--- mode after `before`.
-abbrev pub c_comment_after : List Reading → Line → CommentAt
-c_comment_after before line = (scan_after before C line).comment
-
--- `c_text_with before line`: the spliced text of the C run that ends with `line`, after `before`.
-abbrev pub c_text_with : List Reading → Line → List ℕ
-c_text_with before line = spliced_text (c_run_of before) ++ spliced_part line
-
--- `AreCLexemes before line pieces`: that text has these lexemes.
-abbrev pub AreCLexemes : List Reading → Line → List Lexeme → Type 0
-AreCLexemes before line pieces = AreLexemes pieces (c_text_with before line)
-
--- `EndsLogicalLine readings`: a logical line ends with the last of the readings: that line has an
--- ending, and doesn't join the next line.
-pub data EndsLogicalLine : List Reading → Type 0 where
-  ends_with : (before : List Reading) (mode : Mode) (line : Line) →
-      (scan_after before mode line).joins_after ≡ false → line.ending ≢ [] →
-      EndsLogicalLine (with_next before mode line)
 
 -- `readings_after before lines`: the readings `before`, followed by those of `lines`, each in its
 -- mode.
