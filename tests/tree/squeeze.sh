@@ -87,6 +87,17 @@ f() {
 $gone
 
   a;
+}
+->
+f() {
+  a;
+}
+EOT
+  squeezes << EOT
+f() {
+$gone
+
+  a;
 
 $gone
 }
@@ -112,28 +123,7 @@ f() {
 
 }
 EOT
-  # Directives open and close groups, and so do the beginning and the end of a file.
-  squeezes << EOT
-#if X
-$gone
-
-a;
-
-$gone
-#else
-$gone
-
-b;
-
-$gone
-#endif
-->
-#if X
-a;
-#else
-b;
-#endif
-EOT
+  # The beginning of a file opens, and its end closes.
   squeezes << EOT
 $gone
 
@@ -164,6 +154,131 @@ b;
 a; /* { */
 
 b;
+EOT
+}
+
+# A directive neither opens nor closes. None stays of a run that is all that is left of a group, if
+# removed lines split it or were next to it.
+test_squeezed_groups() {
+  fresh
+  squeezes << EOT
+#if X
+$gone
+
+a;
+
+#else
+
+b;
+#endif
+->
+#if X
+
+a;
+
+#else
+
+b;
+#endif
+EOT
+  squeezes << EOT
+#if X
+a;
+
+$gone
+#elif Y
+$gone
+
+b;
+#endif
+->
+#if X
+a;
+
+#elif Y
+
+b;
+#endif
+EOT
+  squeezes << EOT
+#if X
+$gone
+
+#else
+b;
+#endif
+->
+#if X
+#else
+b;
+#endif
+EOT
+  squeezes << EOT
+#if X
+
+$gone
+
+#endif
+->
+#if X
+#endif
+EOT
+  squeezes << EOT
+#if X
+a;
+#elif Y
+
+$gone
+#else
+$gone
+
+
+#endif
+->
+#if X
+a;
+#elif Y
+#else
+#endif
+EOT
+  # No removed line is next to the run, or something else is in the group.
+  squeezes << EOT
+#if X
+
+#endif
+$gone
+->
+#if X
+
+#endif
+EOT
+  squeezes << EOT
+#if X
+#if Y
+a;
+#endif
+
+$gone
+#endif
+$gone
+
+#if Z
+// b
+$gone
+
+#endif
+->
+#if X
+#if Y
+a;
+#endif
+
+#endif
+
+#if Z
+// b
+
+#endif
 EOT
 }
 
@@ -244,7 +359,9 @@ b;
 c;
 
 #if X
+
 d;
+
 #endif
 EOT
   squeezes -p << EOT
@@ -277,6 +394,7 @@ c;
 
 #if X
 d;
+
 #endif
 EOT
 }

@@ -1,6 +1,7 @@
 -- Squeezed texts: a line more, and a place more.
-use Rattle.std.proofs.Common.{◌≡◌, ℕ, suc, ◌+◌, ◌-◌, ◌<◌, ◌≤◌, List, [], ◌∷◌, ◌++◌, length, take, drop, take-append-drop, drop-cons, add-one, length-drop, get_or, get_or-drop, slice_range, Bool, true, false, if◌then◌else◌, append_assoc, append-nil, refl, sym, ◌∙◌, ap, ap₂, arith}
+use Rattle.std.proofs.Common.{◌≡◌, ℕ, suc, ◌+◌, ◌-◌, ◌<◌, ◌≤◌, List, [], ◌∷◌, ◌++◌, length, take, drop, take-append-drop, drop-cons, add-one, length-drop, get_or, get_or-drop, slice_range, Bool, true, false, ltb, ◌||◌, if◌then◌else◌, append_assoc, append-nil, refl, sym, ◌∙◌, ap, ap₂, arith}
 use Rattle.std.proofs.lemmas.List.{take_more, length-map, map-append, take_all, drop_all}
+use Rattle.std.proofs.lemmas.Bool.{lt-ltb, le-ltb}
 use Rattle.std.specs.List.{concat}
 use Rattle.ud_model.specs.text.Lines.{Line, SplitLines, texts_of, last_line, split_lines}
 use Rattle.ud_model.specs.text.Scans.{Reading}
@@ -12,7 +13,7 @@ use Rattle.ud_text.proofs.lemmas.scan.LongerTextLemmas.{one_text}
 use Rattle.ud_passes.specs.Walks.{read_after, Walked}
 use Rattle.ud_passes.specs.declared.walk.Walk.{Walk}
 use Rattle.ud_passes.specs.declared.squeezing.places.Place.{Place}
-use Rattle.ud_passes.specs.squeezing.SqueezedTexts.{is_gap, after_stay, bare_place, place_of, places, parts, last_part, left, first_ones, stay_flags, kept_lines, first_flag, later_flags}
+use Rattle.ud_passes.specs.squeezing.SqueezedTexts.{is_gap, after_stay, bare_place, place_of, places, parts, first_part, last_part, only_part, left, first_ones, stay_flags, kept_lines, first_flag, later_flags}
 use Rattle.ud_passes.specs.squeezing.Squeezing.{Placed, gaps_of}
 use Rattle.ud_passes.proofs.WalkLemmas.{walk_ends}
 
@@ -96,6 +97,27 @@ last_more stretch at n m d below h e = let p : Place = get_or stretch at d in
     by true = refl
     by false = omega arith
 
+-- A part isn't the only one, if another follows.
+not_only : (n m : ℕ) (gaps : List Bool) (below : Bool) → only_part (n ∷ parts m gaps below) ≡ 0
+not_only n m [] true = refl
+not_only n m [] false = refl
+not_only n m (true ∷ gaps) below = refl
+not_only n m (false ∷ gaps) below = not_only n (suc m) gaps below
+
+-- The only part is the first one, if it has all lines.
+pub only_all : (n : ℕ) (gaps : List Bool) (below : Bool) →
+    only_part (parts n gaps below) ≡ (if below || ltb (first_part (parts n gaps below)) (n + length gaps) then 0 else first_part (parts n gaps below))
+only_all n [] true = refl
+only_all n [] false = let z : ltb n (n + 0) ≡ false = le-ltb n (n + 0) (omega arith) in ap (λ (b : Bool). if b then 0 else n) (sym z)
+only_all n (true ∷ gaps) below = let more : ltb n (n + suc (length gaps)) ≡ true = lt-ltb n (n + suc (length gaps)) (omega arith) in
+    not_only n 1 gaps below ∙ sym (ap (λ (b : Bool). if below || b then 0 else n) more ∙ by below)
+  where
+    by : (b : Bool) → (if b || true then 0 else n) ≡ 0
+    by true = refl
+    by false = refl
+only_all n (false ∷ gaps) below = let e : suc n + length gaps ≡ n + suc (length gaps) = omega arith in
+    only_all (suc n) gaps below ∙ ap (λ (k : ℕ). if below || ltb (first_part (parts (suc n) gaps below)) k then 0 else first_part (parts (suc n) gaps below)) e
+
 module _ (ps : List Place) (a b : ℕ) (d : Place) (h : a ≤ b) (k : b < length ps) where
   abbrev p : Place
   p = get_or ps b d
@@ -112,19 +134,19 @@ module _ (ps : List Place) (a b : ℕ) (d : Place) (h : a ≤ b) (k : b < length
   rest = rw add-one (drop-cons ps b d k)
 
   -- A blank line belongs to the stretch.
-  pub blank_next : (opens : Bool) → p.blank ≡ true → stay_flags opens (gaps_of (slice_range ps a b)) (drop b ps) ≡ stay_flags opens (gaps_of (slice_range ps a (b + 1))) (drop (b + 1) ps)
-  blank_next opens e = grind (arith, rest, slice_more, map-append)
+  pub blank_next : (above : Place) → p.blank ≡ true → stay_flags above (gaps_of (slice_range ps a b)) (drop b ps) ≡ stay_flags above (gaps_of (slice_range ps a (b + 1))) (drop (b + 1) ps)
+  blank_next above e = grind (arith, rest, slice_more, map-append)
 
   no_slice : slice_range ps (b + 1) (b + 1) ≡ []
   no_slice = let z : (b + 1) - (b + 1) ≡ 0 = omega arith in ap (λ (m : ℕ). take m (drop (b + 1) ps)) z
 
   -- Any other line ends it.
-  pub other_next : (opens : Bool) (out new : List Bool) → p.blank ≡ false →
-      new ≡ out ++ (first_ones (length (slice_range ps a b)) (left opens p.closes (parts 0 (gaps_of (slice_range ps a b)) p.gap)) ++ true ∷ []) →
-      new ++ stay_flags p.opens (gaps_of (slice_range ps (b + 1) (b + 1))) (drop (b + 1) ps) ≡ out ++ stay_flags opens (gaps_of (slice_range ps a b)) (drop b ps)
-  other_next opens out new e n = let s : List Place = slice_range ps a b in
-      let stay : List Bool = first_ones (length s) (left opens p.closes (parts 0 (gaps_of s) p.gap)) in
-      let later : List Bool = stay_flags p.opens [] (drop (b + 1) ps) in
-      let same : stay_flags opens (gaps_of s) (p ∷ drop (b + 1) ps) ≡ stay ++ true ∷ later = grind (arith, length-map) in
-      ap₂ (λ (x : List Bool) (y : List Place). x ++ stay_flags p.opens (gaps_of y) (drop (b + 1) ps)) n no_slice
-      ∙ append_assoc out (stay ++ true ∷ []) later ∙ ap (λ (x : List Bool). out ++ x) (append_assoc stay (true ∷ []) later ∙ sym same ∙ ap (λ (qs : List Place). stay_flags opens (gaps_of s) qs) (sym rest))
+  pub other_next : (above : Place) (out new : List Bool) → p.blank ≡ false →
+      new ≡ out ++ (first_ones (length (slice_range ps a b)) (left above p (parts 0 (gaps_of (slice_range ps a b)) p.gap)) ++ true ∷ []) →
+      new ++ stay_flags p (gaps_of (slice_range ps (b + 1) (b + 1))) (drop (b + 1) ps) ≡ out ++ stay_flags above (gaps_of (slice_range ps a b)) (drop b ps)
+  other_next above out new e n = let s : List Place = slice_range ps a b in
+      let stay : List Bool = first_ones (length s) (left above p (parts 0 (gaps_of s) p.gap)) in
+      let later : List Bool = stay_flags p [] (drop (b + 1) ps) in
+      let same : stay_flags above (gaps_of s) (p ∷ drop (b + 1) ps) ≡ stay ++ true ∷ later = grind (arith, length-map) in
+      ap₂ (λ (x : List Bool) (y : List Place). x ++ stay_flags p (gaps_of y) (drop (b + 1) ps)) n no_slice
+      ∙ append_assoc out (stay ++ true ∷ []) later ∙ ap (λ (x : List Bool). out ++ x) (append_assoc stay (true ∷ []) later ∙ sym same ∙ ap (λ (qs : List Place). stay_flags above (gaps_of s) qs) (sym rest))

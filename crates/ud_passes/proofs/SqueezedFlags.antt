@@ -8,7 +8,7 @@ use Rattle.ud_model.specs.aids.ReadAs.{read_as}
 use Rattle.ud_model.specs.declared.kind.Mode.TheVariants.{C}
 use Rattle.ud_model.proofs.text.LinesLemmas.{lines_exist}
 use Rattle.ud_passes.specs.declared.squeezing.places.Place.{Place}
-use Rattle.ud_passes.specs.squeezing.SqueezedTexts.{stays, is_gap, after_stay, is_blank_line, place_of, places, parts, left, first_ones, stay_flags, flags_in, first_flag, later_flags, kept_lines, squeezed_text}
+use Rattle.ud_passes.specs.squeezing.SqueezedTexts.{stays, is_gap, after_stay, is_blank_line, bare_place, place_of, places, parts, left, first_ones, stay_flags, flags_in, first_flag, later_flags, kept_lines, squeezed_text}
 
 -- 1. Only blank lines go.
 
@@ -38,14 +38,14 @@ length-first_ones n k = let a = length-append (replicate (min k n) true) (replic
     let b = length-replicate (min k n) true in let c = length-replicate (n - k) false in
     grind arith
 
-blanks_after : (ms : List ℕ) (rs : List Reading) (opens : Bool) (gaps : List Bool) (qs : List Reading) → length gaps ≡ length qs → AllBlank qs →
-    OnlyBlanks (stay_flags opens gaps (places ms rs)) (qs ++ rs)
+blanks_after : (ms : List ℕ) (rs : List Reading) (above : Place) (gaps : List Bool) (qs : List Reading) → length gaps ≡ length qs → AllBlank qs →
+    OnlyBlanks (stay_flags above gaps (places ms rs)) (qs ++ rs)
 unfolding AllBlank OnlyBlanks
-blanks_after ms [] opens gaps qs e a = blanks_both _ (true ∷ []) qs [] (length-first_ones (length gaps) _ ∙ e) a tt
-blanks_after ms (r ∷ rs) opens gaps qs e a =
+blanks_after ms [] above gaps qs e a = blanks_both _ (true ∷ []) qs [] (length-first_ones (length gaps) _ ∙ e) a tt
+blanks_after ms (r ∷ rs) above gaps qs e a =
     by (place_of (is_gap ms) r).blank refl
-    (λ more blank. blanks_after (after_stay ms) rs opens (gaps ++ (place_of (is_gap ms) r).gap ∷ []) (qs ++ r ∷ []) more blank)
-    (blanks_after (after_stay ms) rs (place_of (is_gap ms) r).opens [] [] refl tt)
+    (λ more blank. blanks_after (after_stay ms) rs above (gaps ++ (place_of (is_gap ms) r).gap ∷ []) (qs ++ r ∷ []) more blank)
+    (blanks_after (after_stay ms) rs (place_of (is_gap ms) r) [] [] refl tt)
   where
     p : Place
     p = place_of (is_gap ms) r
@@ -54,19 +54,19 @@ blanks_after ms (r ∷ rs) opens gaps qs e a =
     later = places (after_stay ms) rs
 
     by : (b : Bool) → p.blank ≡ b →
-        (length (gaps ++ p.gap ∷ []) ≡ length (qs ++ r ∷ []) → AllBlank (qs ++ r ∷ []) → OnlyBlanks (stay_flags opens (gaps ++ p.gap ∷ []) later) ((qs ++ r ∷ []) ++ rs)) →
-        OnlyBlanks (stay_flags p.opens [] later) rs →
-        OnlyBlanks (if b then stay_flags opens (gaps ++ p.gap ∷ []) later
-        else first_ones (length gaps) (left opens p.closes (parts 0 gaps p.gap)) ++ true ∷ stay_flags p.opens [] later) (qs ++ r ∷ rs)
+        (length (gaps ++ p.gap ∷ []) ≡ length (qs ++ r ∷ []) → AllBlank (qs ++ r ∷ []) → OnlyBlanks (stay_flags above (gaps ++ p.gap ∷ []) later) ((qs ++ r ∷ []) ++ rs)) →
+        OnlyBlanks (stay_flags p [] later) rs →
+        OnlyBlanks (if b then stay_flags above (gaps ++ p.gap ∷ []) later
+        else first_ones (length gaps) (left above p (parts 0 gaps p.gap)) ++ true ∷ stay_flags p [] later) (qs ++ r ∷ rs)
     by true h on new = let more : length (gaps ++ p.gap ∷ []) ≡ length (qs ++ r ∷ []) = length-append gaps (p.gap ∷ []) ∙ ap (λ (n : ℕ). n + 1) e ∙ sym (length-append qs (r ∷ [])) in
-        subst (λ (xs : List Reading). OnlyBlanks (stay_flags opens (gaps ++ p.gap ∷ []) later) xs) (append_assoc qs (r ∷ []) rs)
+        subst (λ (xs : List Reading). OnlyBlanks (stay_flags above (gaps ++ p.gap ∷ []) later) xs) (append_assoc qs (r ∷ []) rs)
         (on more (blank_more qs r a (grind (arith, h))))
-    by false h on new = blanks_both _ (true ∷ stay_flags p.opens [] later) qs (r ∷ rs) (length-first_ones (length gaps) _ ∙ e) a
+    by false h on new = blanks_both _ (true ∷ stay_flags p [] later) qs (r ∷ rs) (length-first_ones (length gaps) _ ∙ e) a
         ((λ f. let z : true ≡ false = f in cc), new)
 
 pub only_blanks : (ms output : List ℕ) → OnlyBlanks (flags_in ms output) (read_as C output)
 unfolding AllBlank
-only_blanks ms output = blanks_after ms (read_as C output) true [] [] refl tt
+only_blanks ms output = blanks_after ms (read_as C output) (bare_place false true) [] [] refl tt
 
 -- 2. Without a gap none goes.
 
@@ -75,21 +75,21 @@ one_part n zero = grind arith
 one_part n (suc k) = grind (arith, one_part (suc n) k)
 
 -- All lines of a stretch without a gap stay.
-stretch : (opens closes gap : Bool) → gap ≡ false → (n : ℕ) (fs : List Bool) →
-    first_ones (length (replicate n false)) (left opens closes (parts 0 (replicate n false) gap)) ++ true ∷ fs ≡ replicate n true ++ true ∷ fs
-stretch opens closes gap e n fs = ap (λ (xs : List Bool). xs ++ true ∷ fs)
-    (ap (λ (g : Bool). first_ones (length (replicate n false)) (left opens closes (parts 0 (replicate n false) g))) e
-    ∙ ap₂ (λ (x : ℕ) (ps : List ℕ). first_ones x (left opens closes ps)) (length-replicate n false) (one_part 0 n)
-    ∙ ap (first_ones n) (let all : left opens closes ((0 + n) ∷ []) ≡ n = grind arith in all)
+stretch : (above below : Place) (gap : Bool) → gap ≡ false → (n : ℕ) (fs : List Bool) →
+    first_ones (length (replicate n false)) (left above below (parts 0 (replicate n false) gap)) ++ true ∷ fs ≡ replicate n true ++ true ∷ fs
+stretch above below gap e n fs = ap (λ (xs : List Bool). xs ++ true ∷ fs)
+    (ap (λ (g : Bool). first_ones (length (replicate n false)) (left above below (parts 0 (replicate n false) g))) e
+    ∙ ap₂ (λ (x : ℕ) (ps : List ℕ). first_ones x (left above below ps)) (length-replicate n false) (one_part 0 n)
+    ∙ ap (first_ones n) (let all : left above below ((0 + n) ∷ []) ≡ n = grind arith in all)
     ∙ ap₂ (λ (x y : ℕ). replicate x true ++ replicate y false) (let a : min n n ≡ n = grind arith in a) (let b : n - n ≡ 0 = omega arith in b) ∙ append-nil (replicate n true))
 
 no_gap : (ms : List ℕ) → list_all stays ms ≡ true → (is_gap ms ≡ false) × (list_all stays (after_stay ms) ≡ true)
 no_gap [] h = (refl, refl)
 no_gap (m ∷ ms) h = grind arith
 
-all_stay : (ms : List ℕ) (rs : List Reading) → list_all stays ms ≡ true → (opens : Bool) (n : ℕ) → stay_flags opens (replicate n false) (places ms rs) ≡ replicate (n + suc (length rs)) true
-all_stay ms [] h opens n = stretch opens true (is_gap ms) (no_gap ms h).0 n [] ∙ replicate-append-replicate n 1 true
-all_stay ms (r ∷ rs) h opens n = by (place_of (is_gap ms) r).blank (all_stay (after_stay ms) rs (no_gap ms h).1)
+all_stay : (ms : List ℕ) (rs : List Reading) → list_all stays ms ≡ true → (above : Place) (n : ℕ) → stay_flags above (replicate n false) (places ms rs) ≡ replicate (n + suc (length rs)) true
+all_stay ms [] h above n = stretch above (bare_place (is_gap ms) true) (is_gap ms) (no_gap ms h).0 n [] ∙ replicate-append-replicate n 1 true
+all_stay ms (r ∷ rs) h above n = by (place_of (is_gap ms) r).blank (all_stay (after_stay ms) rs (no_gap ms h).1)
   where
     p : Place
     p = place_of (is_gap ms) r
@@ -100,11 +100,11 @@ all_stay ms (r ∷ rs) h opens n = by (place_of (is_gap ms) r).blank (all_stay (
     none : p.gap ≡ false
     none = let gap : p.gap ≡ is_gap ms = grind arith in gap ∙ (no_gap ms h).0
 
-    by : (b : Bool) → ((opens : Bool) (n : ℕ) → stay_flags opens (replicate n false) later ≡ replicate (n + suc (length rs)) true) → (if b then stay_flags opens (replicate n false ++ p.gap ∷ []) later
-        else first_ones (length (replicate n false)) (left opens p.closes (parts 0 (replicate n false) p.gap)) ++ true ∷ stay_flags p.opens [] later) ≡ replicate (n + suc (suc (length rs))) true
-    by true i = ap (λ (gaps : List Bool). stay_flags opens gaps later) (ap (λ (g : Bool). replicate n false ++ g ∷ []) none ∙ replicate-append-replicate n 1 false)
-        ∙ i opens (n + 1) ∙ ap (λ (m : ℕ). replicate m true) (omega arith)
-    by false i = stretch opens p.closes p.gap none n (stay_flags p.opens [] later) ∙ ap (λ (fs : List Bool). replicate n true ++ true ∷ fs) (i p.opens 0)
+    by : (b : Bool) → ((above : Place) (n : ℕ) → stay_flags above (replicate n false) later ≡ replicate (n + suc (length rs)) true) → (if b then stay_flags above (replicate n false ++ p.gap ∷ []) later
+        else first_ones (length (replicate n false)) (left above p (parts 0 (replicate n false) p.gap)) ++ true ∷ stay_flags p [] later) ≡ replicate (n + suc (suc (length rs))) true
+    by true i = ap (λ (gaps : List Bool). stay_flags above gaps later) (ap (λ (g : Bool). replicate n false ++ g ∷ []) none ∙ replicate-append-replicate n 1 false)
+        ∙ i above (n + 1) ∙ ap (λ (m : ℕ). replicate m true) (omega arith)
+    by false i = stretch above p p.gap none n (stay_flags p [] later) ∙ ap (λ (fs : List Bool). replicate n true ++ true ∷ fs) (i p 0)
         ∙ replicate-append-replicate n (suc (0 + suc (length rs))) true ∙ ap (λ (m : ℕ). replicate m true) (omega arith)
 
 all_kept : (n : ℕ) (ls : List (List ℕ)) → kept_lines (replicate n true) ls ≡ ls
@@ -113,5 +113,5 @@ all_kept zero (l ∷ ls) = ap (λ (x : List (List ℕ)). l ∷ x) (all_kept zero
 all_kept (suc n) (l ∷ ls) = ap (λ (x : List (List ℕ)). l ∷ x) (all_kept n ls)
 
 pub stays_same : (ms output : List ℕ) → list_all stays ms ≡ true → squeezed_text ms output ≡ output
-stays_same ms output h = ap (λ (fs : List Bool). concat (kept_lines fs (texts_of output))) (all_stay ms (read_as C output) h true 0)
+stays_same ms output h = ap (λ (fs : List Bool). concat (kept_lines fs (texts_of output))) (all_stay ms (read_as C output) h (bare_place false true) 0)
     ∙ ap concat (all_kept (0 + suc (length (read_as C output))) (texts_of output)) ∙ sym (lines_exist output).joined

@@ -2,25 +2,27 @@
 -- went.
 --
 --   stays m, is_gap ms, after_stay ms   what the marks of the lines of the input say
---   opens r, closes r       a line that no blank line should follow, or precede
---   is_blank_line r         a blank line that joins no other line
+--   opens scan, closes scan   a line that no blank line should follow, or precede
+--   is_blank_line body scan   a blank line that joins no other line
 --   places ms rs            the lines `rs` of the output, and its end
 --   parts n gaps below      how many blank lines of a stretch are between gaps
---   left opens closes ps    how many lines of the stretch stay
---   stay_flags opens gaps ps   whether each line stays
+--   left above below ps     how many lines of the stretch stay
+--   stay_flags above gaps ps   whether each line stays
 --   squeezed_text ms output    the output without the lines that go
 --   squeezed_marks ms output   the marks of the lines of the input, by the squeezed text
 --
 -- A gap is a place in the output where lines of the input went. A stretch is a longest run of blank
 -- lines. Gaps cut it into parts. As many lines of it stay as its longest part has, the first ones.
--- If the line above opens a block or a group, as many stay as the first part has; if the line below
--- closes one, as the last part has. The beginning of the text opens, and its end closes. Without a
--- gap all lines are one part, and stay.
+-- If the line above opens a block, as many stay as the first part has; if the line below closes
+-- one, as the last part has. The beginning of the text opens, and its end closes. Directives open
+-- and close nothing, but of a stretch that is all of a group, none stays. Without a gap all lines
+-- are one part, and stay.
 --
 -- Example: of `a;`, blank, a section that goes, blank, `b;` one blank line stays. None stays if `}`
 -- comes right after the section, in place of the second blank line.
 use Rattle.std.specs.Prelude.{ℕ, suc, ◌-◌, ◌==◌, List, [], ◌∷◌, ◌++◌, length, min, max, reverse}
 use Rattle.std.specs.Prelude.{replicate, Bool, true, false, not, ◌&&◌, ◌||◌, if◌then◌else◌}
+use Rattle.std.specs.Prelude.{Option, Some, None}
 use Rattle.std.specs.List.{concat}
 use Rattle.ud_model.specs.text.Bytes.{skip_white, starts_with_byte}
 use Rattle.ud_model.specs.text.Lines.{texts_of}
@@ -56,35 +58,34 @@ after_stay (m ∷ ms) = if stays m then ms else after_stay ms
 -- 2. Lines.
 
 -- `begins_group role`: a group follows a directive with this role.
-abbrev pub begins_group : Role → Bool
-begins_group IfGroup = true
-begins_group ElifGroup = true
-begins_group ElseGroup = true
-begins_group EndifLine = false
+abbrev pub begins_group : Option Role → Bool
+begins_group (Some IfGroup) = true
+begins_group (Some ElifGroup) = true
+begins_group (Some ElseGroup) = true
+begins_group (Some EndifLine) = false
+begins_group None = false
 
 -- `ends_group role`: a directive with this role ends the group before it.
-abbrev pub ends_group : Role → Bool
-ends_group IfGroup = false
-ends_group ElifGroup = true
-ends_group ElseGroup = true
-ends_group EndifLine = true
+abbrev pub ends_group : Option Role → Bool
+ends_group (Some IfGroup) = false
+ends_group (Some ElifGroup) = true
+ends_group (Some ElseGroup) = true
+ends_group (Some EndifLine) = true
+ends_group None = false
 
--- `has_role is content`: the content is a directive with such a role.
-abbrev pub has_role : (Role → Bool) → Content → Bool
-has_role is (directive d) = is (role_of d.kind)
-has_role is cut_keyword = false
-has_role is text = false
+-- `role_in content`: the role of the directive, if the content is one.
+abbrev pub role_in : Content → Option Role
+role_in (directive d) = Some (role_of d.kind)
+role_in cut_keyword = None
+role_in text = None
 
--- `opens scan`: the last byte outside comments, but for white space, is `{`, or the line begins a
--- group.
+-- `opens scan`: the last byte outside comments, but for white space, is `{`.
 abbrev pub opens : Scan → Bool
-opens scan = starts_with_byte 123 (skip_white (reverse scan.masked)) ||
-    has_role begins_group (content_of scan)
+opens scan = starts_with_byte 123 (skip_white (reverse scan.masked))
 
--- `closes scan`: the first such byte is `}`, or the line ends a group.
+-- `closes scan`: the first such byte is `}`.
 abbrev pub closes : Scan → Bool
-closes scan = starts_with_byte 125 (skip_white scan.masked) ||
-    has_role ends_group (content_of scan)
+closes scan = starts_with_byte 125 (skip_white scan.masked)
 
 -- `is_blank_line body scan`: the body is empty, and the line joins no other one.
 abbrev pub is_blank_line : List ℕ → Scan → Bool
@@ -97,11 +98,14 @@ scanned_place gap body scan = record {
   blank = is_blank_line body scan;
   opens = opens scan;
   closes = closes scan;
+  role = role_in (content_of scan);
 }
 
--- `bare_place gap closes`: a line over the limit or, if it closes, the end of the output.
+-- `bare_place gap edge`: a line over the limit or, if `edge`, the beginning or the end of the
+-- output, which opens and closes.
 abbrev pub bare_place : Bool → Bool → Place
-bare_place gap closes = record { gap = gap; blank = false; opens = false; closes = closes }
+bare_place gap edge =
+    record { gap = gap; blank = false; opens = edge; closes = edge; role = None }
 
 -- `place_of gap r`: the line `r`.
 abbrev pub place_of : Bool → Reading → Place
@@ -138,33 +142,40 @@ abbrev pub longest_part : List ℕ → ℕ
 longest_part [] = 0
 longest_part (n ∷ ps) = max n (longest_part ps)
 
--- `left opens closes ps`: how many lines of a stretch with the parts `ps` stay, if the line above
--- opens or not, and the line below closes or not.
-abbrev pub left : Bool → Bool → List ℕ → ℕ
-left opens closes ps =
-    if opens && closes then min (first_part ps) (last_part ps)
-    else if opens then first_part ps
-    else if closes then last_part ps
+-- `only_part ps`: the length of the only part, and 0 if there are several.
+abbrev pub only_part : List ℕ → ℕ
+only_part [] = 0
+only_part (n ∷ []) = n
+only_part (n ∷ m ∷ ps) = 0
+
+-- `left above below ps`: how many lines of a stretch with the parts `ps` stay between these lines.
+-- In a group with nothing else, only a stretch without a gap stays.
+abbrev pub left : Place → Place → List ℕ → ℕ
+left above below ps =
+    if begins_group above.role && ends_group below.role then only_part ps
+    else if above.opens && below.closes then min (first_part ps) (last_part ps)
+    else if above.opens then first_part ps
+    else if below.closes then last_part ps
     else longest_part ps
 
 -- `first_ones n k`: of `n` lines, the first `k` stay.
 abbrev pub first_ones : ℕ → ℕ → List Bool
 first_ones n k = replicate (min k n) true ++ replicate (n - k) false
 
--- `stay_flags opens gaps ps`: whether each of the lines `ps` stays, and the blank lines right
--- before them, which have gaps before them as `gaps` says. The line above these opens or not.
-abbrev pub stay_flags : Bool → List Bool → List Place → List Bool
-stay_flags opens gaps [] = []
-stay_flags opens gaps (p ∷ ps) =
-    if p.blank then stay_flags opens (gaps ++ p.gap ∷ []) ps
-    else first_ones (length gaps) (left opens p.closes (parts 0 gaps p.gap)) ++
-    true ∷ stay_flags p.opens [] ps
+-- `stay_flags above gaps ps`: whether each of the lines `ps` stays, and the blank lines right
+-- before them, which have gaps before them as `gaps` says. The line `above` is right above these.
+abbrev pub stay_flags : Place → List Bool → List Place → List Bool
+stay_flags above gaps [] = []
+stay_flags above gaps (p ∷ ps) =
+    if p.blank then stay_flags above (gaps ++ p.gap ∷ []) ps
+    else first_ones (length gaps) (left above p (parts 0 gaps p.gap)) ++
+    true ∷ stay_flags p [] ps
 
 -- 4. Texts.
 
 -- `flags_in ms output`: whether each line of the output stays.
 abbrev pub flags_in : List ℕ → List ℕ → List Bool
-flags_in ms output = stay_flags true [] (places ms (read_as C output))
+flags_in ms output = stay_flags (bare_place false true) [] (places ms (read_as C output))
 
 -- `first_flag flags`: the next line stays, as it does if no flag is left.
 abbrev pub first_flag : List Bool → Bool

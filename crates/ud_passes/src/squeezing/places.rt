@@ -13,8 +13,7 @@ ghost use Rattle.ud_model.specs.declared.kind.Mode.TheVariants.{C};
 ghost use Rattle.ud_model.specs.declared.limits.TheConstants.{LINE_BYTES};
 ghost use Rattle.ud_text.specs.scan.ScannerState.{ScannerRepresents};
 ghost use Rattle.ud_passes.specs.squeezing.SqueezedTexts as spec;
-ghost use Rattle.ud_passes.specs.squeezing.SqueezedTexts.{has_role, begins_group, ends_group};
-ghost use Rattle.ud_passes.specs.squeezing.SqueezedTexts.{scanned_place, bare_place};
+ghost use Rattle.ud_passes.specs.squeezing.SqueezedTexts.{role_in, scanned_place, bare_place};
 ghost use Rattle.ud_passes.specs.squeezing.Squeezing.{Placed};
 
 use crate::squeezing::marks::{after_stay, is_gap};
@@ -24,17 +23,19 @@ use ud_model::bytes::{is_white, skip_white};
 use ud_model::{Line, Mode, Role, Scan};
 use ud_sections::directive;
 
-/// A line of an output, or the end of the output.
+/// A line of an output, or its beginning or end.
 #[derive(Clone, Copy)]
 pub(crate) struct Place {
     /// True if lines of the input went right before it.
     pub(crate) gap: bool,
     /// True if the line is blank and joins no other line.
     pub(crate) blank: bool,
-    /// True if the line opens a block or begins a group.
+    /// True if the line opens a block, and at the beginning of the output.
     pub(crate) opens: bool,
-    /// True if the line closes a block or ends a group, and at the end of the output.
+    /// True if the line closes a block, and at the end of the output.
     pub(crate) closes: bool,
+    /// The role of the line's directive.
+    pub(crate) role: Option<Role>,
 }
 
 /// Returns whether the last byte of a masked line, but for white space, is `{`.
@@ -57,23 +58,13 @@ fn closes_block(masked: &[u8]) -> bool
     skip_white(masked).first() == Some(&b'}')
 }
 
-/// Returns whether a line has a directive that begins a group.
-fn opens_group(scan: &Scan<'_>) -> bool
-    ensures { result ≡ has_role begins_group (content_of (as_scan scan.now)) }
+/// Returns the role of a line's directive.
+fn role_in(scan: &Scan<'_>) -> Option<Role>
+    ensures { result ≡ role_in (content_of (as_scan scan.now)) }
 {
     match directive(scan) {
-        Ok(Some(found)) => !matches!(found.kind.role(), Role::EndifLine),
-        _ => false,
-    }
-}
-
-/// Returns whether a line has a directive that ends the group before it.
-fn closes_group(scan: &Scan<'_>) -> bool
-    ensures { result ≡ has_role ends_group (content_of (as_scan scan.now)) }
-{
-    match directive(scan) {
-        Ok(Some(found)) => !matches!(found.kind.role(), Role::IfGroup),
-        _ => false,
+        Ok(Some(found)) => Some(found.kind.role()),
+        _ => None,
     }
 }
 
@@ -84,8 +75,9 @@ fn place_of(gap: bool, line: &Line<'_>, scan: &Scan<'_>) -> Place
     Place {
         gap,
         blank: line.body.is_empty() && !(scan.joins_before || scan.joins_after),
-        opens: opens_block(scan.masked) || opens_group(scan),
-        closes: closes_block(scan.masked) || closes_group(scan),
+        opens: opens_block(scan.masked),
+        closes: closes_block(scan.masked),
+        role: role_in(scan),
     }
 }
 
@@ -138,15 +130,17 @@ fn step<'m>(
     }
 }
 
-/// Returns the place of a line over the limit or, if it closes, the end of an output.
-fn bare_place(gap: bool, closes: bool) -> Place
-    ensures { result ≡ bare_place gap closes }
+/// Returns the place of a line over the limit or, if it is an edge, the beginning or the end of an
+/// output.
+pub(crate) fn bare_place(gap: bool, edge: bool) -> Place
+    ensures { result ≡ bare_place gap edge }
 {
     Place {
         gap,
         blank: false,
-        opens: false,
-        closes,
+        opens: edge,
+        closes: edge,
+        role: None,
     }
 }
 
