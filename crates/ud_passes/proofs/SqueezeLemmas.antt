@@ -1,10 +1,12 @@
 -- Squeezed texts: a line more, and a place more.
-use Rattle.std.proofs.Common.{◌≡◌, ℕ, suc, ◌+◌, ◌-◌, ◌<◌, ◌≤◌, List, [], ◌∷◌, ◌++◌, length, take, drop, take-append-drop, drop-cons, add-one, length-drop, get_or, get_or-drop, slice_range, Bool, true, false, ltb, ◌||◌, if◌then◌else◌, append_assoc, append-nil, refl, sym, ◌∙◌, ap, ap₂, arith}
-use Rattle.std.proofs.lemmas.List.{take_more, length-map, map-append, take_all, drop_all}
+use Rattle.std.proofs.Common.{◌≡◌, ℕ, suc, ◌+◌, ◌-◌, ◌<◌, ◌≤◌, List, [], ◌∷◌, ◌++◌, length, take, drop, take-append-drop, drop-cons, reverse, add-one, length-drop, get_or, get_or-drop, slice_range, Bool, true, false, ltb, ◌||◌, if◌then◌else◌, append_assoc, append-nil, refl, sym, ◌∙◌, ap, ap₂, arith}
+use Rattle.std.proofs.lemmas.List.{reverse-append, take_more, length-map, map-append, take_all, drop_all}
 use Rattle.std.proofs.lemmas.Bool.{lt-ltb, le-ltb}
 use Rattle.std.specs.List.{concat}
+use Rattle.ud_model.specs.text.Bytes.{is_white, skip_white, starts_with_byte}
 use Rattle.ud_model.specs.text.Lines.{Line, SplitLines, texts_of, last_line, split_lines}
-use Rattle.ud_model.specs.text.Scans.{Reading}
+use Rattle.ud_model.specs.text.Scans.{Scan, Reading}
+use Rattle.ud_model.specs.sections.Directives as directives
 use Rattle.ud_model.specs.aids.ReadAs.{read_as}
 use Rattle.ud_model.specs.declared.kind.Mode.TheVariants.{C}
 use Rattle.ud_model.proofs.text.LinesLemmas.{split_lines-line-prefix}
@@ -50,6 +52,28 @@ kept_next out more flags rest n w up some f fs line after a b c d e =
     ∙ sym (ap (λ (ls : List (List ℕ)). concat (kept_lines flags ls)) (first_text rest n w up some) ∙ kept_first flags (take n rest) (texts_of (drop n rest))))
 
 -- 3. Places.
+
+-- White space before a line doesn't change its last byte.
+white_last : (bs : List ℕ) (b : ℕ) → is_white b ≡ true → starts_with_byte 123 (skip_white (bs ++ b ∷ [])) ≡ starts_with_byte 123 (skip_white bs)
+white_last [] b w = grind (arith, w)
+white_last (c ∷ bs) b w = grind (arith, white_last bs b w)
+
+pub opens_trimmed : (bs : List ℕ) → starts_with_byte 123 (skip_white (reverse (skip_white bs))) ≡ starts_with_byte 123 (skip_white (reverse bs))
+opens_trimmed [] = refl
+opens_trimmed (b ∷ bs) = by (is_white b) refl (opens_trimmed bs)
+  where
+    by : (w : Bool) → is_white b ≡ w → starts_with_byte 123 (skip_white (reverse (skip_white bs))) ≡ starts_with_byte 123 (skip_white (reverse bs)) →
+        starts_with_byte 123 (skip_white (reverse (if w then skip_white bs else b ∷ bs))) ≡ starts_with_byte 123 (skip_white (reverse (b ∷ bs)))
+    by true w e = e ∙ sym (ap (λ (cs : List ℕ). starts_with_byte 123 (skip_white cs)) (reverse-append (b ∷ []) bs) ∙ white_last (reverse bs) b w)
+    by false w e = refl
+
+-- A line that doesn't begin with a hash sign has no directive.
+pub no_directive : (s : Scan) → starts_with_byte 35 (skip_white s.masked) ≡ false → directives.content_of s ≡ directives.text
+no_directive s e = by (skip_white s.masked) refl e
+  where
+    by : (bs : List ℕ) → skip_white s.masked ≡ bs → starts_with_byte 35 bs ≡ false → directives.content_of s ≡ directives.text
+    by [] k e = grind (arith, k)
+    by (b ∷ bs) k e = grind (arith, k, e)
 
 module _ (text ms : List ℕ) (walk : Walk) (left : List ℕ) (out : List Place) (p : Placed text ms walk left out) (next : Walk) (k : Line) where
   pub line_placed : Walked C text (p.read ++ read_after C p.read k ∷ []) next.rest.now next.scanner → (after : List ℕ) → after ≡ after_stay left → (new : List Place) →

@@ -42,20 +42,14 @@ pub(crate) struct Place {
 fn opens_block(masked: &[u8]) -> bool
     ensures { result ≡ starts_with_byte 123 (skip_white (reverse masked.now)) }
 {
-    let mut opens = false;
-    for byte in masked {
-        if !is_white(*byte) {
-            opens = *byte == b'{';
+    let mut rest = masked;
+    while let Some((last, before)) = rest.split_last() {
+        if !is_white(*last) {
+            return *last == b'{';
         }
+        rest = before;
     }
-    opens
-}
-
-/// Returns whether the first byte of a masked line, but for white space, is `}`.
-fn closes_block(masked: &[u8]) -> bool
-    ensures { result ≡ starts_with_byte 125 (skip_white masked.now) }
-{
-    skip_white(masked).first() == Some(&b'}')
+    false
 }
 
 /// Returns the role of a line's directive.
@@ -72,12 +66,17 @@ fn role_in(scan: &Scan<'_>) -> Option<Role>
 fn place_of(gap: bool, line: &Line<'_>, scan: &Scan<'_>) -> Place
     ensures { result ≡ scanned_place gap line.now.body.now (as_scan scan.now) }
 {
+    let trimmed = skip_white(scan.masked);
     Place {
         gap,
         blank: line.body.is_empty() && !(scan.joins_before || scan.joins_after),
-        opens: opens_block(scan.masked),
-        closes: closes_block(scan.masked),
-        role: role_in(scan),
+        opens: opens_block(trimmed),
+        closes: trimmed.first() == Some(&b'}'),
+        role: if trimmed.first() == Some(&b'#') {
+            role_in(scan)
+        } else {
+            None
+        },
     }
 }
 

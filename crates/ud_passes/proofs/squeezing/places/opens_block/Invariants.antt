@@ -1,7 +1,10 @@
--- The last byte so far.
-use Rattle.std.proofs.Common.{◌≡◌, take, reverse}
-use Rattle.ud_model.specs.text.Bytes.{skip_white, starts_with_byte}
+-- Only white space follows the rest.
+use Rattle.std.proofs.Common.{◌≡◌, length, reverse}
+use Rattle.ud_model.specs.text.Bytes.{skip_white}
 use Rattle.ud_passes.proofs.squeezing.places.opens_block.Given as goal
 
-abbrev pub invariant-loop-byte : goal.invariant-loop-byte
-invariant-loop-byte l = l.opens ≡ starts_with_byte 123 (skip_white (reverse (take l.byte-index l.masked)))
+abbrev pub invariant-loop-last : goal.invariant-loop-last
+invariant-loop-last l = skip_white (reverse l.rest) ≡ skip_white (reverse l.masked)
+
+abbrev pub decreases-loop-last : goal.decreases-loop-last
+decreases-loop-last l = length l.rest
