@@ -32,14 +32,14 @@ EOT
  1 B
  1 C
  1 D' squeezed
-  says '2 files listed, 1 faulty; 2 conditions could not be listed; -r lists them'
+  says '2 files listed, 1 faulty; 2 conditions could not be listed in full; -r lists them'
   after '2 -s -r src' prints 'src/b.h:3: #elif E ? 1 : 2
 src/b.h:5: #ifdef X Y
  4 A
  1 B
  1 C
  1 D' squeezed
-  says '2 files listed, 1 faulty; 2 conditions could not be listed'
+  says '2 files listed, 1 faulty; 2 conditions could not be listed in full'
   holds_that same "$(grep -c 'names a symbol' "$work/err")" 0
   cat > src/c.h << 'EOT'
 #if C
@@ -70,10 +70,28 @@ src/crlf.h:6: #elifdef A B \'
   after '0 -s -r -t src' prints 3 grep -c .
   rm src/*.h
   put src/b.h '#ifdef X Y\n#endif\n'
-  after '0 -s src' says '1 file listed, 0 faulty; 1 condition could not be listed; -r lists it'
+  after '0 -s src' says '1 file listed, 0 faulty; 1 condition could not be listed in full; -r lists it'
+  # A name among the arguments of a call isn't listed. Numbers there are no names.
+  cat > src/b.h << 'EOT'
+#if IS_ENABLED(CONFIG_FOO)
+#elif VERSION >= KERNEL_VERSION(2, 6, 0xf)
+#elif F (G(1)) /* H */
+#elif defined(A) && F()
+#elif F(A) && A
+#endif
+EOT
+  after '0 -s -r src' prints 'src/b.h:1: #if IS_ENABLED(CONFIG_FOO)
+src/b.h:3: #elif F (G(1)) /* H */
+src/b.h:5: #elif F(A) && A
+ 3 F
+ 2 A
+ 1 IS_ENABLED
+ 1 KERNEL_VERSION
+ 1 VERSION' squeezed
+  says '1 file listed, 0 faulty; 3 conditions could not be listed in full'
   alone src/full.h "#if FULL$(printf '%65527s' '')\\n#endif\\n"
   after '0 -s src' prints ' 1 FULL' squeezed
-  says '1 file listed, 0 faulty; 0 conditions could not be listed'
+  says '1 file listed, 0 faulty; 0 conditions could not be listed in full'
 }
 
 # Conditions over several lines: each is listed as if it were on one.
@@ -96,7 +114,7 @@ EOT
  1 C
  1 D
  1 E' squeezed
-  says '1 file listed, 0 faulty; 0 conditions could not be listed'
+  says '1 file listed, 0 faulty; 0 conditions could not be listed in full'
   after '0 -s -r -t src' prints 'src/a.c:1: #if A && \
 src/a.c:3: #elif C /* c
 src/a.c:8: #ifdef E \'
@@ -152,7 +170,7 @@ src/d.c:1: #if A && "q" \
 src/d.c:6: #if A\
  3 A
  2 B' squeezed
-  says '4 files listed, 0 faulty; 9 conditions could not be listed'
+  says '4 files listed, 0 faulty; 9 conditions could not be listed in full'
   # A fault has the number of its line, and then the names are those of each line.
   cat > src/d.c << 'EOT'
 #if A && \

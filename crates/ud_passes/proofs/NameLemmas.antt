@@ -1,8 +1,10 @@
 -- Names: the words of a text, one after another.
 use Rattle.std.proofs.Common.{◌≡◌, ◌∙◌, ℕ, zero, suc, ◌-◌, ◌≤◌, ◌==◌, ap, take, drop, List, [], ◌∷◌}
-use Rattle.std.proofs.Common.{◌++◌, length, get_or, Bool, true, false, ◌||◌, refl, sym, arith}
+use Rattle.std.proofs.Common.{◌++◌, length, get_or, Bool, true, false, ◌||◌, if◌then◌else◌, refl, sym, arith}
 use Rattle.memchr.specs.Find.{Nowhere, Passes, is_byte}
 use Rattle.ud_model.specs.text.Bytes.{is_word_byte, leading_word, skip_word}
+use Rattle.ud_model.specs.answer.SymbolArguments.{is_name}
+use Rattle.ud_passes.specs.names.UnlistedConditions.{name_words}
 use Rattle.ud_passes.specs.remaining.ListedNames.{has_word, ends_in_word, splits_word}
 
 module _ (test : List ℕ → Bool) where
@@ -58,6 +60,16 @@ module _ (test : List ℕ → Bool) where
           let word = word-seam xs ys (ap (λ (v : Bool). ends_in_word v xs) (sym w) ∙ e) in
           grind (arith, w, later, word)
       by false w later = grind (arith, w, later)
+
+-- The words that may name a symbol, one after another.
+name_words-in_word : (t : List ℕ) → name_words true t ≡ name_words false (skip_word t)
+name_words-in_word [] = refl
+name_words-in_word (b ∷ bs) = grind (arith, name_words-in_word bs)
+
+pub name_words-word : (b : ℕ) (bs : List ℕ) → is_word_byte b ≡ true →
+    name_words false (b ∷ bs) ≡ (if is_name (leading_word (b ∷ bs))
+    then suc (name_words false (skip_word (b ∷ bs))) else name_words false (skip_word (b ∷ bs)))
+name_words-word b bs e = grind (arith, name_words-in_word)
 
 -- The last byte of a text tells whether the text ends in a word byte.
 last_in_word : (in_word : Bool) (b : ℕ) (bs : List ℕ) →

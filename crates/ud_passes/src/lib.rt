@@ -4,7 +4,7 @@
 //! once. `specs/Walks.antt` defines how far a walk has come, and `specs/Passes.antt` what all
 //! passes share.
 //!
-//! - `Names` keeps the files' lists of names, and the conditions that can't be listed.
+//! - `Names` keeps the files' lists of names, and the conditions that can't be listed in full.
 //! - `Remaining` keeps the conditions that still name a symbol of the options.
 //! - `prune` appends a text without the operands of its conditions that the symbols decide.
 //! - `fold` appends a text with each conditional directive on one line, and `restore` goes back.

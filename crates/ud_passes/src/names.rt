@@ -1,9 +1,10 @@
-//! The names that the conditions of files depend on, and the conditions that can't be listed.
+//! The names that the conditions of files depend on, and the conditions that can't be listed in
+//! full.
 //!
 //! `Names` keeps the files' lists of names, and appends a table of how often each name occurs.
 //! `specs/names/NameTables.antt` defines that table, and `UnlistedConditions.antt` which conditions
-//! of a text can't be listed. `RowViews.antt` and `UnlistedLines.antt` define what the code keeps
-//! of the rows, and of a text up to some line.
+//! of a text can't be listed in full. `RowViews.antt` and `UnlistedLines.antt` define what the code
+//! keeps of the rows, and of a text up to some line.
 
 ghost use Rattle.std.specs.Prelude.{◌≡◌, ◌+◌, ◌<◌, ◌^◌, ◌++◌, [], length, is_ok, IfOk, OnOk, OnErr};
 ghost use Rattle.std.specs.Prelude.{if◌then◌else◌};
@@ -20,13 +21,13 @@ mod conditions;
 mod tables;
 mod texts;
 
-/// The names of some files, and their conditions that can't be listed.
+/// The names of some files, and their conditions that can't be listed in full.
 #[derive(Drop)]
 pub struct Names {
     alloc: Global,
     /// The files' lists of names, each name a line.
     list: Vec<u8>,
-    /// The number of conditions that can't be listed.
+    /// The number of conditions that can't be listed in full.
     hidden: usize,
     /// True if these conditions are listed, not only counted.
     lists_hidden: bool,
@@ -35,8 +36,8 @@ pub struct Names {
 }
 
 impl Names {
-    /// Returns no names. `lists_hidden`: the conditions that can't be listed get a list of their
-    /// own. Takes no memory; later calls take theirs from `alloc`.
+    /// Returns no names. `lists_hidden`: the conditions that can't be listed in full get a list of
+    /// their own. Takes no memory; later calls take theirs from `alloc`.
     pub fn new(alloc: Global, lists_hidden: bool) -> Names
         ensures list { result.list.items ≡ [] }
         ensures hidden { result.hidden ≡ 0 }
@@ -52,7 +53,7 @@ impl Names {
         }
     }
 
-    /// Returns the number of conditions that can't be listed.
+    /// Returns the number of conditions that can't be listed in full.
     pub fn hidden(&self) -> usize
         ensures { result ≡ self.now.hidden }
     {
@@ -80,9 +81,9 @@ impl Names {
         self.list.extend_from_slice(list)
     }
 
-    /// Adds the conditions of a file's text that can't be listed. Its lines are read in `mode`. If
-    /// the text is `folded`, a condition is listed by the first of the lines that its line
-    /// represents.
+    /// Adds the conditions of a file's text that can't be listed in full. Its lines are read in
+    /// `mode`. If the text is `folded`, a condition is listed by the first of the lines that its
+    /// line represents.
     ///
     /// The text may have any length and any bytes. The count stops at the largest `usize`.
     ///
@@ -132,8 +133,8 @@ impl Names {
     }
 }
 
-/// Counts the conditions of a text that can't be listed. Appends a line for each, if they are
-/// listed.
+/// Counts the conditions of a text that can't be listed in full. Appends a line for each, if they
+/// are listed.
 ///
 /// # Errors
 /// Fails if memory runs out. Then nothing was appended.

@@ -85,7 +85,7 @@ shows_diffs gs = has_flag (codes "n") gs || has_flag (codes "d") gs
 
 -- `IsArgumentsOf gs args`: `args` has what is given: the options of unifdef(1), each other option,
 -- the patterns and the paths. `-r` asks for the conditions that still name a symbol or, with `-s`,
--- for those whose names can't be listed. The options are compatible, and ask for something. No
+-- for those whose names can't all be listed. The options are compatible, and ask for something. No
 -- pattern has a fault. Either paths are given, or `-0`.
 pub record IsArgumentsOf (gs : List Parsed) (args : Arguments) : Type 0 where
   pub fitting : AreFitting gs

@@ -57,7 +57,7 @@ pub data ReplacesOne (plan : TextPlan) (into : Bool) (name text : List ℕ) (old
   no_name : text ≡ [] → new ≡ old → ReplacesOne plan into name text old new (Err OutOfMemory)
 
 -- `Listed`: what is listed of a file: the list of its names, the number of its conditions whose
--- names can't be listed, and the list of these conditions.
+-- names can't all be listed, and the list of these conditions.
 pub record Listed : Type 0 where
   pub names : List ℕ
   pub hidden : ℕ

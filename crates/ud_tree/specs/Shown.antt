@@ -117,7 +117,7 @@ pub record ShowsOne (plan : TextPlan) (into : Bool) (name : List ℕ) (calls cal
 
 -- `listed_by mode folded lists name lines names`: what is listed for the file `name` if it is
 -- listed by the text `lines`, which is folded or not: these names, and the conditions of `lines`
--- whose names can't be listed, which are counted and, if `lists`, listed.
+-- whose names can't all be listed, which are counted and, if `lists`, listed.
 abbrev pub listed_by : Mode → Bool → Bool → List ℕ → List ℕ → List ℕ → Listed
 listed_by mode folded lists name lines names = record {
   names = names;

@@ -3,7 +3,7 @@
 --   line_of text              a line of the program with this text
 --   plural count one many     what follows a number
 --   files_text count          what follows the number of files whose names were listed
---   hidden_text listed count  what follows the number of conditions that could not be listed
+--   hidden_text listed count  what follows the number of conditions that can't be listed in full
 --   changes_line word changed unchanged faults   how many files changed, or would
 --   summary task listed changed unchanged faults hidden   how many files there were of each kind
 --   remaining_line listed count   how many conditions still name a symbol
@@ -53,14 +53,14 @@ files_text count = plural count (codes " file listed, ") (codes " files listed, 
 -- listed. It names the option that lists them, unless there are none or they are `listed`.
 abbrev pub hidden_text : Bool → ℕ → List ℕ
 hidden_text listed count =
-    if count == 0 || listed then plural count (codes " condition could not be listed")
-    (codes " conditions could not be listed")
-    else plural count (codes " condition could not be listed; -r lists it")
-    (codes " conditions could not be listed; -r lists them")
+    if count == 0 || listed then plural count (codes " condition could not be listed in full")
+    (codes " conditions could not be listed in full")
+    else plural count (codes " condition could not be listed in full; -r lists it")
+    (codes " conditions could not be listed in full; -r lists them")
 
 -- `summary task listed changed unchanged faults hidden`: the line with the numbers of files that
 -- changed, or would, of files that didn't, and of faults. If names are listed: of files without a
--- fault, of faults, and of conditions that couldn't be listed; `listed`: these are.
+-- fault, of faults, and of conditions that couldn't be listed in full; `listed`: these are.
 abbrev pub summary : Task → Bool → ℕ → ℕ → ℕ → ℕ → List ℕ
 summary Replace listed changed unchanged faults hidden =
     changes_line (codes " changed, ") changed unchanged faults

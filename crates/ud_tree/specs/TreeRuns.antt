@@ -130,7 +130,7 @@ pub record Ending : Type 0 where
   pub last : List ℕ
   pub status : ℕ
 
--- `Tally`: the numbers of faults, of conditions whose names can't be listed, of edits, of
+-- `Tally`: the numbers of faults, of conditions whose names can't all be listed, of edits, of
 -- conditions that still name a symbol, and of lines that define one, the symbols that no condition
 -- names, what was found among the files of other names, and the arguments of `-g` that matched
 -- nothing.
@@ -155,7 +155,7 @@ pub record DoesAll (args : Arguments) (failed : Bool) (old : List Call) (files :
 
 -- `ShowsAll args results is_lost shown`: what is shown for each file comes first, and then a list.
 -- If names are listed, it is the table of the names of all files, after their conditions whose
--- names can't be listed. Else, if mentions are listed, it is the list of the mentions in all
+-- names can't all be listed. Else, if mentions are listed, it is the list of the mentions in all
 -- outputs. This list is empty if no option names a symbol. Unless `is_lost`, nothing is lost of any
 -- file.
 pub record ShowsAll (args : Arguments) (results : List FileResult) (is_lost : Bool)
@@ -173,10 +173,10 @@ pub record ShowsAll (args : Arguments) (results : List FileResult) (is_lost : Bo
   pub none_lost : is_lost ≡ false → lost_in results ≡ false
 
 -- `Totals args results is_lost tally`: the tally has the totals over all files, if a machine can
--- count them: of conditions whose names can't be listed, of edited conditions, of removed lines,
--- and (unless some were lost) of conditions in all outputs that still name a symbol and of lines
--- that define one. Unless some were lost, it has the symbols that no condition of all texts names,
--- those that have a row, as each symbol of a command line has (`TellsUnnamed`).
+-- count them: of conditions whose names can't all be listed, of edited conditions, of removed
+-- lines, and (unless some were lost) of conditions in all outputs that still name a symbol and of
+-- lines that define one. Unless some were lost, it has the symbols that no condition of all texts
+-- names, those that have a row, as each symbol of a command line has (`TellsUnnamed`).
 pub record Totals (args : Arguments) (results : List FileResult) (is_lost : Bool)
     (tally : Tally) : Type 0 where
   pub hidden : (listed_of results).hidden < 2 ^ 64 → tally.hidden ≡ (listed_of results).hidden

@@ -112,8 +112,8 @@ pub record WritesAll (args : Arguments)
 
 -- `WritesList args names rest lost out out'`: a list was written, empty unless names or the
 -- conditions that still name a symbol are to be listed. Names are listed in a table, after the
--- conditions whose names can't be listed, unless some of that was lost for lack of memory. The list
--- of the conditions that still name a symbol is `rest`.
+-- conditions whose names can't all be listed, unless some of that was lost for lack of memory. The
+-- list of the conditions that still name a symbol is `rest`.
 pub record WritesList (args : Arguments) (names : NameLists) (rest : List ℕ) (lost : Bool)
     (out out' : Stream) : Type 0 where
   pub listed : List ℕ

@@ -49,7 +49,7 @@ pub struct Arguments {
     pub quiet: bool,
     /// True if the conditions that still name a symbol are listed.
     pub list_remaining: bool,
-    /// True if the conditions whose names can't be listed are listed.
+    /// True if the conditions whose names can't all be listed are listed.
     pub list_hidden: bool,
     /// True if the diff of each changed file is printed.
     pub show_changes: bool,

@@ -29,7 +29,7 @@ pub(crate) struct Processed {
     pub counts: Counts,
     /// The number of faults, also of the walk and of the output.
     pub faults: usize,
-    /// The number of conditions whose names can't be listed.
+    /// The number of conditions whose names can't all be listed.
     pub hidden: usize,
     /// The files of other names.
     pub others: Others,
@@ -119,22 +119,22 @@ fn plural<'a>(count: usize, one: &'a [u8], many: &'a [u8]) -> &'a [u8]
     if count == 1 { one } else { many }
 }
 
-/// Returns what follows the number of conditions that couldn't be listed. Unless they are `listed`,
-/// it names the option that lists them.
+/// Returns what follows the number of conditions that couldn't be listed in full. Unless they are
+/// `listed`, it names the option that lists them.
 fn hidden_text(listed: bool, count: usize) -> &'static [u8]
     ensures { result.now ≡ hidden_text listed count }
 {
     if count == 0 || listed {
         plural(
             count,
-            b" condition could not be listed",
-            b" conditions could not be listed",
+            b" condition could not be listed in full",
+            b" conditions could not be listed in full",
         )
     } else {
         plural(
             count,
-            b" condition could not be listed; -r lists it",
-            b" conditions could not be listed; -r lists them",
+            b" condition could not be listed in full; -r lists it",
+            b" conditions could not be listed in full; -r lists them",
         )
     }
 }

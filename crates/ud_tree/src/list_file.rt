@@ -18,8 +18,8 @@ use ud_model::Mode;
 use ud_passes::Names;
 use ud_replace::{ReplaceError, Update, folded, run_over};
 
-/// Adds the names of a file to `names`, and its conditions whose names can't be listed. If its text
-/// has a fault, the names up to the fault count.
+/// Adds the names of a file to `names`, and its conditions whose names can't all be listed. If its
+/// text has a fault, the names up to the fault count.
 ///
 /// The only call reads the file, once.
 ///

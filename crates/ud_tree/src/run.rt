@@ -109,8 +109,8 @@ fn process_all<T: Tree, W: Write, E: Write>(
     (err, status)
 }
 
-/// Writes the counted names, after the conditions that couldn't be listed, and the conditions that
-/// still name a symbol. Returns true after a fault, which was reported.
+/// Writes the counted names, after the conditions that couldn't be listed in full, and the
+/// conditions that still name a symbol. Returns true after a fault, which was reported.
 fn write_lists<W: Write, E: Write>(
     job: &Job<'_>,
     out: &mut Watched<W>,
@@ -149,7 +149,7 @@ fn append_names(job: &Job<'_>, names: &Names, list: &mut Vec<u8>) -> bool
     }
 }
 
-/// Appends the conditions that couldn't be listed, if they are wanted, and the names.
+/// Appends the conditions that couldn't be listed in full, if they are wanted, and the names.
 ///
 /// # Errors
 /// Fails if memory runs out.

@@ -1,25 +1,29 @@
--- UnlistedConditions: the conditions of a text whose names can't be listed.
+-- UnlistedConditions: the conditions of a text whose names can't all be listed.
 -- unifdef(1), `-s`.
 --
--- A condition can't be listed if a continuation cuts its directive, or if its text isn't
--- understood. An expression of only constants is understood, and has no names. All lines of the
--- text are read in one mode. A line over the limit is a fault of its text, and doesn't count.
+-- A condition can't be listed in full if a continuation cuts its directive, if its text isn't
+-- understood, or if a name stands among the arguments of a call. An expression of only constants
+-- is understood, and has no names. All lines of the text are read in one mode. A line over the
+-- limit is a fault of its text, and doesn't count.
 --
 -- The text may be a folded one, in which a vertical tab represents a newline. Its conditions are
 -- listed by the lines of the text that was folded: by the number and the body of the first one.
 --
--- Example: for `#if A`, `#elif B \` and `#endif` in the file `f.c`, the list is the line
--- `f.c:2: #elif B \`. For the folded text of `#if A \`, `|| B`, `#elif C \`, `D` and `#endif` it is
--- the line `f.c:3: #elif C \`.
-use Rattle.std.specs.Prelude.{ℕ, ◌+◌, ◌==◌, List, [], ◌∷◌, ◌++◌, Bool, true, false, not, ◌&&◌, ◌||◌}
-use Rattle.std.specs.Prelude.{is_some, count_by, if◌then◌else◌}
+-- Example: for `#if A`, `#elif B \` and `#endif` in the file `f.c`, the list is the line `f.c:2:
+-- #elif B \`. `#if F(A)` is listed too, and `#if F(1)` isn't. For the folded text of `#if A \`, `||
+-- B`, `#elif C \`, `D` and `#endif` it is the line `f.c:3: #elif C \`.
+use Rattle.std.specs.Prelude.{ℕ, suc, ◌+◌, ◌==◌, List, [], ◌∷◌, ◌++◌, length}
+use Rattle.std.specs.Prelude.{Bool, true, false, not, ◌&&◌, ◌||◌, if◌then◌else◌, count_by}
+use Rattle.std.specs.Prelude.{is_some}
 use Rattle.std.specs.List.{filter}
-use Rattle.ud_model.specs.text.Bytes.{newline}
+use Rattle.ud_model.specs.text.Bytes.{newline, is_word_byte, leading_word}
+use Rattle.ud_model.specs.answer.SymbolArguments.{is_name}
 use Rattle.ud_model.specs.text.Lines.{Line, text_of, lines_of}
 use Rattle.ud_model.specs.text.Scans.{Reading}
 use Rattle.ud_model.specs.sections.Directives.{Directive, Content, cut_keyword, directive, text}
 use Rattle.ud_model.specs.sections.Directives.{content_of, test_of}
 use Rattle.ud_model.specs.conditions.Conditions.{sole_name}
+use Rattle.ud_model.specs.conditions.Names.{names_in_tree}
 use Rattle.ud_model.specs.conditions.Parsing.{expression_of}
 use Rattle.ud_model.specs.aids.ReadAs.{read_as}
 use Rattle.ud_model.specs.declared.kind.Mode.{Mode}
@@ -35,19 +39,31 @@ has_condition Defined = true
 has_condition Undefined = true
 has_condition Nothing = false
 
--- `is_understood test after`: the text `after` is understood by this test: it is one expression, or
--- one name.
-abbrev pub is_understood : Test → List ℕ → Bool
-is_understood Nonzero after = is_some (expression_of after)
-is_understood Defined after = is_some (sole_name after)
-is_understood Undefined after = is_some (sole_name after)
-is_understood Nothing after = true
+-- `name_words in_word t`: how many words of `t` may name a symbol. `in_word`: a word byte comes
+-- before `t`, so that no word begins there.
+abbrev pub name_words : Bool → List ℕ → ℕ
+name_words in_word [] = 0
+name_words true (b ∷ bs) = name_words (is_word_byte b) bs
+name_words false (b ∷ bs) = if is_word_byte b && is_name (leading_word (b ∷ bs))
+    then suc (name_words (is_word_byte b) bs) else name_words (is_word_byte b) bs
 
--- `is_unlisted d`: the directive `d` has a condition whose names can't be listed, because a
--- continuation cuts it, or because it isn't understood.
+-- `lists_all after`: the text `after` has no more names than are listed of an `#if` with it: none
+-- stands among the arguments of a call.
+abbrev pub lists_all : List ℕ → Bool
+lists_all after = name_words false after == length (names_in_tree (expression_of after))
+
+-- `is_listed_whole test after`: the text `after` is understood by this test, and its names are
+-- listed: it is one name, or one expression.
+abbrev pub is_listed_whole : Test → List ℕ → Bool
+is_listed_whole Nonzero after = lists_all after && is_some (expression_of after)
+is_listed_whole Defined after = is_some (sole_name after)
+is_listed_whole Undefined after = is_some (sole_name after)
+is_listed_whole Nothing after = true
+
+-- `is_unlisted d`: the directive `d` has a condition whose names can't all be listed.
 abbrev pub is_unlisted : Directive → Bool
 is_unlisted d = has_condition (test_of d.kind) &&
-    (d.broken || not (is_understood (test_of d.kind) d.after))
+    (d.broken || not (is_listed_whole (test_of d.kind) d.after))
 
 -- `has_unlisted content`: a line with this content has such a condition.
 abbrev pub has_unlisted : Content → Bool

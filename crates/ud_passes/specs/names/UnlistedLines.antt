@@ -9,8 +9,8 @@ use Rattle.ud_passes.specs.declared.names.texts.File.{File}
 use Rattle.ud_passes.specs.declared.names.texts.Found.{Found}
 use Rattle.ud_passes.specs.declared.walk.Walk.{Walk}
 
--- `listed_text file rs`: the list of the lines among `rs` whose condition can't be listed. If the
--- file isn't to be listed, there is none.
+-- `listed_text file rs`: the list of the lines among `rs` whose condition can't be listed in full.
+-- If the file isn't to be listed, there is none.
 abbrev pub listed_text : File → List Reading → List ℕ
 listed_text file rs = if file.lists then listed_from file.name.now file.folded 1 rs else []
 

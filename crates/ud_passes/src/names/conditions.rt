@@ -1,4 +1,4 @@
-//! Whether the condition of a line can be listed.
+//! Whether all names of a line's condition can be listed.
 
 ghost use Rattle.std.specs.Prelude.{◌≡◌, ◌≤◌, [], length, is_some, true, false};
 ghost use Rattle.ud_model.specs.aids.LineViews.{as_scan};
@@ -7,11 +7,12 @@ ghost use Rattle.ud_model.specs.conditions.Names.{names_of};
 ghost use Rattle.ud_model.specs.conditions.Parsing.{expression_of};
 ghost use Rattle.ud_model.specs.declared.limits.TheConstants.{LINE_BYTES};
 ghost use Rattle.ud_sections.specs.directives.ParsedDirectives.{as_directive};
-ghost use Rattle.ud_passes.specs.names.UnlistedConditions.{has_unlisted, is_understood};
+ghost use Rattle.ud_passes.specs.names.UnlistedConditions.{has_unlisted, is_listed_whole, lists_all};
 ghost use Rattle.ud_passes.specs.names.UnlistedConditions as spec;
 
 use std::alloc::Global;
 use ud_cond::{Rules, Symbols, TokenFlags, names, residual};
+use ud_model::bytes::{is_name, is_word_byte, word_len};
 use ud_model::{Kind, LINE_BYTES, Scan, Test};
 use ud_sections::{Directive, directive};
 
@@ -50,19 +51,41 @@ fn is_expression(alloc: Global, text: &[u8]) -> bool
     reads_as_expression(alloc, text)
 }
 
-/// Returns whether the text after a keyword of this kind is understood.
-fn is_understood(alloc: Global, kind: Kind, text: &[u8]) -> bool
+/// Returns whether a text has no more names than are listed of an `#if` with it: none stands among
+/// the arguments of a call.
+fn lists_all(text: &[u8]) -> bool
     requires fits { length text.now ≤ LINE_BYTES }
-    ensures { result ≡ is_understood (test_of kind) text.now }
+    ensures { result ≡ lists_all text.now }
+{
+    let mut listed = names(Kind::If, text);
+    let mut rest = text;
+    while let Some((first, others)) = rest.split_first() {
+        if is_word_byte(*first) {
+            let (word, after) = rest.split_at(word_len(rest));
+            if is_name(word) && listed.next().is_none() {
+                return false;
+            }
+            rest = after;
+        } else {
+            rest = others;
+        }
+    }
+    listed.next().is_none()
+}
+
+/// Returns whether the text after a keyword of this kind is understood, and its names are listed.
+fn is_listed_whole(alloc: Global, kind: Kind, text: &[u8]) -> bool
+    requires fits { length text.now ≤ LINE_BYTES }
+    ensures { result ≡ is_listed_whole (test_of kind) text.now }
 {
     match kind.test() {
-        Test::Nonzero => is_expression(alloc, text),
+        Test::Nonzero => lists_all(text) && is_expression(alloc, text),
         Test::Defined | Test::Undefined => has_name(kind, text),
         Test::Nothing => true,
     }
 }
 
-/// Returns whether a directive has a condition whose names can't be listed.
+/// Returns whether a directive has a condition whose names can't all be listed.
 fn is_unlisted(alloc: Global, found: &Directive<'_>) -> bool
     requires fits { length found.now.after.now ≤ LINE_BYTES }
     ensures { result ≡ spec.is_unlisted (as_directive found.now) }
@@ -70,10 +93,10 @@ fn is_unlisted(alloc: Global, found: &Directive<'_>) -> bool
     if found.kind.test() == Test::Nothing {
         return false;
     }
-    found.broken || !is_understood(alloc, found.kind, found.after)
+    found.broken || !is_listed_whole(alloc, found.kind, found.after)
 }
 
-/// Returns whether a line with this scan has a condition whose names can't be listed.
+/// Returns whether a line with this scan has a condition whose names can't all be listed.
 pub(crate) fn has_unlisted(alloc: Global, scan: &Scan<'_>) -> bool
     requires fits { length scan.now.masked.now ≤ LINE_BYTES }
     ensures { result ≡ has_unlisted (content_of (as_scan scan.now)) }

@@ -1,4 +1,4 @@
-//! The conditions of a text that can't be listed.
+//! The conditions of a text that can't be listed in full.
 
 ghost use Rattle.std.specs.Prelude.{◌≡◌, ◌+◌, ◌≤◌, ◌<◌, ◌^◌, ◌∷◌, ◌++◌, ℕ, List, [], length, true};
 ghost use Rattle.std.specs.Prelude.{IfOk, OnOk, if◌then◌else◌};
@@ -43,7 +43,7 @@ struct Found {
     number: usize,
 }
 
-/// Reads a line. Returns whether it has a condition that can't be listed.
+/// Reads a line. Returns whether it has a condition that can't be listed in full.
 ///
 /// # Errors
 /// Fails if memory runs out.
@@ -150,7 +150,7 @@ impl<'a> File<'a> {
         })
     }
 
-    /// Takes the next lines: counts and lists those whose condition can't be listed.
+    /// Takes the next lines: counts and lists those whose condition can't be listed in full.
     ///
     /// # Errors
     /// Fails if memory runs out.
@@ -190,8 +190,8 @@ impl<'a> File<'a> {
         }
     }
 
-    /// Counts the conditions of a text that can't be listed. Appends a line for each, if they are
-    /// listed.
+    /// Counts the conditions of a text that can't be listed in full. Appends a line for each, if
+    /// they are listed.
     ///
     /// # Errors
     /// Fails if memory runs out. Part of the list may have been appended.
