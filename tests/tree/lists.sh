@@ -380,7 +380,7 @@ test_unsearched() {
   $as 0 -q -r -UA src
   says_only
   $as 0 -UA src
-  says_only "$counts" "$remains; -r lists them"
+  says_only "$counts" "$remains; -r lists it"
   put src/little.x '\xff\xfe#\0i\0f\0 \0A\0\n\0'
   put src/big.x '\xfe\xff\0#\0i\0f\0 \0A\0\n'
   $as 0 -r -UA src
@@ -391,6 +391,9 @@ test_unsearched() {
   $as 0 -r -UA src
   says_only "$counts" "$remains" '2 files of other names name a symbol, as src/long.x' \
     '3 files of other names could not be searched'
+  prints 'src/a.c:1: #if A + X
+src/long.x: is not processed, and names a symbol
+src/marked.x: is not processed, and names a symbol'
   chmod 644 src/closed.x
 }
 

@@ -13,10 +13,13 @@ test_rules() {
   run 1 -r -UVMS -g '+*.def' -g '!old' -- t
   says_only '1 changed, 2 unchanged, 0 faulty' '3 lines removed' \
     '0 conditions still name a symbol' '1 file of other names names a symbol, as t/e.tpl'
+  prints 't/e.tpl: is not processed, and names a symbol'
   holds_that same "$(left_in VMS)" 't/e.tpl t/old/b.c t/old/f.h '
   run 1 -r -UVMS -g '*.tpl' t
   says_only '1 changed, 0 unchanged, 0 faulty' '3 lines removed' \
     '0 conditions still name a symbol' '2 files of other names name a symbol, as t/old/b.c'
+  prints 't/old/b.c: is not processed, and names a symbol
+t/old/f.h: is not processed, and names a symbol'
   holds_that same "$(left_in VMS)" 't/old/b.c t/old/f.h '
   run 1 -q -UVMS -g '!b.c' t/old
   holds_that same "$(left_in VMS)" 't/old/b.c '
@@ -60,26 +63,34 @@ test_unmatched_rules() {
   input=$work/list unmatched '' 1 -n -DA -g '!thrid' -0
 }
 
-# tells LINE STATUS OPTION..: a run says this of files of other names, and changes none of them.
+# tells 'FILE ..' STATUS OPTION..: a run lists and counts these files of other names, and changes
+# none of them.
 tells() {
+  local files line=''
+  read -ra files <<< "$1"
+  case ${#files[@]} in
+    0) ;;
+    1) line="1 file of other names names a symbol, as ${files[0]}" ;;
+    *) line="${#files[@]} files of other names name a symbol, as ${files[0]}" ;;
+  esac
   find t -type f ! -name '*.c' -exec cat {} + > "$work/before"
   run "$2" -x2 -r -UA "${@:3}"
-  holds_that same "$(sed -n '/ of other names/s/^unifdef-tree: //p' "$work/err")" "$1"
+  holds_that same "$(sed -n '/ of other names/s/^unifdef-tree: //p' "$work/err")" "$line"
+  holds_that same "$(sed -n 's/: is not processed, and names a symbol$//p' "$work/out" | xargs)" "$1"
   find t -type f ! -name '*.c' -exec cat {} + > "$work/after"
   holds_that cmp -s "$work/before" "$work/after"
 }
 
 test_other_names() {
-  local one='1 file of other names names a symbol, as t/b.x'
   fresh
   mkdir -p t/sub t/old t/.git
   put t/a.c '#ifdef A\n#endif\n'
   tells '' 0 t
   put t/b.x '# ! /bin/sh\n  #\t ifdef A isn'"'"'t /*\n'
-  tells "$one" 0 t
-  tells "$one" 0 -n t
-  tells "$one" 0 -p -B -k -UB t/sub t t/a.c
-  tells "$one" 0 t/a.c t
+  tells t/b.x 0 t
+  tells t/b.x 0 -n t
+  tells t/b.x 0 -p -B -k -UB t/sub t t/a.c
+  tells t/b.x 0 t/a.c t
   # If it is chosen, it has an error: its section doesn't end.
   tells '' 2 t/b.x t
   tells '' 2 -g '+b.x' t
@@ -98,15 +109,15 @@ x #if A
 #if B \
  A
 EOT
-  tells "$one" 0 -g '!old' t
+  tells t/b.x 0 -g '!old' t
   # Only files that are text up to byte 8,192 are read.
   { printf '%08191d' 0; printf '\0\n#if A\n'; } > t/e.x
-  tells "$one" 0 -g '!old' t
+  tells t/b.x 0 -g '!old' t
   { printf '%08192d' 0; printf '\0\n#if A\n'; } > t/e.x
-  tells '2 files of other names name a symbol, as t/b.x' 0 -g '!old' t
+  tells 't/b.x t/e.x' 0 -g '!old' t
   put t/.x '// #if A\n/*\n#elifndef A\n'
-  tells '3 files of other names name a symbol, as t/.x' 0 -g '!old' t
-  tells '4 files of other names name a symbol, as t/.x' 0 t
+  tells 't/.x t/b.x t/e.x' 0 -g '!old' t
+  tells 't/.x t/b.x t/e.x t/old/c.x' 0 t
   # Paths of the input have no other names beside them.
   find t -name a.c -print0 > "$work/list"
   input=$work/list tells '' 0 -0

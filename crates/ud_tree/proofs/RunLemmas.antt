@@ -22,7 +22,7 @@ use Rattle.ud_tree.specs.Fates.{fate_of, is_changed, is_same, is_faulty, no_edit
 use Rattle.ud_tree.specs.Runs.{FileResult, Unshown, EachFile, no_file, then_file, changed_in, faulty_in, edited_in, removed_in, told_of, Counted, names_of, nothing_listed, listed_of, lost_in, outputs_of, texts_of}
 use Rattle.ud_tree.specs.Remainders.{FindsAll, listing_of, list_of, count_of, defined_of}
 use Rattle.ud_tree.specs.Unnamed.{Seeks}
-use Rattle.ud_tree.specs.Others.{FindsOthers}
+use Rattle.ud_tree.specs.Others.{FindsOthers, others_list}
 use Rattle.ud_tree.proofs.RemainderLemmas.{finds_none, finds_kept, finds_then, finds_same, names_left}
 use Rattle.ud_tree.specs.Statuses.{tree_status}
 use Rattle.ud_tree.specs.Streams.{Source, ends_of}
@@ -251,7 +251,7 @@ rules_sent args rules {last = last} {after = after} false loud unshown said same
     subst (λ (s : Stream). Sends s after.err (rule_lines args rules)) (h.unshown (unshown loud)) h.sent
 
 -- The run ends with the status of its counts.
-pub ends : (job : Job) (walked : Walked) (p : Processed) {old new : Moment} {mid : Stage} {listed : Stream}
+pub ends : (job : Job) (walked : Walked) (p : Processed) {old new : Moment} {mid : Stage} {listed ended : Stream}
     {seek_report sought_report list_report end_report last_report rules_report : ReportState} (lost unwritten : Bool)
     (status : ℕ) (start lists : NameLists) → start.list.items ≡ [] → start.hidden ≡ 0 →
     start.hidden_list.items ≡ [] → p.hidden ≡ lists.hidden → (lost ≡ false → sought_report.has_lost ≡ false) →
@@ -259,7 +259,7 @@ pub ends : (job : Job) (walked : Walked) (p : Processed) {old new : Moment} {mid
     DoesFiles job walked.files.items (record { calls = old.calls; out = old.out; report = seek_report }) mid p.counts start
     lists → FindsOthers job.arguments.now mid.out.failed walked.files.items mid.calls new.calls mid.report sought_report p.others →
     WritesList job.arguments.now lists sought_report.remaining.list lost mid.out listed →
-    TellsIf list_message lost sought_report list_report → Sends listed new.out [] → unwritten ≡ new.out.failed →
+    TellsIf list_message lost sought_report list_report → Sends listed ended (others_list p.others.named.items) → Sends ended new.out [] → unwritten ≡ new.out.failed →
     (new.out.failed ≡ false → new.out.unflushed ≡ false) → TellsIf write_message unwritten list_report end_report →
     TellsEnd job.arguments.now p end_report last_report → (job.arguments.now.quiet ≡ false → last_report.is_shown ≡ false) →
     (last_report.is_shown ≡ false → Says last_report rules_report (rule_lines job.arguments.now (map (λ r. r.items) walked.rules.items))) → (job.arguments.now.quiet ≡ true → rules_report ≡ last_report) → new.err ≡ rules_report.err →
@@ -270,12 +270,13 @@ pub ends : (job : Job) (walked : Walked) (p : Processed) {old new : Moment} {mid
     status ≡ tree_status job.arguments.now.task job.arguments.now.plan.run.settings.exit_mode unheard p.faults
     p.counts.changed → EndsWriting job walked old new status
 ends job walked p {old = old} {new = new} {mid = mid} {seek_report = seek_report} {sought_report = sought_report} {end_report = end_report} lost unwritten
-    status start lists no_name none no_condition hidden_now whole_report sought_now d o l t f failed flushed u e unshown said silent stream few all
+    status start lists no_name none no_condition hidden_now whole_report sought_now d o l t s f failed flushed u e unshown said silent stream few all
     unheard heard is =
     let w = d.does in
     let h = w.counted in
     let args = job.arguments.now in
     let rules = map (λ r. r.items) walked.rules.items in
+    let others = others_list p.others.named.items in
     let of_output = joined (output_messages lost unwritten) in
     let both = tells_same (sym (output_told lost unwritten)) (tells_then t u) in
     let left = end_report.remaining in
@@ -288,23 +289,23 @@ ends job walked p {old = old} {new = new} {mid = mid} {seek_report = seek_report
     let all_names = w.adds.names ∙ ap (λ (x : List ℕ). x ++ (listed_of h.results).names) no_name in
     let all_hidden = w.adds.hidden_list ∙ ap (λ (x : List ℕ). x ++ (listed_of h.results).hidden_list) no_condition in
     record {
-      ending = record { streams = ends_of new.out new.err; shown = w.shown ++ l.listed; told = (w.told ++ of_output) ++ last; last = last; status = status };
+      ending = record { streams = ends_of new.out new.err; shown = w.shown ++ l.listed ++ others; told = (w.told ++ of_output) ++ last; last = last; status = status };
       ends = record {
         mid = mid.calls;
         does = record {
           done = d.done;
-          is_done = done_later (λ is. still_failed f (still_failed l.sent is)) d.is_done;
+          is_done = done_later (λ is. still_failed f (still_failed s (still_failed l.sent is))) d.is_done;
           results = h.results;
           each = h.each;
         };
         is_lost = lost;
         tally = record { faults = p.faults; hidden = p.hidden; edits = p.counts.edits; remaining = left.count; defined = left.defined; unnamed = still_unnamed args end_report.unnamed; others = p.others; rules = rules };
         failed = mid.out.failed;
-        stays_failed = λ is. still_failed f (still_failed l.sent is);
+        stays_failed = λ is. still_failed f (still_failed s (still_failed l.sent is));
         seeks = record { touches = o.seeks.touches; unsought = o.seeks.unsought; found = λ whole. o.seeks.found (whole_report whole) };
         shows = record {
           listed = l.listed;
-          shown_is = ap (λ (x : List ℕ). x ++ l.listed) h.shown_is;
+          shown_is = ap (λ (x : List ℕ). x ++ l.listed ++ others) h.shown_is;
           is_wanted = l.is_wanted;
           table = λ is off whole.
               subst (λ (x : List ℕ). Tabulates (names_in x) (listed_of h.results).hidden_list l.listed) all_names
@@ -352,7 +353,7 @@ ends job walked p {old = old} {new = new} {mid = mid} {seek_report = seek_report
       written = record {
         status_is = refl;
         streams_are = refl;
-        sent = sends_same (append-nil (w.shown ++ l.listed)) (sends_then (sends_then w.sent l.sent) f);
+        sent = sends_same (append-nil (w.shown ++ l.listed ++ others)) (sends_then (sends_then (sends_then w.sent l.sent) s) f);
         ended = rw stream (e.told.0, sends_then e.told.1 ruled);
         tells = λ plainly. let told = writes_then before (writes_then (writes_kept o.screen) both.writes) in let plain = plain_begun job old.err plainly in rw stream (sends_then (told.sent plain) (sends_then (e.alone (told.plain plain).unshown) ruled));
       };

@@ -1,5 +1,5 @@
 -- Lines from their parts.
-use Rattle.std.proofs.Common.{◌≡◌, ℕ, ◌+◌, ◌<◌, ◌≤◌, List, [], ◌∷◌, ◌++◌, length, get_or, take, map, Bool, true, false, None, Some, refl, sym, ap, ◌∙◌, subst, append_assoc, append-nil, codes, count_by, decimal, ◌&&◌, ◌⊎◌, inl, inr, arith}
+use Rattle.std.proofs.Common.{◌≡◌, ℕ, ◌+◌, ◌<◌, ◌≤◌, List, [], ◌∷◌, ◌++◌, length, get_or, take, map, Bool, true, false, None, Some, refl, sym, ap, ◌∙◌, subst, append_assoc, append-nil, codes, count_by, decimal, ◌&&◌, ◌||◌, ◌⊎◌, inl, inr, arith}
 use Rattle.std.proofs.lemmas.Grind.{common_steps, flat_map-append}
 use Rattle.std.proofs.lemmas.List.{take_more, map-append, length-map}
 use Rattle.std.specs.List.{flat_map, slice_get}
@@ -14,7 +14,7 @@ use Rattle.ud_tree.specs.declared.walk.Found.{Found}
 use Rattle.ud_tree.specs.Runs.{names_of}
 use Rattle.ud_tree.specs.declared.arguments.Task.TheVariants.{Names}
 use Rattle.ud_io.specs.Streams.{Stream, Sends}
-use Rattle.ud_tree.specs.Summaries.{line_of, changes_line, files_text, hidden_text, summary, remaining_text, remaining_line, removed_line, removed_text, edited_line, edited_text, defined_line, still_unnamed, none_named_line, unnamed_line, unnamed_lines, unnamed_text, others_line, others_text, unsearched_line, unsearched_text}
+use Rattle.ud_tree.specs.Summaries.{line_of, changes_line, files_text, hidden_text, hint, summary, remaining_text, remaining_line, removed_line, removed_text, edited_line, edited_text, defined_line, defined_text, still_unnamed, none_named_line, unnamed_line, unnamed_lines, unnamed_text, others_line, others_text, unsearched_line, unsearched_text}
 use Rattle.ud_tree.specs.Visible.{visible}
 use Rattle.ud_tree.specs.Writing.{TellsEnd}
 use Rattle.ud_io.proofs.StreamLemmas.{sends_none, sends_same, sends_then}
@@ -32,29 +32,38 @@ changes_joined changed unchanged faults word c u f p q r =
     ∙ ap (λ x. line_of (decimal changed ++ (word ++ (decimal unchanged ++ (codes " unchanged, " ++ (x ++ (codes " faulty" ++ []))))))) r
     ∙ simp (append_assoc, append-nil)
 
-listed_parts : (a b c d e f : List ℕ) → a ++ (b ++ (c ++ (d ++ (e ++ (f ++ []))))) ≡ ((((a ++ b) ++ c) ++ d) ++ e) ++ f
-listed_parts a b c d e f = simp (append_assoc, append-nil)
+listed_parts : (a b c d e f g : List ℕ) → a ++ (b ++ (c ++ (d ++ (e ++ (f ++ (g ++ [])))))) ≡ (((((a ++ b) ++ c) ++ d) ++ e) ++ f) ++ g
+listed_parts a b c d e f g = simp (append_assoc, append-nil)
 
 -- The summary of a run that lists names.
-pub listed_joined : (listed : Bool) (changed unchanged faults hidden : ℕ) (u f h v w : List ℕ) → u ≡ decimal unchanged →
-    f ≡ decimal faults → h ≡ decimal hidden → v ≡ files_text unchanged → w ≡ hidden_text listed hidden →
-    line_of (u ++ (v ++ (f ++ (codes " faulty; " ++ (h ++ (w ++ [])))))) ≡
+pub listed_joined : (listed : Bool) (changed unchanged faults hidden : ℕ) (u f h v w i : List ℕ) → u ≡ decimal unchanged →
+    f ≡ decimal faults → h ≡ decimal hidden → v ≡ files_text unchanged → w ≡ hidden_text hidden → i ≡ hint listed hidden →
+    line_of (u ++ (v ++ (f ++ (codes " faulty; " ++ (h ++ (w ++ (i ++ []))))))) ≡
     summary Names listed changed unchanged faults hidden
-listed_joined listed changed unchanged faults hidden u f h v w p q r m n =
+listed_joined listed changed unchanged faults hidden u f h v w i p q r m n o =
     grind (arith, common_steps, listed_parts)
 
 and_false : (b : Bool) → (b && false) ≡ false
 and_false true = refl
 and_false false = refl
 
+or_true : (b : Bool) → (b || true) ≡ true
+or_true true = refl
+or_true false = refl
+
 -- The line of conditions that are listed.
 pub remaining_listed : (listed : Bool) (count : ℕ) (text : List ℕ) → listed ≡ true → text ≡ remaining_text count → line_of ((decimal count ++ text) ++ []) ≡ remaining_line listed count
-remaining_listed listed count text on p = grind (arith, common_steps, and_false)
+remaining_listed listed count text on p = grind (arith, common_steps, and_false, or_true)
 
 -- The line of conditions that aren't listed, of which there are some.
-pub remaining_told : (listed : Bool) (count : ℕ) (text : List ℕ) → listed ≡ false → ¬ (count ≡ 0) → text ≡ remaining_text count →
-    line_of ((decimal count ++ text) ++ codes "; -r lists them") ≡ remaining_line listed count
-remaining_told listed count text off some p = grind (arith, common_steps)
+pub remaining_told : (listed : Bool) (count : ℕ) (text option : List ℕ) → listed ≡ false → ¬ (count ≡ 0) → text ≡ remaining_text count → option ≡ hint false count →
+    line_of ((decimal count ++ text) ++ option) ≡ remaining_line listed count
+remaining_told listed count text option off some p q = grind (arith, common_steps, append_assoc)
+
+-- The line of lines that define a symbol, of which there are some.
+pub defined_told : (listed : Bool) (count : ℕ) (text option : List ℕ) → ¬ (count ≡ 0) → text ≡ defined_text count → option ≡ hint listed count →
+    line_of ((decimal count ++ text) ++ option) ≡ defined_line listed count
+defined_told listed count text option some p q = grind (arith, common_steps, append_assoc)
 
 -- The line with the number of removed lines.
 pub removed_told : (count : ℕ) (text : List ℕ) → ¬ (count ≡ 0) → text ≡ removed_text count → line_of ((decimal count ++ text) ++ []) ≡ removed_line count

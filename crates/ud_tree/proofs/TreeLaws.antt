@@ -1,5 +1,7 @@
 -- The calls of a whole run: what they touch, the files after each of them, and the diffs.
-use Rattle.std.proofs.Common.{◌≡◌, ◌⊎◌, inl, inr, ℕ, ◌<◌, List, [], ◌∷◌, ◌++◌, length, get_or, map, Bool, true, false, Option, Some, Result, sym, ◌∙◌, subst, true≢false, arith, length-append}
+use Rattle.std.proofs.Common.{◌≡◌, ◌⊎◌, inl, inr, ℕ, ◌<◌, List, [], ◌∷◌, ◌++◌, length, get_or, map, Bool, true, false, Option, Some, Result, sym, ◌∙◌, subst, true≢false, ap, arith, append_assoc, length-append}
+use Rattle.std.proofs.lemmas.Grind.{common_steps}
+use Rattle.ud_tree.specs.declared.other_files.Others.{Others}
 use Rattle.std.proofs.lemmas.List.{get_or_append_left, get_or-append_right, get_or-map, length-map}
 use Rattle.std.proofs.lemmas.List.Elements.{Contains-append_left, Contains-push}
 use Rattle.std.specs.List.{Contains, AllPairs}
@@ -18,6 +20,7 @@ use Rattle.ud_tree.specs.declared.arguments.Task.{Task}
 use Rattle.ud_tree.specs.declared.arguments.Task.TheVariants.{Replace, Diff, Names}
 use Rattle.ud_tree.specs.declared.walk.Found.{Found}
 use Rattle.ud_tree.specs.Changes.{ReplacesShowing}
+use Rattle.ud_tree.specs.Others.{SeeksOthers, seeks_others, others_list}
 use Rattle.ud_tree.specs.Runs.{ReadsOne, reads, FileResult, Unshown, ReplacesOne, replaces, no_name, EachFile, no_file, then_file, names_of}
 use Rattle.ud_tree.specs.Shown.{ShowsOne, ListsOne}
 use Rattle.ud_tree.specs.TreeRuns.{DoesBy, IsRun, Run}
@@ -241,6 +244,14 @@ run_old_or_new o first run p into (inr h) t = let all = h.ends.does in
     (moments_still (moments_none o first run.old)
     (each_at h.is_walk.are (walk_touches h.is_walk.calls run.old))) all.each h.ends.seeks.touches
 
+-- No file of another name is listed unless mentions are.
+unsought_none : {args : Arguments} {failed is_lost : Bool} {files : List Found} {old new : List Call} {others : Others} → SeeksOthers args failed files old new is_lost others → args.list_remaining ≡ false →
+    others_list others.named.items ≡ []
+unsought_none {args = args} {failed = failed} h off = let none = (h.unsought (unsought failed)).1 in ap others_list none.named
+  where
+    unsought : (b : Bool) → seeks_others args b ≡ false
+    unsought b = grind (arith, common_steps, off)
+
 -- The diffs of the files of a run, for one choice of options.
 each_shows : {o : TextOptions} {plan : TextPlan} {into : Bool} {old : List Call} {names : List (List ℕ)} {new : List Call} {results : List FileResult} → IsPlanned plan o →
     EachFile (ShowsOne plan into) old names new results → EachFile (ShowsAs o into) old names new results
@@ -253,6 +264,6 @@ pub run_shows : (o : TextOptions) (run : Run) → IsPlanned run.args.plan o →
 run_shows o run p diff (inl h) = no_diff (record { calls = h.walk.calls; are = h.walk.are }) h.unshown
 run_shows o run p diff (inr h) = let all = h.ends.does in
     let shows = h.ends.shows in
-    diffs h.mid h.ends.mid h.files all.done all.results shows.listed h.is_walk all.is_done
+    diffs h.mid h.ends.mid h.files all.done all.results (shows.listed ++ others_list h.ends.tally.others.named.items) h.is_walk all.is_done
     (each_shows p (subst (λ (t : Task). EachFile (DoesBy t run.args) h.mid (names_of all.done) h.ends.mid all.results) diff all.each))
-    h.ends.seeks.touches shows.shown_is (shows.is_wanted (λ names. absurd cc))
+    h.ends.seeks.touches (shows.shown_is ∙ append_assoc _ shows.listed _) (λ off. ap (λ (x : List ℕ). x ++ others_list h.ends.tally.others.named.items) (shows.is_wanted (λ names. absurd cc) off) ∙ unsought_none h.ends.seeks off)

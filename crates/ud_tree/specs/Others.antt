@@ -18,13 +18,14 @@
 --   AreOthers args files old new others   a walk found them, and they were read
 --   SeeksOthers args failed files old new is_lost others   so they were, if the run looks for them
 --   FindsOthers args failed files old new before after others   the same, and nothing was written
+--   others_list files        what is listed of them
 --
 -- `old` and `new` are the calls before and after, the newest first.
 use Rattle.std.specs.Prelude.{◌≡◌, ℕ, ◌<◌, ◌^◌, List, [], ◌∷◌, ◌++◌, length, drop, filter, map}
 use Rattle.std.specs.Prelude.{Bool, true, false, not, ◌&&◌, ◌==◌, codes, bytes_eq, count_by}
 use Rattle.std.specs.Prelude.{nat_eq, if◌then◌else◌}
 use Rattle.std.specs.Prelude.{string_bytes, Result, IfOk}
-use Rattle.std.specs.List.{list_any, starts_with}
+use Rattle.std.specs.List.{flat_map, list_any, starts_with}
 use Rattle.std.specs.declared.alloc.AllocError.{AllocError}
 use Rattle.ud_model.specs.conditions.Table.{Argument}
 use Rattle.ud_model.specs.declared.kind.Mode.TheVariants.{Plain}
@@ -155,6 +156,14 @@ pub record ReadsOthers (args : Arguments) (files all : List Found) (old new : Li
   pub calls_are : new ≡ calls_of looks old
   pub others_are : (table : List Argument) → TableRepresents args.plan.run.symbols table →
       AreFound table looks others
+
+-- `other_line f`: the line of a file of another name that names a symbol.
+abbrev pub other_line : Found → List ℕ
+other_line f = string_bytes f.path ++ codes ": is not processed, and names a symbol\n"
+
+-- `others_list files`: the lines of such files.
+abbrev pub others_list : List Found → List ℕ
+others_list files = flat_map other_line files
 
 -- `AddsOther args files f old new others others'`: whatever files came before, `f` was read in its
 -- turn, unless it is among `files`.

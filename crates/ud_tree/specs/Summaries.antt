@@ -3,7 +3,7 @@
 --   line_of text              a line of the program with this text
 --   plural count one many     what follows a number
 --   files_text count          what follows the number of files whose names were listed
---   hidden_text listed count  what follows the number of conditions that can't be listed in full
+--   hint listed count         the option that lists what was counted
 --   changes_line word changed unchanged faults   how many files changed, or would
 --   summary task listed changed unchanged faults hidden   how many files there were of each kind
 --   remaining_line listed count   how many conditions still name a symbol
@@ -49,14 +49,16 @@ plural count one many = if count == 1 then one else many
 abbrev pub files_text : ℕ → List ℕ
 files_text count = plural count (codes " file listed, ") (codes " files listed, ")
 
--- `hidden_text listed count`: what follows the number of conditions whose names could not be
--- listed. It names the option that lists them, unless there are none or they are `listed`.
-abbrev pub hidden_text : Bool → ℕ → List ℕ
-hidden_text listed count =
-    if count == 0 || listed then plural count (codes " condition could not be listed in full")
+-- `hidden_text count`: what follows the number of conditions whose names can't all be listed.
+abbrev pub hidden_text : ℕ → List ℕ
+hidden_text count = plural count (codes " condition could not be listed in full")
     (codes " conditions could not be listed in full")
-    else plural count (codes " condition could not be listed in full; -r lists it")
-    (codes " conditions could not be listed in full; -r lists them")
+
+-- `hint listed count`: the option that lists what was counted, unless there is none or it is
+-- `listed`.
+abbrev pub hint : Bool → ℕ → List ℕ
+hint listed count = if count == 0 || listed then []
+    else plural count (codes "; -r lists it") (codes "; -r lists them")
 
 -- `summary task listed changed unchanged faults hidden`: the line with the numbers of files that
 -- changed, or would, of files that didn't, and of faults. If names are listed: of files without a
@@ -68,7 +70,7 @@ summary Diff listed changed unchanged faults hidden =
     changes_line (codes " would change, ") changed unchanged faults
 summary Names listed changed unchanged faults hidden = line_of (decimal unchanged ++
     files_text unchanged ++ decimal faults ++ codes " faulty; " ++ decimal hidden ++
-    hidden_text listed hidden)
+    hidden_text hidden ++ hint listed hidden)
 
 -- `remaining_text count`: what follows the number of conditions.
 abbrev pub remaining_text : ℕ → List ℕ
@@ -79,22 +81,19 @@ remaining_text count =
 -- left out if there are none and they aren't `listed`.
 abbrev pub remaining_line : Bool → ℕ → List ℕ
 remaining_line listed count = if count == 0 && not listed then [] else line_of (decimal count ++
-    remaining_text count ++ (if listed then [] else codes "; -r lists them"))
+    remaining_text count ++ hint listed count)
 
--- `defined_text listed count`: what follows the number of lines that define a symbol. It names the
--- option that lists them, unless they are `listed`.
-abbrev pub defined_text : Bool → ℕ → List ℕ
-defined_text listed count =
-    if listed then plural count (codes " line of the source defines a symbol")
+-- `defined_text count`: what follows the number of lines that define a symbol.
+abbrev pub defined_text : ℕ → List ℕ
+defined_text count = plural count (codes " line of the source defines a symbol")
     (codes " lines of the source define a symbol")
-    else plural count (codes " line of the source defines a symbol; -r lists it")
-    (codes " lines of the source define a symbol; -r lists them")
 
 -- `defined_line listed count`: the line with the number of lines that define a symbol, left out if
 -- there are none.
 abbrev pub defined_line : Bool → ℕ → List ℕ
 defined_line listed count =
-    if count == 0 then [] else line_of (decimal count ++ defined_text listed count)
+    if count == 0 then []
+    else line_of (decimal count ++ defined_text count ++ hint listed count)
 
 -- `removed_text count`: what follows the number of removed lines.
 abbrev pub removed_text : ℕ → List ℕ

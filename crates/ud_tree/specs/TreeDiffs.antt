@@ -21,7 +21,7 @@ ShowsAs o into name old new result =
 
 -- `ShowsDiffs o run`: no file was read, and nothing is shown. Or a walk found some files, each was
 -- read once, and their diffs are shown in the same order. If the output has failed, that may be
--- only the first ones (`IsDone`). A list follows, if one is wanted. No later call touches a file.
+-- only the first ones (`IsDone`). Lists follow, if they are wanted. No later call touches a file.
 pub data ShowsDiffs (o : TextOptions) (run : Run) : Type 0 where
   no_diff : WalksOnly run.old run.new → run.ending.shown ≡ [] → ShowsDiffs o run
   diffs : (mid last : List Call) (files done : List Found) (results : List FileResult)

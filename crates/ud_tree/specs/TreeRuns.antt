@@ -10,7 +10,7 @@
 --   DoesFiles job files before after counts lists lists'   the same for those
 --   Ending, Tally                           how a run ends, and the numbers of its last lines
 --   DoesAll args failed old files new       what is done with each file: the results
---   ShowsAll args results is_lost shown     what is shown of the files, and what is listed
+--   ShowsAll args results others is_lost shown   what is shown of the files, and what is listed
 --   Totals args results is_lost tally       the numbers are the totals over all files
 --   HasStatus args in_walk results is_lost faults ending   which faults there are, and which status
 --   TellsAll args results is_lost tally ending   which messages there are, and which last lines
@@ -59,7 +59,7 @@ use Rattle.ud_io.specs.Streams.{Sends}
 use Rattle.ud_tree.specs.Summaries.{last_lines, EndsWith}
 use Rattle.ud_tree.specs.Writing.{Moment, Stage, WritesOne, ProcessesOne, WritesAll}
 use Rattle.ud_tree.specs.Covering.{StandsIn, MissesNone}
-use Rattle.ud_tree.specs.Others.{SeeksOthers}
+use Rattle.ud_tree.specs.Others.{SeeksOthers, others_list}
 use Rattle.ud_tree.specs.Walks.{IsWalk}
 use Rattle.ud_tree.specs.WalkMessages.{WalkTells, joined, Stops}
 use Rattle.ud_tree.specs.Statuses.{tree_status}
@@ -153,15 +153,15 @@ pub record DoesAll (args : Arguments) (failed : Bool) (old : List Call) (files :
   pub results : List FileResult
   pub each : EachFile (DoesOne args) old (names_of done) new results
 
--- `ShowsAll args results is_lost shown`: what is shown for each file comes first, and then a list.
--- If names are listed, it is the table of the names of all files, after their conditions whose
--- names can't all be listed. Else, if mentions are listed, it is the list of the mentions in all
--- outputs. This list is empty if no option names a symbol. Unless `is_lost`, nothing is lost of any
--- file.
-pub record ShowsAll (args : Arguments) (results : List FileResult) (is_lost : Bool)
-    (shown : List ℕ) : Type 0 where
+-- `ShowsAll args results others is_lost shown`: what is shown for each file comes first, then a
+-- list, and then the lines of the files `others` of other names. If names are listed, the list is
+-- the table of the names of all files, after their conditions whose names can't all be listed.
+-- Else, if mentions are listed, it is the list of the mentions in all outputs. This list is empty
+-- if no option names a symbol. Unless `is_lost`, nothing is lost of any file.
+pub record ShowsAll (args : Arguments) (results : List FileResult) (others : List Found)
+    (is_lost : Bool) (shown : List ℕ) : Type 0 where
   pub listed : List ℕ
-  pub shown_is : shown ≡ shown_of results ++ listed
+  pub shown_is : shown ≡ shown_of results ++ listed ++ others_list others
   pub is_wanted : ¬ (args.task ≡ Names) → args.list_remaining ≡ false → listed ≡ []
   pub table : args.task ≡ Names → args.list_remaining ≡ false → is_lost ≡ false →
       Tabulates (names_in (listed_of results).names) (listed_of results).hidden_list listed
@@ -235,7 +235,7 @@ pub record Ends (args : Arguments) (in_walk : ℕ) (old : List Call) (files : Li
   pub failed : Bool
   pub stays_failed : failed ≡ true → ending.streams.failed ≡ true
   pub seeks : SeeksOthers args failed files mid new is_lost tally.others
-  pub shows : ShowsAll args does.results is_lost ending.shown
+  pub shows : ShowsAll args does.results tally.others.named.items is_lost ending.shown
   pub totals : Totals args does.results is_lost tally
   pub has_status : HasStatus args in_walk does.results is_lost tally.faults ending
   pub tells : TellsAll args does.results is_lost tally ending

@@ -6,9 +6,9 @@
 ghost use Rattle.std.specs.Prelude.{◌≡◌, ◌++◌, false, decimal};
 ghost use Rattle.ud_tree.specs.Reports.{Says};
 ghost use Rattle.ud_tree.specs.Summaries.{changes_line, summary};
-ghost use Rattle.ud_tree.specs.Summaries.{edited_line, hidden_text, plural, remaining_line};
+ghost use Rattle.ud_tree.specs.Summaries.{edited_line, hint, plural, remaining_line};
 ghost use Rattle.ud_tree.specs.Runs.{names_of};
-ghost use Rattle.ud_tree.specs.Summaries.{removed_line, defined_line, defined_text, line_of};
+ghost use Rattle.ud_tree.specs.Summaries.{removed_line, defined_line, line_of};
 ghost use Rattle.ud_tree.specs.Summaries.{others_line, still_unnamed, unnamed_lines};
 ghost use Rattle.ud_tree.specs.Summaries.{unsearched_line};
 ghost use Rattle.ud_tree.specs.Writing.{TellsEnd};
@@ -102,13 +102,19 @@ fn report_listed<E: Write>(lists_hidden: bool, report: &mut Report<E>, processed
     let listed = first.format(count).as_bytes();
     let faulty = second.format(processed.faults).as_bytes();
     let unlisted = third.format(processed.hidden).as_bytes();
+    let text = plural(
+        processed.hidden,
+        b" condition could not be listed in full",
+        b" conditions could not be listed in full",
+    );
     report.line(&[
         listed,
         plural(count, b" file listed, ", b" files listed, "),
         faulty,
         b" faulty; ",
         unlisted,
-        hidden_text(lists_hidden, processed.hidden),
+        text,
+        hint(lists_hidden, processed.hidden),
     ]);
 }
 
@@ -119,23 +125,14 @@ fn plural<'a>(count: usize, one: &'a [u8], many: &'a [u8]) -> &'a [u8]
     if count == 1 { one } else { many }
 }
 
-/// Returns what follows the number of conditions that couldn't be listed in full. Unless they are
-/// `listed`, it names the option that lists them.
-fn hidden_text(listed: bool, count: usize) -> &'static [u8]
-    ensures { result.now ≡ hidden_text listed count }
+/// Returns the option that lists what was counted, unless there is none or it is `listed`.
+fn hint(listed: bool, count: usize) -> &'static [u8]
+    ensures { result.now ≡ hint listed count }
 {
     if count == 0 || listed {
-        plural(
-            count,
-            b" condition could not be listed in full",
-            b" conditions could not be listed in full",
-        )
+        b""
     } else {
-        plural(
-            count,
-            b" condition could not be listed in full; -r lists it",
-            b" conditions could not be listed in full; -r lists them",
-        )
+        plural(count, b"; -r lists it", b"; -r lists them")
     }
 }
 
@@ -187,7 +184,7 @@ fn report_remaining<E: Write>(arguments: &Arguments, report: &mut Report<E>)
     if count == 0 {
         return;
     }
-    report_number(report, count, text, b"; -r lists them");
+    report_number(report, count, text, hint(false, count));
 }
 
 /// Writes how many lines define a symbol, if any.
@@ -199,32 +196,12 @@ fn report_defined<E: Write>(arguments: &Arguments, report: &mut Report<E>)
     if count == 0 {
         return;
     }
-    report_number(
-        report,
+    let text = plural(
         count,
-        defined_text(arguments.list_remaining, count),
-        b"",
+        b" line of the source defines a symbol",
+        b" lines of the source define a symbol",
     );
-}
-
-/// Returns what follows the number of lines that define a symbol. Unless they are `listed`, it
-/// names the option that lists them.
-fn defined_text(listed: bool, count: usize) -> &'static [u8]
-    ensures { result.now ≡ defined_text listed count }
-{
-    if listed {
-        plural(
-            count,
-            b" line of the source defines a symbol",
-            b" lines of the source define a symbol",
-        )
-    } else {
-        plural(
-            count,
-            b" line of the source defines a symbol; -r lists it",
-            b" lines of the source define a symbol; -r lists them",
-        )
-    }
+    report_number(report, count, text, hint(arguments.list_remaining, count));
 }
 
 /// Writes the lines of the symbols that no condition names, unless there are faults: a file that

@@ -31,8 +31,8 @@ pub fn law_run_reads()
 
 /// A run that shows what would change writes the diffs of the files that would change, in the order
 /// of the files, or of the first ones if the output fails. Each diff turns the bytes read into the
-/// whole output for them, and back. Then come the conditions that still name a symbol, if they are
-/// to be listed.
+/// whole output for them, and back. Then come the conditions that still name a symbol and the files
+/// of other names that name one, if they are to be listed.
 pub fn law_run_shows()
     ensures { (o : TextOptions) (run : Run) → IsRun run → IsPlanned run.args.plan o →
         run.args.task ≡ Diff → ShowsDiffs o run }

@@ -1,9 +1,9 @@
 //! The files of other names than those of a run: a symbol may stand in them, too.
 //!
 //! Once its own files are processed, a run that lists what remains walks over its paths again. It
-//! takes the files of all names, and searches those that aren't its own. It changes none of them. A
-//! file that isn't text names no symbol. A text that can't be searched or read is counted, since it
-//! may name one.
+//! takes the files of all names, and searches those that aren't its own. It changes none, and lists
+//! those that name a symbol. A file that isn't text names none. A text that can't be searched or
+//! read is counted, since it may name one.
 
 ghost use Rattle.std.specs.Prelude.{◌≡◌, List, [], ◌∷◌, map, string_bytes, IfOk, OnOk};
 ghost use Rattle.ud_model.specs.conditions.Table.{Argument};
@@ -12,7 +12,8 @@ ghost use Rattle.ud_replace.specs.Moments.{EachCall};
 ghost use Rattle.ud_tree.specs.declared.walk.Found.{Found};
 ghost use Rattle.ud_tree.specs.Others.{AddsOther, AreNone, AreOthers, FindsOthers, LooksAt};
 ghost use Rattle.ud_tree.specs.Others.{any_name, is_among, names_symbol, ReadsOthers};
-ghost use Rattle.ud_tree.specs.Others.{seeks_others, without_mark};
+ghost use Rattle.ud_tree.specs.Others.{others_list, seeks_others, without_mark};
+ghost use Rattle.ud_io.specs.Streams.{Sends, stream_of};
 ghost use Rattle.ud_tree.specs.TreeMoments.{TouchesNothing};
 ghost use Rattle.ud_tree.specs.Walks.{IsBefore};
 ghost use Rattle.std.specs.List.{AllPairs};
@@ -25,10 +26,13 @@ use crate::tree::Tree;
 use crate::walk::{Found, Walk};
 use std::alloc::{AllocError, Global};
 use std::io::Write;
-use ud_io::Watched;
+use ud_io::{Watched, send_parts};
 use ud_model::Mode;
 use ud_passes::{Listing, Remaining};
 use ud_replace::Sample;
+
+/// The text after the path of a file of another name that names a symbol.
+const OTHER: &[u8] = b": is not processed, and names a symbol\n";
 
 /// The byte order mark of UTF-8.
 const MARK: &[u8] = b"\xef\xbb\xbf";
@@ -216,6 +220,17 @@ fn others_of<T: Tree>(job: &Job<'_>, tree: &mut T, files: &[Found]) -> Result<Ot
     let found = walk.finish()?;
     let others = read_others(job, tree, files, found)?;
     Ok(others)
+}
+
+/// Writes a line for each of these files of other names, which name a symbol.
+pub(crate) fn write_others<W: Write>(out: &mut Watched<W>, others: &[Found])
+    ensures { Sends (stream_of W.contents out.old) (stream_of W.contents out.new)
+        (others_list others.now) }
+{
+    for found in others {
+        let line = [found.path.as_bytes(), OTHER];
+        send_parts(out, &line);
+    }
 }
 
 /// Returns whether the run looks for files of other names: not once its output has failed.

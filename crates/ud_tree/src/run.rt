@@ -15,7 +15,7 @@ use crate::arguments::{Arguments, Task};
 use crate::find_files::{Walked, find_files};
 use crate::job::Job;
 use crate::last_lines::{Processed, report_end};
-use crate::other_files::find_others;
+use crate::other_files::{find_others, write_others};
 use crate::process_files::{Session, process_files};
 use crate::report::Report;
 use crate::send::flush;
@@ -89,6 +89,7 @@ fn process_all<T: Tree, W: Write, E: Write>(
     let Session { mut report, names } = session;
     let others = find_others(job, tree, files, out, &mut report);
     let list_fault = write_lists(job, out, &mut report, &names);
+    write_others(out, others.named.as_slice());
     let out_fault = finish_output(out, &mut report);
     let faults = walked
         .faults

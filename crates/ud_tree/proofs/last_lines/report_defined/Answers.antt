@@ -1,8 +1,8 @@
 -- By whether a line defines a symbol.
-use Rattle.std.proofs.lemmas.Grind.{common_steps}
 use Rattle.std.proofs.Common.{sym, ap, ◌∙◌, arith}
 use Rattle.ud_tree.specs.Summaries.{defined_line}
 use Rattle.ud_tree.proofs.ReportLemmas.{says_none, says_same}
+use Rattle.ud_tree.proofs.SummaryLemmas.{defined_told}
 use Rattle.ud_tree.proofs.last_lines.report_defined.Goals as goal
 
 pub returns-then-count-eq0 : goal.returns-then-count-eq0
@@ -11,5 +11,5 @@ returns-then-count-eq0 g c = λ hidden.
 
 pub returns : goal.returns
 returns g c = λ hidden.
-    says_same ((grind (arith, common_steps, c.if-count-eq0.false, c.defined_text.ensures))
+    says_same (defined_told c.args.arguments.now.list_remaining _ _ _ c.if-count-eq0.false c.plural-text.ensures c.hint.ensures
     ∙ ap (defined_line c.args.arguments.now.list_remaining) c.defined-count.ensures) c.report_number.ensures

@@ -1,8 +1,8 @@
 use Rattle.std.proofs.Common.{List, Bool, ap, ◌∙◌}
-use Rattle.ud_passes.specs.remaining.RemainingLists.{RemainingState}
 use Rattle.ud_tree.specs.Runs.{names_of}
-use Rattle.ud_tree.specs.Summaries.{defined_line, others_line, remaining_line, still_unnamed, unnamed_lines}
 use Rattle.ud_tree.specs.declared.walk.Found.{Found}
+use Rattle.ud_passes.specs.remaining.RemainingLists.{RemainingState}
+use Rattle.ud_tree.specs.Summaries.{defined_line, others_line, remaining_line, still_unnamed, unnamed_lines}
 use Rattle.ud_tree.proofs.ReportLemmas.{says_same, says_then}
 use Rattle.ud_tree.proofs.SummaryLemmas.{ends_quiet, ends_told}
 use Rattle.ud_tree.proofs.last_lines.report_end.Goals as goal

@@ -16,6 +16,6 @@ returns-then-count-eq0 g c = λ hidden.
 
 pub returns : goal.returns
 returns g c = λ hidden.
-    says_same (remaining_told c.args.arguments.now.list_remaining _ _ c.if-arguments.false c.if-count-eq0.false
-    c.plural-text.ensures ∙ ap (remaining_line c.args.arguments.now.list_remaining) c.remaining-count.ensures)
+    says_same (remaining_told c.args.arguments.now.list_remaining _ _ _ c.if-arguments.false c.if-count-eq0.false
+    c.plural-text.ensures c.hint.ensures ∙ ap (remaining_line c.args.arguments.now.list_remaining) c.remaining-count.ensures)
     c.report_number-2.ensures
