@@ -85,23 +85,7 @@ const LONG_TEXTS: &[(usize, &[u8], &[u8], usize)] = &[
     (69_996, b"x /*\n#if A || X\n*/\n#if A || X\n", b"x /*\n#if A || X\n*/\n#if X\n", 1),
 ];
 
-/// Appends the rest of a text. Returns how many conditions were edited.
-fn append_rest(
-    rt: &(impl Abort + AllocGlobal),
-    args: &str,
-    text: &[u8],
-    out: &mut Vec<u8>,
-) -> Result<usize, AllocError> {
-    let plan = planned(rt, rt.alloc(), args)?;
-    prune(text, plan.symbols(), rules_of(&plan), out)
-}
-
-/// Compares the rest of a text after other bytes.
-fn check_rest(rt: &impl Abort, args: &str, out: &[u8], left: &[u8]) {
-    assert_eq!(rt; out.strip_prefix(b">"), Some(left), "under {args}");
-}
-
-/// Compares the rest of a text after other bytes, and the number of edited conditions.
+/// Compares the rest of a text, and the number of edited conditions.
 fn check(
     rt: &(impl Abort + AllocGlobal),
     args: &str,
@@ -109,10 +93,10 @@ fn check(
     left: &[u8],
     count: usize,
 ) -> Result<(), AllocError> {
-    let mut out = Vec::from_slice(rt.alloc(), b">")?;
-    let edited = append_rest(rt, args, text, &mut out)?;
-    check_rest(rt, args, out.as_slice(), left);
-    assert_eq!(rt; edited, count, "under {args}");
+    let plan = planned(rt, rt.alloc(), args)?;
+    let pruned = prune(rt.alloc(), text, plan.symbols(), rules_of(&plan))?;
+    assert_eq!(rt; pruned.text.as_slice(), left, "under {args}");
+    assert_eq!(rt; pruned.edited, count, "under {args}");
     Ok(())
 }
 

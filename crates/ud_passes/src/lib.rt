@@ -27,7 +27,7 @@ mod walk;
 pub use diff::{EDITED, SAME, unified_diff};
 pub use folding::{fold, restore};
 pub use names::Names;
-pub use pruning::{law_pruned_text, prune};
+pub use pruning::{Pruned, law_pruned_text, prune};
 pub use remaining::{Listing, Remaining};
 pub use squeezing::{Squeezed, squeeze};
 pub use untouched::is_untouched;

@@ -19,4 +19,4 @@ mod tokens;
 
 pub use laws::law_pruned_text;
 pub(crate) use lines::{LineEditor, has_quote};
-pub use texts::prune;
+pub use texts::{Pruned, prune};

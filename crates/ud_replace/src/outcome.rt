@@ -246,13 +246,11 @@ pub fn may_fold(settings: Settings) -> bool
 pub fn folded(alloc: Global, text: &[u8]) -> Result<Option<Vec<u8>>, AllocError>
     ensures { IfOk result (FoldsInto text.now) }
 {
-    let mut lines = Vec::new(alloc);
-    fold(text, &mut lines)?;
+    let lines = fold(alloc, text)?;
     if lines.as_slice() == text {
         return Ok(None);
     }
-    let mut back = Vec::new(alloc);
-    restore(lines.as_slice(), &mut back)?;
+    let back = restore(alloc, lines.as_slice())?;
     if back.as_slice() != text {
         return Ok(None);
     }
@@ -272,10 +270,8 @@ fn restored_outcome(
     ensures { IfOk result (RestoresTo lines.now ran) }
 {
     let output = ran.output_for(lines);
-    let mut back = Vec::new(alloc);
-    restore(output, &mut back)?;
-    let mut again = Vec::new(alloc);
-    fold(back.as_slice(), &mut again)?;
+    let back = restore(alloc, output)?;
+    let again = fold(alloc, back.as_slice())?;
     if again.as_slice() != output {
         return Ok(None);
     }
@@ -363,14 +359,13 @@ fn pruned(
             edited: 0,
         });
     }
-    let mut left = Vec::new(alloc);
     let rules = Rules::of(plan.run.settings());
-    let edited = prune(output.as_slice(), plan.run.symbols(), rules, &mut left)?;
+    let left = prune(alloc, output.as_slice(), plan.run.symbols(), rules)?;
     Ok(Outcome {
-        output: Some(left),
+        output: Some(left.text),
         marks,
-        differs: differs || edited > 0,
-        edited,
+        differs: differs || left.edited > 0,
+        edited: left.edited,
     })
 }
 

@@ -115,11 +115,10 @@ fn prune_by_plan(alloc: Global, plan: &Plan, text: &[u8]) -> Result<Pruned, Prun
     ensures err { IfErr result (λ e. e ≡ PruneFault.OutOfMemory) }
 {
     let rules = Rules::of(plan.settings());
-    let mut left = Vec::new(alloc);
-    match prune(text, plan.symbols(), rules, &mut left) {
-        Ok(count) => Ok(Pruned {
-            text: left,
-            edited: count != 0,
+    match prune(alloc, text, plan.symbols(), rules) {
+        Ok(left) => Ok(Pruned {
+            text: left.text,
+            edited: left.edited != 0,
         }),
         Err(_) => Err(PruneFault::OutOfMemory),
     }

@@ -8,7 +8,6 @@ ghost use Rattle.ud_model.specs.aids.LineViews.{as_line, as_scan};
 ghost use Rattle.ud_model.specs.sections.Directives.{content_of};
 ghost use Rattle.ud_simplified.specs.FoldedTexts as spec;
 ghost use Rattle.ud_simplified.specs.FoldedTexts.{folded_bytes};
-ghost use Rattle.ud_passes.specs.Passes.{AppendsSome};
 ghost use Rattle.ud_passes.specs.folding.LogicalLines.{begins, plain_lines, c_reading, IsGroup};
 ghost use Rattle.ud_passes.specs.folding.LogicalLines.{BeginsLine, AddsLine, IsLast, IsLogical};
 ghost use Rattle.ud_passes.specs.folding.LogicalLines.{HasItsSplice};
@@ -87,8 +86,7 @@ fn masked_break(last: &Last<'_>) -> &'static [u8]
 /// # Errors
 /// Fails if memory runs out.
 pub(crate) fn append_line(line: &Line<'_>, out: &mut Vec<u8>) -> Result<(), AllocError>
-    ensures grows { AppendsSome out.old.items out.new.items }
-    ensures bytes { OnOk result (out.new.items ≡ out.old.items ++ text_of (as_line line.now)) }
+    ensures { OnOk result (out.new.items ≡ out.old.items ++ text_of (as_line line.now)) }
 {
     out.extend_from_slice(line.body)?;
     out.extend_from_slice(line.ending)
@@ -150,8 +148,7 @@ impl LogicalLine {
     /// # Errors
     /// Fails if memory runs out.
     fn end(&mut self, last: &Last<'_>, out: &mut Vec<u8>) -> Result<(), AllocError>
-        ensures grows { AppendsSome out.old.items out.new.items }
-        ensures bytes { OnOk result ((group : List Reading) → IsLogical self.old last.now group →
+        ensures { OnOk result ((group : List Reading) → IsLogical self.old last.now group →
             out.new.items ≡ out.old.items ++ folded_bytes group) }
     {
         let line = last.line;
@@ -176,8 +173,7 @@ impl LogicalLine {
         begun: Option<Last<'_>>,
         out: &mut Vec<u8>,
     ) -> Result<(), AllocError>
-        ensures grows { AppendsSome out.old.items out.new.items }
-        ensures bytes { OnOk result ((group : List Reading) → IsGroup self.now begun.entry group →
+        ensures { OnOk result ((group : List Reading) → IsGroup self.now begun.entry group →
             out.new.items ≡ out.old.items ++ plain_lines group) }
     {
         if begun.is_some() {
@@ -195,8 +191,7 @@ impl LogicalLine {
         begun: Option<Last<'_>>,
         out: &mut Vec<u8>,
     ) -> Result<(), AllocError>
-        ensures grows { AppendsSome out.old.items out.new.items }
-        ensures bytes { OnOk result ((group : List Reading) → IsGroup self.old begun.entry group →
+        ensures { OnOk result ((group : List Reading) → IsGroup self.old begun.entry group →
             out.new.items ≡ out.old.items ++ rest_from group []) }
     {
         match begun {
@@ -216,8 +211,7 @@ impl LogicalLine {
         out: &mut Vec<u8>,
     ) -> Result<Option<Last<'t>>, AllocError>
         requires one_line { NoNewline line.now.body.now }
-        ensures grows { AppendsSome out.old.items out.new.items }
-        ensures taken { IfOk result (λ b. (n : ℕ) → HasItsSplice line.now scan.now →
+        ensures { IfOk result (λ b. (n : ℕ) → HasItsSplice line.now scan.now →
             FoldsReading (c_reading line.now scan.now n) [] out.old.items self.new b
             out.new.items) }
     {
@@ -241,8 +235,7 @@ impl LogicalLine {
         out: &mut Vec<u8>,
     ) -> Result<Option<Last<'t>>, AllocError>
         requires one_line { NoNewline line.now.body.now }
-        ensures grows { AppendsSome out.old.items out.new.items }
-        ensures taken { IfOk result (λ b. FoldsLine line.now scan.now self.old (Some last.now)
+        ensures { IfOk result (λ b. FoldsLine line.now scan.now self.old (Some last.now)
             out.old.items self.new b out.new.items) }
     {
         if line.ending != last.line.ending {
@@ -270,8 +263,7 @@ impl LogicalLine {
         out: &mut Vec<u8>,
     ) -> Result<Option<Last<'t>>, AllocError>
         requires one_line { NoNewline line.now.body.now }
-        ensures grows { AppendsSome out.old.items out.new.items }
-        ensures taken { IfOk result (λ b. FoldsLine line.now scan.now self.old begun.entry
+        ensures { IfOk result (λ b. FoldsLine line.now scan.now self.old begun.entry
             out.old.items self.new b out.new.items) }
     {
         match begun {

@@ -1,19 +1,17 @@
 //! The way back from a folded text.
 
 ghost use Rattle.std.specs.Prelude.{◌≡◌, ◌≤◌, ◌<◌, ◌∷◌, ◌++◌, ℕ, List, [], length, IfOk, OnOk};
-ghost use Rattle.std.specs.Prelude.{OnErr};
 ghost use Rattle.ud_model.specs.text.Lines.{NoNewline, text_of};
 ghost use Rattle.ud_model.specs.aids.LineViews.{as_line};
 ghost use Rattle.ud_simplified.specs.FoldedTexts.{restored_text, restored_line, restored_body};
 ghost use Rattle.ud_simplified.specs.FoldedTexts.{restored_byte};
 ghost use Rattle.ud_model.specs.declared.limits.TheConstants.{LINE_BYTES};
-ghost use Rattle.ud_passes.specs.Passes.{AppendsSome};
 ghost use Rattle.ud_passes.specs.folding.Folding.{Restored};
 
 use crate::folding::logical::append_line;
 use crate::folding::shown::{VERTICAL_TAB, has_tab};
 use crate::walk::{Stretch, Walk};
-use std::alloc::AllocError;
+use std::alloc::{AllocError, Global};
 use ud_model::{Line, Mode};
 use ud_text::Scanner;
 
@@ -22,8 +20,7 @@ use ud_text::Scanner;
 /// # Errors
 /// Fails if memory runs out.
 fn append_byte(ending: &[u8], byte: u8, masked: u8, out: &mut Vec<u8>) -> Result<(), AllocError>
-    ensures grows { AppendsSome out.old.items out.new.items }
-    ensures bytes { OnOk result
+    ensures { OnOk result
         (out.new.items ≡ out.old.items ++ restored_byte ending.now byte masked) }
 {
     if byte != VERTICAL_TAB {
@@ -47,8 +44,7 @@ fn append_body(
     out: &mut Vec<u8>,
 ) -> Result<(), AllocError>
     requires masked { length masked.now ≤ length body.now }
-    ensures grows { AppendsSome out.old.items out.new.items }
-    ensures bytes { OnOk result
+    ensures { OnOk result
         (out.new.items ≡ out.old.items ++ restored_body ending.now body.now masked.now) }
 {
     for i in 0..masked.len() {
@@ -65,8 +61,7 @@ fn append_body(
 pub(crate) fn append_restored_line(line: &Line<'_>, out: &mut Vec<u8>) -> Result<(), AllocError>
     requires fits { length (text_of (as_line line.now)) ≤ LINE_BYTES }
     requires one_line { NoNewline line.now.body.now }
-    ensures grows { AppendsSome out.old.items out.new.items }
-    ensures bytes { OnOk result
+    ensures { OnOk result
         (out.new.items ≡ out.old.items ++ restored_line (as_line line.now)) }
 {
     if !has_tab(line.body) {
@@ -86,7 +81,6 @@ pub(crate) fn append_restored_line(line: &Line<'_>, out: &mut Vec<u8>) -> Result
 /// Fails if memory runs out.
 fn step(walk: &mut Walk<'_>, out: &mut Vec<u8>) -> Result<(), AllocError>
     requires some { 0 < length walk.old.rest.now }
-    ensures grows { AppendsSome out.old.items out.new.items }
     ensures shorter { length walk.new.rest.now < length walk.old.rest.now }
     ensures restored { OnOk result ((text start : List ℕ) →
         Restored text start walk.old out.old.items →
@@ -106,10 +100,9 @@ fn step(walk: &mut Walk<'_>, out: &mut Vec<u8>) -> Result<(), AllocError>
 /// Appends a restored text, as `restore` does.
 ///
 /// # Errors
-/// Fails if memory runs out. `out` may then have more bytes.
+/// Fails if memory runs out.
 fn append_restored(text: &[u8], out: &mut Vec<u8>) -> Result<(), AllocError>
-    ensures grows { AppendsSome out.old.items out.new.items }
-    ensures restored { OnOk result (out.new.items ≡ out.old.items ++ restored_text text.now) }
+    ensures { OnOk result (out.new.items ≡ out.old.items ++ restored_text text.now) }
 {
     let mut walk = Walk::new(*out.allocator(), text);
     'lines: while !walk.is_at_end() {
@@ -118,24 +111,18 @@ fn append_restored(text: &[u8], out: &mut Vec<u8>) -> Result<(), AllocError>
     Ok(())
 }
 
-/// Appends a folded text to `out`, with newlines in place of its vertical tabs.
+/// Returns a folded text with newlines in place of its vertical tabs.
 ///
 /// `text` may have any length and any bytes. A vertical tab outside comments becomes a splice: a
 /// backslash and the line's ending. One in a comment becomes the ending. A line over `LINE_BYTES`
-/// stays. `out` may have any bytes, which stay.
+/// stays.
 ///
 /// # Errors
-/// Fails if memory runs out. `out` is then as before.
-pub fn restore(text: &[u8], out: &mut Vec<u8>) -> Result<(), AllocError>
-    ensures restored { OnOk result (out.new.items ≡ out.old.items ++ restored_text text.now) }
-    ensures unchanged { OnErr result (out.new.items ≡ out.old.items) }
+/// Fails if memory runs out.
+pub fn restore(alloc: Global, text: &[u8]) -> Result<Vec<u8>, AllocError>
+    ensures { IfOk result (λ restored. restored.items ≡ restored_text text.now) }
 {
-    let before = out.len();
-    match append_restored(text, out) {
-        Ok(()) => Ok(()),
-        Err(error) => {
-            out.truncate(before);
-            Err(error)
-        }
-    }
+    let mut out = Vec::new(alloc);
+    append_restored(text, &mut out)?;
+    Ok(out)
 }

@@ -1,7 +1,7 @@
 //! Folds a text, line by line.
 
 ghost use Rattle.std.specs.Prelude.{◌≡◌, ◌≤◌, ◌<◌, ◌∷◌, ◌++◌, ℕ, List, [], length, true, IfOk};
-ghost use Rattle.std.specs.Prelude.{OnOk, OnErr, is_some};
+ghost use Rattle.std.specs.Prelude.{OnOk, is_some};
 ghost use Rattle.ud_model.specs.text.Lines.{NoNewline, text_of};
 ghost use Rattle.ud_model.specs.text.Scans.{Reading};
 ghost use Rattle.ud_model.specs.text.Scanning.{next_reading};
@@ -12,13 +12,12 @@ ghost use Rattle.ud_model.specs.declared.kind.Mode.{Mode};
 ghost use Rattle.ud_model.specs.declared.kind.Mode.TheVariants.{C};
 ghost use Rattle.ud_model.specs.declared.limits.TheConstants.{LINE_BYTES};
 ghost use Rattle.ud_text.specs.scan.ScannerState.{ScannerRepresents};
-ghost use Rattle.ud_passes.specs.Passes.{AppendsSome};
 ghost use Rattle.ud_passes.specs.folding.Folding.{FoldsNext, Folded};
 
 use crate::folding::logical::{Last, LogicalLine, append_line};
 use crate::folding::shown::has_tab;
 use crate::walk::{LineScanner, Stretch, Walk};
-use std::alloc::AllocError;
+use std::alloc::{AllocError, Global};
 use ud_model::{Line, Mode};
 
 /// Reads a line, and takes it after the pending lines.
@@ -34,7 +33,6 @@ fn take<'t>(
 ) -> Result<Option<Last<'t>>, AllocError>
     requires fits { length (text_of (as_line line.now)) ≤ LINE_BYTES }
     requires one_line { NoNewline line.now.body.now }
-    ensures grows { AppendsSome out.old.items out.new.items }
     ensures represents { OnOk result ((before : List Reading) →
         ScannerRepresents scanner.old before → ScannerRepresents scanner.new
         (before ++ next_reading before Mode.C (as_line line.now) ∷ [])) }
@@ -66,7 +64,6 @@ fn step<'t>(
     out: &mut Vec<u8>,
 ) -> Result<Option<Last<'t>>, AllocError>
     requires some { 0 < length walk.old.rest.now }
-    ensures grows { AppendsSome out.old.items out.new.items }
     ensures shorter { length walk.new.rest.now < length walk.old.rest.now }
     ensures folded { IfOk result (λ b. (text start : List ℕ) →
         Folded text start logical.old begun.entry walk.old out.old.items →
@@ -92,10 +89,9 @@ fn step<'t>(
 /// Appends a text without a vertical tab folded, as `fold` does.
 ///
 /// # Errors
-/// Fails if memory runs out. `out` may then have more bytes.
+/// Fails if memory runs out.
 fn append_lines(text: &[u8], out: &mut Vec<u8>) -> Result<(), AllocError>
-    ensures grows { AppendsSome out.old.items out.new.items }
-    ensures folded { OnOk result
+    ensures { OnOk result
         (out.new.items ≡ out.old.items ++ folded_lines (read_as C text.now)) }
 {
     let alloc = *out.allocator();
@@ -109,40 +105,24 @@ fn append_lines(text: &[u8], out: &mut Vec<u8>) -> Result<(), AllocError>
     Ok(())
 }
 
-/// Appends a folded text, as `fold` does.
-///
-/// # Errors
-/// Fails if memory runs out. `out` may then have more bytes.
-fn append_folded(text: &[u8], out: &mut Vec<u8>) -> Result<(), AllocError>
-    ensures grows { AppendsSome out.old.items out.new.items }
-    ensures folded { OnOk result (out.new.items ≡ out.old.items ++ folded_text text.now) }
-{
-    if has_tab(text) {
-        return out.extend_from_slice(text);
-    }
-    append_lines(text, out)
-}
-
-/// Appends a text to `out`, with each conditional directive on one line.
+/// Returns a text with each conditional directive on one line.
 ///
 /// `text` may have any length and any bytes. A vertical tab replaces each newline that continues a
 /// directive. A directive that wouldn't be read like its lines stays, and so does a text that has a
-/// vertical tab. `out` may have any bytes, which stay. The text is read in C mode.
+/// vertical tab. The text is read in C mode.
 ///
 /// (C11 5.1.1.2, phases 2 and 3, and 6.10p5)
 ///
 /// # Errors
-/// Fails if memory runs out. `out` is then as before.
-pub fn fold(text: &[u8], out: &mut Vec<u8>) -> Result<(), AllocError>
-    ensures folded { OnOk result (out.new.items ≡ out.old.items ++ folded_text text.now) }
-    ensures unchanged { OnErr result (out.new.items ≡ out.old.items) }
+/// Fails if memory runs out.
+pub fn fold(alloc: Global, text: &[u8]) -> Result<Vec<u8>, AllocError>
+    ensures { IfOk result (λ folded. folded.items ≡ folded_text text.now) }
 {
-    let before = out.len();
-    match append_folded(text, out) {
-        Ok(()) => Ok(()),
-        Err(error) => {
-            out.truncate(before);
-            Err(error)
-        }
+    let mut out = Vec::new(alloc);
+    if has_tab(text) {
+        out.extend_from_slice(text)?;
+    } else {
+        append_lines(text, &mut out)?;
     }
+    Ok(out)
 }

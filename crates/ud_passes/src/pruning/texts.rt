@@ -1,7 +1,7 @@
 //! The rest of a text, line by line.
 
 ghost use Rattle.std.specs.Prelude.{◌≡◌, ◌+◌, ◌≤◌, ◌<◌, ◌^◌, ◌∷◌, ◌++◌, List, [], length, IfOk};
-ghost use Rattle.std.specs.Prelude.{OnOk, OnErr, if◌then◌else◌};
+ghost use Rattle.std.specs.Prelude.{OnOk, if◌then◌else◌};
 ghost use Rattle.ud_model.specs.text.Lines.{NoNewline, text_of};
 ghost use Rattle.ud_model.specs.text.Scans.{Reading};
 ghost use Rattle.ud_model.specs.text.Scanning.{next_reading};
@@ -13,14 +13,22 @@ ghost use Rattle.ud_text.specs.scan.ScannerState.{ScannerRepresents};
 ghost use Rattle.ud_cond.specs.symbols.SymbolTable.{TableRepresents};
 ghost use Rattle.ud_cond.specs.CondViews.{as_rules};
 ghost use Rattle.ud_passes.specs.pruning.PrunedTexts.{pruned_text, edited_count};
-ghost use Rattle.ud_passes.specs.Passes.{AppendsSome};
 ghost use Rattle.ud_passes.specs.pruning.Passing.{PrunesNext, PrunesOn};
 
 use crate::pruning::lines::LineEditor;
 use crate::walk::{LineScanner, Stretch, Walk};
-use std::alloc::AllocError;
+use std::alloc::{AllocError, Global};
 use ud_cond::{Rules, Symbols};
 use ud_model::{Line, Mode};
+
+/// A text without the operands of its conditions that the symbols decide.
+#[derive(Drop)]
+pub struct Pruned {
+    /// The text.
+    pub text: Vec<u8>,
+    /// The number of conditions that were edited.
+    pub edited: usize,
+}
 
 /// Appends the bytes of an edited line, or of the line if it stays.
 ///
@@ -32,8 +40,7 @@ fn append_either(
     line: &Line<'_>,
     out: &mut Vec<u8>,
 ) -> Result<(), AllocError>
-    ensures grows { AppendsSome out.old.items out.new.items }
-    ensures bytes { OnOk result (out.new.items ≡ out.old.items ++
+    ensures { OnOk result (out.new.items ≡ out.old.items ++
         (if edited then bytes.now else text_of (as_line line.now))) }
 {
     if edited {
@@ -57,7 +64,6 @@ fn append_line(
 ) -> Result<bool, AllocError>
     requires fits { length (text_of (as_line line.now)) ≤ LINE_BYTES }
     requires one_line { NoNewline line.now.body.now }
-    ensures grows { AppendsSome out.old.items out.new.items }
     ensures represents { OnOk result ((before : List Reading) →
         ScannerRepresents scanner.old before → ScannerRepresents scanner.new
         (before ++ next_reading before Mode.C (as_line line.now) ∷ [])) }
@@ -93,7 +99,6 @@ fn step(
 ) -> Result<usize, AllocError>
     requires some { 0 < length walk.old.rest.now }
     requires room { count + length walk.old.rest.now < 2 ^ 64 }
-    ensures grows { AppendsSome out.old.items out.new.items }
     ensures shorter { length walk.new.rest.now < length walk.old.rest.now }
     ensures room { IfOk result (λ n.
         n + length walk.new.rest.now ≤ count + length walk.old.rest.now) }
@@ -126,8 +131,7 @@ fn append_pruned(
     rules: Rules,
     out: &mut Vec<u8>,
 ) -> Result<usize, AllocError>
-    ensures grows { AppendsSome out.old.items out.new.items }
-    ensures pruned { IfOk result (λ count. (calls : List Argument) →
+    ensures { IfOk result (λ count. (calls : List Argument) →
         TableRepresents symbols.now calls →
         (out.new.items ≡ out.old.items ++ pruned_text calls (as_rules rules) text.now) ×
         (count ≡ edited_count calls (as_rules rules) text.now)) }
@@ -142,35 +146,27 @@ fn append_pruned(
     Ok(count)
 }
 
-/// Appends a text to `out` without the operands of its conditions that the symbols decide. Returns
-/// how many conditions were edited.
+/// Returns a text without the operands of its conditions that the symbols decide.
 ///
 /// `text` may have any length and any bytes. A line over `LINE_BYTES` stays, and so does a
-/// condition that spans lines or isn't understood. Bytes are only removed. `out` may have any
-/// bytes, which stay. The text is read in C mode.
+/// condition that spans lines or isn't understood. Bytes are only removed. The text is read in C
+/// mode.
 ///
 /// (C11 6.5.13p3, 6.5.14p3, 6.10.1)
 ///
 /// # Errors
-/// Fails if memory runs out. `out` is then as before.
+/// Fails if memory runs out.
 pub fn prune(
+    alloc: Global,
     text: &[u8],
     symbols: &Symbols,
     rules: Rules,
-    out: &mut Vec<u8>,
-) -> Result<usize, AllocError>
-    ensures pruned { IfOk result (λ count. (calls : List Argument) →
-        TableRepresents symbols.now calls →
-        (out.new.items ≡ out.old.items ++ pruned_text calls (as_rules rules) text.now) ×
-        (count ≡ edited_count calls (as_rules rules) text.now)) }
-    ensures unchanged { OnErr result (out.new.items ≡ out.old.items) }
+) -> Result<Pruned, AllocError>
+    ensures { IfOk result (λ p. (calls : List Argument) → TableRepresents symbols.now calls →
+        (p.text.items ≡ pruned_text calls (as_rules rules) text.now) ×
+        (p.edited ≡ edited_count calls (as_rules rules) text.now)) }
 {
-    let before = out.len();
-    match append_pruned(text, symbols, rules, out) {
-        Ok(count) => Ok(count),
-        Err(error) => {
-            out.truncate(before);
-            Err(error)
-        }
-    }
+    let mut left = Vec::new(alloc);
+    let edited = append_pruned(text, symbols, rules, &mut left)?;
+    Ok(Pruned { text: left, edited })
 }

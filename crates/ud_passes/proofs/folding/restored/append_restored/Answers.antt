@@ -6,11 +6,8 @@ use Rattle.ud_passes.proofs.RestoreLemmas.{all_restored}
 use Rattle.ud_passes.proofs.folding.restored.append_restored.Goals as goal
 
 pub lines-init : goal.lines-init
-lines-init c = record {
-  grows = ([], sym (append-nil c.args.out.now.items));
-  restored = grind (arith, append-nil, c.new-walk.ensures.walked C);
-}
+lines-init c = grind (arith, append-nil, c.new-walk.ensures.walked C)
 
-pub returns-clause-restored : goal.returns-clause-restored
-returns-clause-restored c = all_restored c.args.text.now c.args.out.now.items c.lines.walk _ c.lines.invariant.restored
+pub returns : goal.returns
+returns c = all_restored c.args.text.now c.args.out.now.items c.lines.walk _ c.lines.invariant
     (nothing_left c.lines.walk.rest.now (sym c.is_at_end.ensures ∙ c.lines-test.false))

@@ -1,14 +1,10 @@
 -- The lines so far were restored.
 use Rattle.std.proofs.Common.{length}
-use Rattle.ud_passes.specs.Passes.{AppendsSome}
 use Rattle.ud_passes.specs.folding.Folding.{Restored}
 use Rattle.ud_passes.proofs.folding.restored.append_restored.Given as goal
 
 abbrev pub invariant-lines : goal.invariant-lines
-invariant-lines l = record {
-  grows : AppendsSome l.fn.out.items l.out.items;
-  restored : Restored l.text l.fn.out.items l.walk l.out.items;
-}
+invariant-lines l = Restored l.text l.fn.out.items l.walk l.out.items
 
 abbrev pub decreases-lines : goal.decreases-lines
 decreases-lines l = length l.walk.rest.now

@@ -9,14 +9,14 @@ use Rattle.ud_model.specs.declared.limits.TheConstants.{LINE_BYTES}
 use Rattle.ud_passes.proofs.RestoreLemmas.{without_tab}
 use Rattle.ud_passes.proofs.folding.restored.append_restored_line.Goals as goal
 
-pub returns-then-not-has_tab-clause-bytes : goal.returns-then-not-has_tab-clause-bytes
-returns-then-not-has_tab-clause-bytes c =
-    c.in_ok-append_line.ensures.bytes ∙ ap (λ (x : List ℕ). c.args.out.now.items ++ x) (sym (grind (arith, without_tab, sym c.has_tab.ensures ∙ c.if-not-has_tab.true)))
+pub returns-then-not-has_tab : goal.returns-then-not-has_tab
+returns-then-not-has_tab c =
+    c.in_ok-append_line.ensures ∙ ap (λ (x : List ℕ). c.args.out.now.items ++ x) (sym (grind (arith, without_tab, sym c.has_tab.ensures ∙ c.if-not-has_tab.true)))
 
-pub returns-clause-bytes : goal.returns-clause-bytes
-returns-clause-bytes c = let l : Line = as_line c.args.line.now in
+pub returns : goal.returns
+returns c = let l : Line = as_line c.args.line.now in
     let out : List ℕ = c.args.out.now.items in
-    c.in_ok-extend_from_slice.ensures.items ∙ ap (λ (x : List ℕ). x ++ l.ending) c.in_ok-append_body.ensures.bytes
+    c.in_ok-extend_from_slice.ensures.items ∙ ap (λ (x : List ℕ). x ++ l.ending) c.in_ok-append_body.ensures
     ∙ append_assoc out (restored_body l.ending l.body c.in_ok-scan.scan.masked.now) l.ending
     ∙ ap (λ (s : Scan). out ++ (restored_body l.ending l.body s.masked ++ l.ending)) (c.in_ok-scan.ensures.value [] c.growing-scanner.ensures)
     ∙ ap (λ (x : List ℕ). out ++ x) (sym (grind (arith, le-leb (length (text_of l)) LINE_BYTES c.requires.fits)))

@@ -23,7 +23,7 @@ returns-in_ok-append_line-in-TooLong-clause-folded c = λ text start s.
     let k : Line = as_line c.in-TooLong.line in
     line_folded text start c.args.logical.now c.args.begun c.args.walk.now c.args.out.now.items s c.args.logical.now c.next_within.new.self _ _ k n.1
     (long_taken (read_after C s.read k) c.args.out.now.items c.args.logical.now c.args.begun s.group _ n.0 s.is_group (if_some c.args.begun (λ h. joins_before-code (c_run_of s.read) k ∙ h) s.goes_on)
-    (c.in_ok-append_line-in-TooLong.ensures.bytes ∙ ap (λ (x : List ℕ). x ++ text_of k) (c.in_ok-give_up-in-TooLong.ensures.bytes s.group s.is_group)) c.args.logical.now)
+    (c.in_ok-append_line-in-TooLong.ensures ∙ ap (λ (x : List ℕ). x ++ text_of k) (c.in_ok-give_up-in-TooLong.ensures s.group s.is_group)) c.args.logical.now)
 
 pub returns-in_ok-last-in-Fitting-clause-folded : goal.returns-in_ok-last-in-Fitting-clause-folded
 returns-in_ok-last-in-Fitting-clause-folded c = λ text start s.

@@ -13,7 +13,7 @@ use Rattle.ud_passes.proofs.FoldLemmas.{is_spliced_by, if_some}
 use Rattle.ud_passes.proofs.folding.texts.take.Goals as goal
 
 pub returns-clause-taken : goal.returns-clause-taken
-returns-clause-taken c = if_ok c.take.result c.take.ensures.taken (λ b f before r n group i j.
+returns-clause-taken c = if_ok c.take.result c.take.ensures (λ b f before r n group i j.
     let l : Line = as_line c.args.line.now in
     let scan = c.in_ok-scan.ensures.value before r in
     subst (λ (s : Scan). FoldsReading (reading_at C l s n) group c.args.out.now.items c.take.new.self b c.take.new.out.items) scan

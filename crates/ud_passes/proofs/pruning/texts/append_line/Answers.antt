@@ -22,4 +22,4 @@ returns-clause-pruned c = λ calls h before r alone.
     let j : IsEditedTo c.in_ok-edited.edited (text_of (simplified_line calls rules (next_reading before C l))) l c.as_slice.result.now =
     subst (λ (s : Scan). IsEditedTo c.in_ok-edited.edited (text_of (simplified_line calls rules (c_reading l s))) l c.as_slice.result.now) scan
     (subst (λ (x : List ℕ). IsEditedTo c.in_ok-edited.edited (text_of (simplified_line calls rules (c_reading l (as_scan c.in_ok-scan.scan)))) l x) (sym c.as_slice.ensures.value) i) in
-    next_edited calls rules (next_reading before C l) c.in_ok-edited.edited c.as_slice.result.now c.args.out.now.items c.append_either.new.out.items (le-leb (length (text_of l)) LINE_BYTES c.requires.fits) j c.in_ok-append_either.ensures.bytes
+    next_edited calls rules (next_reading before C l) c.in_ok-edited.edited c.as_slice.result.now c.args.out.now.items c.append_either.new.out.items (le-leb (length (text_of l)) LINE_BYTES c.requires.fits) j c.in_ok-append_either.ensures

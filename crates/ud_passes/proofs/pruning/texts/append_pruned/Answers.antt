@@ -13,7 +13,6 @@ use Rattle.ud_passes.proofs.pruning.texts.append_pruned.Goals as goal
 
 pub loop-rules-init : goal.loop-rules-init
 loop-rules-init c = record {
-  grows = ([], sym (append-nil c.args.out.now.items));
   room = let e = ap (λ (x : List ℕ). length x) c.new-walk.ensures.rest in omega (arith, e);
   pruned = λ calls h. first_place calls (as_rules c.args.rules) c.args.text.now c.args.out.now.items c.new-walk.result (c.new-walk.ensures.walked C);
 }
@@ -23,16 +22,12 @@ loop-rules-preserved c = let i = c.loop-rules.invariant in
     let s = c.in_ok-count.ensures in
     let a = i.room in let b = s.room in
     record {
-      grows = (
-        i.grows.0 ++ s.grows.0,
-        s.grows.1 ∙ ap (λ (x : List ℕ). x ++ s.grows.0) i.grows.1 ∙ append_assoc c.args.out.now.items i.grows.0 s.grows.0,
-      );
       room = omega (arith, a, b);
       pruned = λ calls h. s.pruned calls h c.args.text.now c.args.out.now.items (i.pruned calls h);
     }
 
-pub returns-clause-pruned : goal.returns-clause-pruned
-returns-clause-pruned c = λ calls h.
+pub returns : goal.returns
+returns c = λ calls h.
     let p = c.loop-rules.invariant.pruned calls h in
     let all : p.read ≡ read_as C c.args.text.now = walk_ends C c.args.text.now p.read c.loop-rules.walk.rest.now c.loop-rules.walk.scanner p.walked
     (nothing_left c.loop-rules.walk.rest.now (sym c.is_at_end.ensures ∙ c.loop-rules-test.false)) in (

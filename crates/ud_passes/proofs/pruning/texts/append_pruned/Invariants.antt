@@ -3,13 +3,11 @@ use Rattle.std.proofs.Common.{◌≤◌, ◌+◌, List, length}
 use Rattle.ud_model.specs.conditions.Table.{Argument}
 use Rattle.ud_cond.specs.symbols.SymbolTable.{TableRepresents}
 use Rattle.ud_cond.specs.CondViews.{as_rules}
-use Rattle.ud_passes.specs.Passes.{AppendsSome}
 use Rattle.ud_passes.specs.pruning.Passing.{Pruned}
 use Rattle.ud_passes.proofs.pruning.texts.append_pruned.Given as goal
 
 abbrev pub invariant-loop-rules : goal.invariant-loop-rules
 invariant-loop-rules l = record {
-  grows : AppendsSome l.fn.out.items l.out.items;
   room : l.count + length l.walk.rest.now ≤ length l.text;
   pruned : (calls : List Argument) → TableRepresents l.symbols calls → Pruned calls (as_rules l.rules) l.text l.fn.out.items l.count l.walk l.out.items;
 }

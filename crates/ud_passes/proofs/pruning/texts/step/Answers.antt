@@ -13,7 +13,7 @@ returns-in_ok-extend_from_slice-in-Texts-clause-pruned c = λ calls h text start
 pub returns-in_ok-append_either-in-TooLong-clause-pruned : goal.returns-in_ok-append_either-in-TooLong-clause-pruned
 returns-in_ok-append_either-in-TooLong-clause-pruned c = λ calls h text start l.
     let n = c.in-TooLong.ensures.next text l.read l.walked in
-    long_more calls (as_rules c.args.rules) text start c.args.count c.args.walk.now c.args.out.now.items l c.next.new.self _ (as_line c.in-TooLong.line) n.1 n.0 c.in_ok-append_either-in-TooLong.ensures.bytes
+    long_more calls (as_rules c.args.rules) text start c.args.count c.args.walk.now c.args.out.now.items l c.next.new.self _ (as_line c.in-TooLong.line) n.1 n.0 c.in_ok-append_either-in-TooLong.ensures
 
 pub returns-in_ok-edited-in-Fitting-clause-pruned : goal.returns-in_ok-edited-in-Fitting-clause-pruned
 returns-in_ok-edited-in-Fitting-clause-pruned c = λ calls h text start l.

@@ -10,6 +10,6 @@ pub returns : goal.returns
 returns c = λ n group i e s.
     logical_more c.args.self.now _ c.args.last.now _ group (reading_at C (as_line c.args.line.now) (as_scan c.args.scan.now) n) c.kept_body.result.now c.masked_break.result.now i
     (last_is _ c.args.line.now c.args.scan.now n c.last_line.ensures s c.requires.one_line) e c.kept_body.ensures c.masked_break.ensures
-    c.in_ok-append_line.ensures.bytes
+    c.in_ok-append_line.ensures
     (c.in_ok-push.ensures.items ∙ ap (λ (x : List ℕ). x ++ 11 ∷ []) c.in_ok-extend_from_slice.ensures.items)
     (c.in_ok-extend_from_slice-3.ensures.items ∙ ap (λ (x : List ℕ). x ++ c.args.scan.now.masked.now) c.in_ok-extend_from_slice-2.ensures.items)

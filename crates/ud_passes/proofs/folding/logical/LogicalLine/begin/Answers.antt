@@ -10,6 +10,6 @@ use Rattle.ud_passes.proofs.folding.logical.LogicalLine.begin.Goals as goal
 pub returns : goal.returns
 returns c = λ n d s.
     logical_begins _ _ (reading_at C (as_line c.args.line.now) (as_scan c.args.scan.now) n) (last_is _ c.args.line.now c.args.scan.now n c.last_line.ensures s c.requires.one_line) d
-    (c.in_ok-append_line.ensures.bytes ∙ ap (λ (x : List ℕ). x ++ text_of (as_line c.args.line.now)) c.clear.ensures.items)
+    (c.in_ok-append_line.ensures ∙ ap (λ (x : List ℕ). x ++ text_of (as_line c.args.line.now)) c.clear.ensures.items)
     c.clear-2.ensures.items
     (c.in_ok-extend_from_slice.ensures.items ∙ ap (λ (x : List ℕ). x ++ c.args.scan.now.masked.now) c.clear-3.ensures.items)

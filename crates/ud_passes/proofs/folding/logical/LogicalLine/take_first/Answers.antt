@@ -6,11 +6,11 @@ use Rattle.ud_passes.specs.Walks.{reading_at}
 use Rattle.ud_passes.proofs.FoldLemmas.{takes_line, takes_begun, begins_parts}
 use Rattle.ud_passes.proofs.folding.logical.LogicalLine.take_first.Goals as goal
 
-pub returns-then-begins-clause-taken : goal.returns-then-begins-clause-taken
-returns-then-begins-clause-taken c = λ n s.
+pub returns-then-begins : goal.returns-then-begins
+returns-then-begins c = λ n s.
     let p = begins_parts _ _ _ (sym c.begins.ensures ∙ c.if-begins.true) in
     takes_begun (reading_at C (as_line c.args.line.now) (as_scan c.args.scan.now) n) c.args.out.now.items _ _ (c.in_ok-last.ensures n p.2 s) p.0 p.1
 
-pub returns-clause-taken : goal.returns-clause-taken
-returns-clause-taken c = λ n s.
-    takes_line (reading_at C (as_line c.args.line.now) (as_scan c.args.scan.now) n) c.args.out.now.items c.args.self.now _ c.in_ok-append_line.ensures.bytes (sym c.begins.ensures ∙ c.if-begins.false)
+pub returns : goal.returns
+returns c = λ n s.
+    takes_line (reading_at C (as_line c.args.line.now) (as_scan c.args.scan.now) n) c.args.out.now.items c.args.self.now _ c.in_ok-append_line.ensures (sym c.begins.ensures ∙ c.if-begins.false)

@@ -10,21 +10,21 @@ use Rattle.ud_passes.specs.Walks.{reading_at}
 use Rattle.ud_passes.proofs.FoldLemmas.{takes_stays, takes_more, takes_all, other_stays}
 use Rattle.ud_passes.proofs.folding.logical.LogicalLine.take_next.Goals as goal
 
-pub returns-then-ne-clause-taken : goal.returns-then-ne-clause-taken
-returns-then-ne-clause-taken c = λ n group i j s.
+pub returns-then-ne : goal.returns-then-ne
+returns-then-ne c = λ n group i j s.
     let r : Reading = reading_at C (as_line c.args.line.now) (as_scan c.args.scan.now) n in
     takes_stays r c.args.out.now.items c.args.self.now group i.begins j _
-    (c.in_ok-append_line.ensures.bytes ∙ ap (λ (x : List ℕ). x ++ text_of (as_line c.args.line.now)) (c.in_ok-extend_from_slice.ensures.items ∙ ap (λ (x : List ℕ). c.args.out.now.items ++ x) (c.as_slice.ensures.value ∙ i.plain_is)))
+    (c.in_ok-append_line.ensures ∙ ap (λ (x : List ℕ). x ++ text_of (as_line c.args.line.now)) (c.in_ok-extend_from_slice.ensures.items ∙ ap (λ (x : List ℕ). c.args.out.now.items ++ x) (c.as_slice.ensures.value ∙ i.plain_is)))
     (λ more. (grind (arith, other_stays, i, not-true _ (sym c.ne.ensures ∙ c.if-ne.true))))
 
-pub returns-then-scan-clause-taken : goal.returns-then-scan-clause-taken
-returns-then-scan-clause-taken c = λ n group i j s.
+pub returns-then-scan : goal.returns-then-scan
+returns-then-scan c = λ n group i j s.
     let r : Reading = reading_at C (as_line c.args.line.now) (as_scan c.args.scan.now) n in
     takes_more r c.args.out.now.items _ group i.begins j _
     (c.in_ok-next.ensures n group i ((bytes_eq-Decides r.line.ending c.args.last.now.line.ending.now).0 (not-false _ (sym c.ne.ensures ∙ c.if-ne.false))) s) c.if-scan.true
 
-pub returns-clause-taken : goal.returns-clause-taken
-returns-clause-taken c = λ n group i j s.
+pub returns : goal.returns
+returns c = λ n group i j s.
     let r : Reading = reading_at C (as_line c.args.line.now) (as_scan c.args.scan.now) n in
     takes_all r c.args.out.now.items _ group i.begins j _
-    (c.in_ok-end.ensures.bytes (group ++ r ∷ []) (c.in_ok-next.ensures n group i ((bytes_eq-Decides r.line.ending c.args.last.now.line.ending.now).0 (not-false _ (sym c.ne.ensures ∙ c.if-ne.false))) s)) c.if-scan.false
+    (c.in_ok-end.ensures (group ++ r ∷ []) (c.in_ok-next.ensures n group i ((bytes_eq-Decides r.line.ending c.args.last.now.line.ending.now).0 (not-false _ (sym c.ne.ensures ∙ c.if-ne.false))) s)) c.if-scan.false
