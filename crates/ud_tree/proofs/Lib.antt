@@ -11,7 +11,8 @@ pub mod ScopeLemmas
 pub mod UnmatchedLemmas
 pub mod MarkLemmas
 pub mod CoverLemmas
-pub mod CatchLemmas
+pub mod LookLemmas
+pub mod StepLemmas
 pub mod DoneLemmas
 pub mod TruthLemmas
 pub mod TreeLaws

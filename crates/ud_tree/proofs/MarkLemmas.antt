@@ -4,10 +4,9 @@ use Rattle.std.proofs.lemmas.List.Elements.{Contains-append_left, Contains-appen
 use Rattle.std.specs.List.{Contains}
 use Rattle.ud_replace.specs.declared.node.Lookup.TheVariants.{Present}
 use Rattle.ud_replace.specs.declared.node.Node.{Node}
-use Rattle.ud_replace.specs.declared.node.NodeKind.{NodeKind}
 use Rattle.ud_replace.specs.Calls.{WalkCall, met}
 use Rattle.ud_tree.specs.Scopes.{IsBelow, Scope}
-use Rattle.ud_tree.specs.Unmatched.{Applied, Applies, MarksCalls, MarksNode, MarksRules, NeverApplied, is_marked, rule_at}
+use Rattle.ud_tree.specs.Unmatched.{Applied, Applies, MarksCalls, MarksNode, NeverApplied, is_marked, rule_at}
 use Rattle.ud_tree.proofs.CoverLemmas.{only_one}
 
 -- Nothing was asked.
@@ -38,10 +37,6 @@ marks_named scope path node named same = record {
       let at : path ≡ p = cc in
       inl (subst (Contains scope.paths) at named);
 }
-
--- The rules that apply at a path were marked.
-pub marks_here : {scope : Scope} {path below : List ℕ} {kind : NodeKind} {a b c : List Bool} → IsBelow scope.paths path below → MarksRules kind below scope.patterns a b → c ≡ b → MarksNode scope path kind a c
-marks_here {scope = scope} {below = below} {kind = kind} {a = a} is h same = record { below = below; is_below = is; rules = subst (MarksRules kind below scope.patterns a) (sym same) h }
 
 -- A name in a directory was looked at.
 pub marks_met : (scope : Scope) (path : List ℕ) (node : Node) {marks marks' : List Bool} → MarksNode scope path node.kind marks marks' → MarksCalls scope (met path (Present node) ∷ []) marks marks'

@@ -1,7 +1,6 @@
 -- The files of other names, and which of them name a symbol.
-use Rattle.std.proofs.Common.{◌≡◌, ◌⊎◌, inl, inr, ℕ, ◌<◌, ◌≤◌, ◌+◌, ◌==◌, List, [], ◌∷◌, ◌++◌, length, get_or, map, cond, Bool, true, false, not, Result, Ok, Err, is_ok, refl, sym, ap, ◌∙◌, subst, true≢false, ◌^◌, arith, bytes_eq, is_eq, is_lt}
+use Rattle.std.proofs.Common.{◌≡◌, ◌⊎◌, inl, inr, ℕ, ◌<◌, ◌≤◌, ◌+◌, List, [], ◌∷◌, ◌++◌, length, get_or, map, cond, Bool, true, false, not, Result, Ok, Err, is_ok, refl, sym, ap, ◌∙◌, subst, true≢false, ◌^◌, arith, bytes_eq, is_eq, is_lt}
 use Rattle.std.proofs.lemmas.Bool.{cases_lt}
-use Rattle.std.proofs.lemmas.Grind.{common_steps}
 use Rattle.std.proofs.lemmas.Cmp.{nat_list_cmp_total}
 use Rattle.std.proofs.lemmas.List.{map-append}
 use Rattle.std.proofs.lemmas.List.Elements.{filter-append}
@@ -28,10 +27,9 @@ use Rattle.ud_tree.specs.Covering.{CoversPaths, IsIn}
 use Rattle.ud_tree.specs.Others.{Look, kind_of, names, is_unsearched, calls_of, is_among, is_named, is_left, AreNone, ReadsOthers, WalksOthers, AreOthers, no_path, others_scope}
 use Rattle.ud_tree.specs.Reports.{ReportState}
 use Rattle.ud_tree.specs.TreeMoments.{TouchesNothing}
-use Rattle.ud_tree.specs.Walks.{IsBefore, IsFileList}
-use Rattle.ud_tree.specs.WalkMessages.{GoesOn}
+use Rattle.ud_tree.specs.Walks.{Finds, IsBefore, IsFileList}
+use Rattle.ud_tree.specs.WalkMessages.{ReportsWalk}
 use Rattle.ud_tree.specs.declared.arguments.Arguments.{Arguments}
-use Rattle.ud_tree.specs.declared.walk.Walk.{Walk}
 use Rattle.ud_tree.proofs.CoverLemmas.{covers_kept}
 use Rattle.ud_tree.proofs.RunLemmas.{number_push}
 use Rattle.ud_tree.proofs.TreeLaws.{each_at, walk_touches}
@@ -121,24 +119,28 @@ module _ {args : Arguments} {files : List Found} where
 -- 3. The walk over files of all names.
 
 -- It touches no file.
-pub walked_touches : {calls calls' : List Call} {w w' : Walk} {r r' : ReportState} → GoesOn calls calls' w w' r r' → EachCall TouchesNothing calls calls'
-walked_touches {calls = calls} h = each_at h.finds.are (walk_touches h.finds.calls calls)
+pub walked_touches : {calls calls' : List Call} {r r' : ReportState} →
+    ReportsWalk calls calls' r r' → EachCall TouchesNothing calls calls'
+walked_touches {calls = calls} h = each_at h.walk.are (walk_touches h.walk.calls calls)
 
 -- It found all files.
-pub walked_over : {args : Arguments} {calls calls' : List Call} {w w' : Walk} {r r' : ReportState} (files : List Found) → w.found.items ≡ [] → r.faulty ≡ 0 →
-    GoesOn calls calls' w w' r r' →
-    CoversPaths (others_scope args) calls calls' IsIn w'.found.items (0 < r'.faulty) →
-    IsFileList w'.found.items files → WalksOthers args calls calls' files
-walked_over {w' = w'} {r = r} {r' = r'} files empty none h covers l = record {
-  messages = h.told.messages;
-  walk = h.told.walk;
-  is_walk = walk_found files empty h.finds l;
-  covers = covers_kept w'.found.items files (0 < r'.faulty) (0 < length h.told.messages)
-      (λ some. some_told r.faulty r'.faulty (length h.told.messages) none h.told.counted some) l.kept l.from covers;
+pub walked_over : {args : Arguments} {calls calls' : List Call} {before found : List Found}
+    {r r' : ReportState} (files : List Found) → before ≡ [] → r.faulty ≡ 0 →
+    ReportsWalk calls calls' r r' → Finds calls calls' before found →
+    CoversPaths (others_scope args) calls calls' IsIn found (0 < r'.faulty) →
+    IsFileList found files → WalksOthers args calls calls' files
+walked_over {found = found} {r = r} {r' = r'} files empty none h met covers l = record {
+  messages = h.messages;
+  walk = h.walk;
+  is_walk = walk_found files empty met l;
+  covers = covers_kept found files (0 < r'.faulty) (0 < length h.messages)
+      (λ some. some_told r.faulty r'.faulty (length h.messages) none h.counted some) l.kept
+      l.from covers;
 }
 
 -- A path of the command line can't be taken any more.
-pub none_walked : {args : Arguments} {files : List Found} {calls calls' : List Call} {w w' : Walk} {r r' : ReportState} {others : Others} → r.faulty ≡ 0 →
-    GoesOn calls calls' w w' r r' → 0 < r'.faulty → AreNone others → AreOthers args files calls calls' others
-none_walked {r = r} {r' = r'} none h bad empty =
-    no_path h.told.messages h.told.walk (some_told r.faulty r'.faulty (length h.told.messages) none h.told.counted bad) empty
+pub none_walked : {args : Arguments} {files : List Found} {calls calls' : List Call}
+    {r r' : ReportState} {others : Others} → r.faulty ≡ 0 → ReportsWalk calls calls' r r' →
+    0 < r'.faulty → AreNone others → AreOthers args files calls calls' others
+none_walked {r = r} {r' = r'} none h bad empty = no_path h.messages h.walk
+    (some_told r.faulty r'.faulty (length h.messages) none h.counted bad) empty

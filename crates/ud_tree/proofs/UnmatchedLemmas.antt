@@ -14,7 +14,7 @@ use Rattle.ud_tree.specs.declared.arguments.Arguments.{Arguments}
 use Rattle.std.specs.Prelude.{string_bytes}
 use Rattle.std.proofs.Common.{String, Global}
 use Rattle.ud_tree.specs.declared.walk.Walk.{Walk}
-use Rattle.ud_tree.specs.Catching.{scope_of}
+use Rattle.ud_tree.specs.WalkSteps.{scope_of}
 use Rattle.ud_tree.specs.Scopes.{Scope, scope_in}
 use Rattle.ud_tree.specs.Summaries.{line_of}
 use Rattle.ud_tree.proofs.SummaryLemmas.{flat_push}

@@ -14,8 +14,6 @@ pub mod Requests
 pub mod Changes
 pub mod Walks
 pub mod Covering
-pub mod CoverParts
-pub mod Catching
 pub mod TreeMoments
 pub mod Others
 pub mod Unmatched
@@ -27,6 +25,7 @@ pub mod ArgumentMessages
 pub mod Shown
 pub mod Lists
 pub mod WalkMessages
+pub mod WalkSteps
 pub mod Streams
 pub mod Writing
 pub mod Visible

@@ -8,10 +8,6 @@
 --   WalkTells old new messages   only calls of a walk were made, and these are their messages
 --   joined messages              all messages, one after another
 --   ReportsWalk calls calls' old new   the messages of a part of a walk were written and counted
---   GoesOn calls calls' w w' old new   a part of a walk: files and messages
---   ReportsNames directory names calls calls' old new   a directory was listed first
---   VisitTells path calls calls' old new   a name of a directory was visited
---   TellsGiven path node old new   a node of the input was added or left out
 --   input_message                the message if the input couldn't be read
 --   Stops from_input left messages told   why no file follows a walk, and its message
 --   StopsWalk from_input left calls calls' old new   a walk that no file follows
@@ -29,12 +25,11 @@ use Rattle.std.specs.List.{flat_map, list_any, Contains}
 use Rattle.ud_replace.specs.declared.node.Lookup.{Lookup}
 use Rattle.ud_replace.specs.declared.node.Lookup.TheVariants.{Present, Absent, Unknown}
 use Rattle.ud_replace.specs.declared.node.Node.{Node}
-use Rattle.ud_replace.specs.declared.node.NodeKind.TheVariants.{File, Link, Other}
+use Rattle.ud_replace.specs.declared.node.NodeKind.TheVariants.{File, Link}
 use Rattle.ud_replace.specs.Calls.{Call, walked, WalkCall, met, followed, listed}
-use Rattle.ud_tree.specs.Reports.{ReportState, Tells, ReportsOne}
+use Rattle.ud_tree.specs.Reports.{ReportState, Tells}
 use Rattle.ud_tree.specs.declared.find_files.Walked.{Walked}
 use Rattle.ud_tree.specs.declared.walk.Found.{Found}
-use Rattle.ud_tree.specs.declared.walk.Walk.{Walk}
 use Rattle.ud_tree.specs.Messages.{fault_line, IsFailureOf}
 use Rattle.ud_tree.specs.Streams.{Source, TakesInput, ReadsWhole}
 use Rattle.ud_tree.specs.declared.arguments.Arguments.{Arguments}
@@ -42,7 +37,7 @@ use Rattle.ud_replace.specs.declared.node.FileId.{FileId}
 use Rattle.ud_tree.specs.Covering.{CoversInput, paths_of, IsIn, StandsIn, MissesNone}
 use Rattle.ud_tree.specs.Summaries.{line_of}
 use Rattle.ud_tree.specs.Unmatched.{LeavesRules}
-use Rattle.ud_tree.specs.Walks.{Finds, IsWalk}
+use Rattle.ud_tree.specs.Walks.{IsWalk}
 
 -- `is_refused w`: nothing is at the path that was looked at, or a call failed.
 abbrev pub is_refused : WalkCall → Bool
@@ -128,39 +123,6 @@ pub record ReportsWalk (calls calls' : List Call) (old new : ReportState) : Type
   pub walk : WalkTells calls calls' messages
   pub tells : Tells old new (joined messages)
   pub counted : old.faulty + length messages < 2 ^ 64 → new.faulty ≡ old.faulty + length messages
-
--- `GoesOn calls calls' w w' old new`: a part of a walk, from `w` to `w'`. Each file that it found
--- was met (`Finds`), and its messages were written and counted.
-pub record GoesOn (calls calls' : List Call) (w w' : Walk) (old new : ReportState) : Type 0 where
-  pub finds : Finds calls calls' w.found.items w'.found.items
-  pub told : ReportsWalk calls calls' old new
-
--- `ReportsNames directory names calls calls' old new`: the same, and one of these calls listed
--- `names` in `directory`.
-pub record ReportsNames (directory : List ℕ) (names : List (List ℕ)) (calls calls' : List Call)
-    (old new : ReportState) : Type 0 where
-  pub answer : Bool
-  pub reports : ReportsWalk calls calls' old new
-  pub listing : Contains reports.walk.calls (listed directory names answer)
-
--- `VisitTells path calls calls' old new`: `path` was looked at, nothing has it, and nothing was
--- written. Or that isn't so: then only calls of a walk were made, and their messages were written
--- and counted.
-pub data VisitTells (path : List ℕ) (calls calls' : List Call) (old new : ReportState) :
-    Type 0 where
-  is_gone : calls' ≡ walked (met path Absent) ∷ calls → new ≡ old →
-      VisitTells path calls calls' old new
-  is_told : ¬ (calls' ≡ walked (met path Absent) ∷ calls) → ReportsWalk calls calls' old new →
-      VisitTells path calls calls' old new
-
--- `TellsGiven path node old new`: nothing was written. Or `node` has `path` and is of another kind
--- than a file, a directory and a link, and the message that it is no regular file was written and
--- counted.
-pub data TellsGiven (path : List ℕ) (node : Node) (old new : ReportState) : Type 0 where
-  is_quiet : new ≡ old → TellsGiven path node old new
-  is_irregular : node.kind ≡ Other →
-      ReportsOne (fault_line path (codes "Is no regular file")) old new →
-      TellsGiven path node old new
 
 -- `Stops from_input left messages told`: no file follows a walk with these messages. Memory ran
 -- out, and a line says so. Or paths come from the input, which has failed, and the one message says

@@ -2,8 +2,6 @@
 --
 --   WasMet calls f               a file was met as a regular file
 --   Finds old new before found   a part of a walk, with the files found before and after
---   Adds before path id after    a file was found, or none
---   AddsNode before path node after   a node was found, if it is a file
 --   IsBefore f g                 the path of `f` comes before that of `g`
 --   IsOtherFile f g              `f` and `g` are different files
 --   IsKept files f               a found file is kept
@@ -17,7 +15,7 @@
 --   IsWalk old new files         a whole walk, and its files
 --
 -- `old` and `new` are the calls before and after, the newest first.
-use Rattle.std.specs.Prelude.{◌≡◌, ◌⊎◌, ℕ, List, ◌∷◌, [], ◌++◌, map, string_bytes}
+use Rattle.std.specs.Prelude.{◌≡◌, ◌⊎◌, ℕ, List, ◌++◌, map, string_bytes}
 use Rattle.std.specs.Prelude.{true}
 use Rattle.std.specs.List.{All, AllPairs, Contains}
 use Rattle.std.specs.Cmp.Lexicographic.{slice_cmp}
@@ -45,19 +43,6 @@ pub record Finds (old new : List Call) (before found : List Found) : Type 0 wher
   pub calls : List WalkCall
   pub are : new ≡ map walked calls ++ old
   pub each : All (λ f. Contains before f ⊎ WasMet calls f) found
-
--- `Adds before path id after`: nothing was added, or one file with this path and identity.
-pub data Adds (before : List Found) (path : List ℕ) (id : FileId) (after : List Found) :
-    Type 0 where
-  adds_none : after ≡ before → Adds before path id after
-  adds_one : (f : Found) → string_bytes f.path ≡ path → f.id ≡ id → after ≡ before ++ f ∷ [] →
-      Adds before path id after
-
--- `AddsNode before path node after`: nothing was added, or the node is a file, which was added.
-pub data AddsNode (before : List Found) (path : List ℕ) (node : Node) (after : List Found) :
-    Type 0 where
-  no_node : after ≡ before → AddsNode before path node after
-  file_node : node.kind ≡ File → Adds before path node.id after → AddsNode before path node after
 
 -- `IsBefore f g`: the path of `f` comes before the path of `g`, byte by byte.
 abbrev pub IsBefore : Found → Found → Type 0

@@ -2,13 +2,14 @@
 
 ghost use Rattle.std.specs.Prelude.{◌≡◌, ◌<◌, ◌++◌, [], map, true, false, IfOk};
 ghost use Rattle.std.specs.Prelude.{OnErr, OnOk, string_bytes};
-ghost use Rattle.ud_tree.specs.Catching.{scope_of};
 ghost use Rattle.ud_tree.specs.Covering.{CoversPaths, IsIn, own_path, paths_of};
 ghost use Rattle.ud_tree.specs.Scopes.{scope_in};
 ghost use Rattle.ud_tree.specs.Unmatched.{MarksWalk, quoted, unmarked_in};
 ghost use Rattle.ud_tree.specs.Streams.{source_of, ReadsWhole};
-ghost use Rattle.ud_tree.specs.WalkMessages.{EndsWalk, GoesOn, ReportsWalk, StopsWalk};
+ghost use Rattle.ud_tree.specs.WalkMessages.{EndsWalk, ReportsWalk, StopsWalk};
 ghost use Rattle.ud_tree.specs.WalkMessages.{TakesEach, WalksAll};
+ghost use Rattle.ud_tree.specs.WalkSteps.{scope_of};
+ghost use Rattle.ud_tree.specs.Walks.{Finds};
 
 use crate::job::Job;
 use crate::patterns::marks::unmarked;
@@ -106,8 +107,9 @@ fn walk_all<T: Tree, R: Read, E: Write>(
     requires scope { scope_of walk.old ≡ scope_in job.now.arguments.now }
     requires found { walk.old.found.items ≡ [] }
     requires directories { walk.old.directories.items ≡ [] }
-    ensures goes_on { GoesOn (T.history tree.old) (T.history tree.new) walk.old walk.new
-        report.old report.new }
+    ensures told { ReportsWalk (T.history tree.old) (T.history tree.new) report.old report.new }
+    ensures finds { OnOk result (Finds (T.history tree.old) (T.history tree.new)
+        walk.old.found.items walk.new.found.items) }
     ensures walks { IfOk result (WalksAll job.now.arguments.now
         (source_of R.remaining input.old) (source_of R.remaining input.new)
         (T.history tree.old) (T.history tree.new) walk.new.found.items report.old report.new) }
@@ -133,8 +135,9 @@ pub(crate) fn walk_paths<T: Tree, E: Write>(
 ) -> Result<bool, AllocError>
     requires found { walk.old.found.items ≡ [] }
     requires directories { walk.old.directories.items ≡ [] }
-    ensures goes_on { GoesOn (T.history tree.old) (T.history tree.new) walk.old walk.new
-        report.old report.new }
+    ensures told { ReportsWalk (T.history tree.old) (T.history tree.new) report.old report.new }
+    ensures finds { OnOk result (Finds (T.history tree.old) (T.history tree.new)
+        walk.old.found.items walk.new.found.items) }
     ensures covers { IfOk result (λ all. all ≡ true → CoversPaths (scope_of walk.old)
         (T.history tree.old) (T.history tree.new) IsIn walk.new.found.items
         (0 < report.new.faulty)) }
@@ -162,8 +165,9 @@ fn add_input<T: Tree, R: Read, E: Write>(
     report: &mut Report<E>,
 ) -> Result<bool, AllocError>
     requires { walk.old.found.items ≡ [] }
-    ensures goes_on { GoesOn (T.history tree.old) (T.history tree.new) walk.old walk.new
-        report.old report.new }
+    ensures told { ReportsWalk (T.history tree.old) (T.history tree.new) report.old report.new }
+    ensures finds { OnOk result (Finds (T.history tree.old) (T.history tree.new)
+        walk.old.found.items walk.new.found.items) }
     ensures takes { IfOk result (λ all. all ≡ true → TakesEach
         (source_of R.remaining input.old) (source_of R.remaining input.new)
         (T.history tree.old) (T.history tree.new) walk.new.found.items

@@ -3,20 +3,15 @@
 //! A name that vanishes from its directory during the walk is no fault, since nothing is lost. A
 //! missing path of the command line is one.
 
-ghost use Rattle.std.specs.Prelude.{◌≡◌, ◌↔◌, ◌⊎◌, ◌<◌, ◌++◌, ◌∷◌, [], IfOk, OnOk, Bool, map};
-ghost use Rattle.std.specs.Prelude.{true, false, length, replicate, string_bytes};
-ghost use Rattle.ud_replace.specs.Calls.{walked, listed};
+ghost use Rattle.std.specs.Prelude.{◌≡◌, ◌↔◌, ◌⊎◌, ◌+◌, ◌<◌, ◌^◌, ◌++◌, [], IfOk, OnErr};
+ghost use Rattle.std.specs.Prelude.{OnOk, true, false, length, map, replicate, string_bytes};
 ghost use Rattle.std.specs.List.{All, AllPairs, Contains};
-ghost use Rattle.ud_tree.specs.Catching.{AreRooted, Catches, Grows, IsTaken, scope_of};
 ghost use Rattle.ud_tree.specs.Choices.{LeavesOut};
-ghost use Rattle.ud_tree.specs.Covering.{IsIn};
-ghost use Rattle.ud_tree.specs.CoverParts.{AddsDirectory, Enters, Exhausts, Starts, TakesOne};
-ghost use Rattle.ud_tree.specs.CoverParts.{VisitsOne, Waits, waiting};
-ghost use Rattle.ud_tree.specs.WalkMessages.{GoesOn, ReportsNames, TellsGiven, VisitTells};
-ghost use Rattle.ud_tree.specs.Walks.{Adds, AddsNode, ArePicked, Finds, IsBefore, IsFileList};
 ghost use Rattle.ud_tree.specs.Scopes.{IsBelow, IsRooted};
-ghost use Rattle.ud_tree.specs.Unmatched.{MarksNode};
-ghost use Rattle.ud_tree.specs.Walks.{IsKept};
+ghost use Rattle.ud_tree.specs.Walks.{ArePicked, IsBefore, IsFileList, IsKept};
+ghost use Rattle.ud_tree.specs.WalkSteps.{AddsFile, AreRooted, at, Awaits, FindsFile, given, inside};
+ghost use Rattle.ud_tree.specs.WalkSteps.{Listing, Look, Loses, Meets, MeetsGiven, named, nowhere};
+ghost use Rattle.ud_tree.specs.WalkSteps.{scope_of, Steps, Stops, topped};
 
 use crate::paths::{below, directory_path, escaped};
 use crate::patterns::marks::mark;
@@ -118,13 +113,11 @@ impl<'w> Walk<'w> {
         path: &str,
     ) -> Result<(), AllocError>
         requires { Contains (map string_bytes self.old.paths.now) path.now }
-        ensures goes_on { GoesOn (T.history tree.old) (T.history tree.new) self.old self.new
-            report.old report.new }
-        ensures starts { OnOk result (Starts (scope_of self.old)
-            path.now (T.history tree.old) (T.history tree.new)
-            (waiting self.old) (waiting self.new) self.new.found.items report.old report.new) }
-        ensures catches { OnOk result
-            (Catches (path.now ∷ []) (T.history tree.old) (T.history tree.new) self.old self.new) }
+        ensures look { OnOk result (Look (named path.now)
+            (at (scope_of self.old) (T.history tree.old) self.old report.old)
+            (at (scope_of self.new) (T.history tree.new) self.new report.new)) }
+        ensures loses { OnErr result
+            (Loses (T.history tree.old) (T.history tree.new) report.old report.new) }
     {
         let node = match tree.node(path) {
             Lookup::Present(node) => node,
@@ -162,10 +155,11 @@ impl<'w> Walk<'w> {
         report: &mut Report<E>,
         name: &[u8],
     ) -> Result<(), AllocError>
-        ensures goes_on { GoesOn (T.history tree.old) (T.history tree.new) self.old self.new
-            report.old report.new }
-        ensures takes { OnOk result (TakesOne name.now (T.history tree.old) (T.history tree.new)
-            self.old.found.items self.new.found.items report.old report.new) }
+        ensures look { OnOk result (Look (given name.now)
+            (at nowhere (T.history tree.old) self.old report.old)
+            (at nowhere (T.history tree.new) self.new report.new)) }
+        ensures loses { OnErr result
+            (Loses (T.history tree.old) (T.history tree.new) report.old report.new) }
     {
         let Ok(path) = std::str::from_utf8(name) else {
             report.fault(escaped(self.alloc, name)?.as_slice(), NOT_UTF8);
@@ -191,12 +185,9 @@ impl<'w> Walk<'w> {
         name: &str,
         node: Node,
     ) -> Result<(), AllocError>
-        ensures adds { AddsNode self.old.found.items name.now node self.new.found.items }
-        ensures counted { 0 < report.old.faulty → 0 < report.new.faulty }
-        ensures other { OnOk result (node.kind ≡ NodeKind.Other → 0 < report.new.faulty) }
-        ensures is_in { OnOk result (node.kind ≡ NodeKind.File →
-            IsIn self.new.found.items name.now node.id) }
-        ensures told { TellsGiven name.now node report.old report.new }
+        ensures meets { OnOk result
+            (MeetsGiven name.now node self.old self.new report.old report.new) }
+        ensures same { OnErr result (report.new ≡ report.old) }
     {
         match node.kind {
             NodeKind::File => self.push_file(name, node.id),
@@ -211,10 +202,7 @@ impl<'w> Walk<'w> {
     /// Adds a directory of the command line.
     fn start_directory(&mut self, path: &str) -> Result<(), AllocError>
         requires { Contains (map string_bytes self.old.paths.now) path.now }
-        ensures found { self.new.found.items ≡ self.old.found.items }
-        ensures marks { self.new.marks.items ≡ self.old.marks.items }
-        ensures waits { OnOk result (Waits path.now (waiting self.old) (waiting self.new)) }
-        ensures grows { OnOk result (Grows [] self.old self.new) }
+        ensures { OnOk result (Awaits path.now self.old self.new) }
     {
         let path = directory_path(self.alloc, path)?;
         let root = path.len();
@@ -225,10 +213,7 @@ impl<'w> Walk<'w> {
     /// Adds a directory below one of the command line, whose path has `root` bytes.
     fn add_directory(&mut self, path: &str, root: usize) -> Result<(), AllocError>
         requires { IsRooted (map string_bytes self.old.paths.now) path.now root }
-        ensures found { self.new.found.items ≡ self.old.found.items }
-        ensures marks { self.new.marks.items ≡ self.old.marks.items }
-        ensures waits { OnOk result (Waits path.now (waiting self.old) (waiting self.new)) }
-        ensures grows { OnOk result (Grows [] self.old self.new) }
+        ensures { OnOk result (Awaits path.now self.old self.new) }
     {
         let path = directory_path(self.alloc, path)?;
         self.directories.push(Waiting { path, root })?;
@@ -238,11 +223,7 @@ impl<'w> Walk<'w> {
     /// Adds a file, if its path below one of the command line is chosen.
     fn add_file(&mut self, path: &str, below: &[u8], id: FileId) -> Result<(), AllocError>
         requires { IsBelow (map string_bytes self.old.paths.now) path.now below.now }
-        ensures adds { Adds self.old.found.items path.now id self.new.found.items }
-        ensures directories { self.new.directories.items ≡ self.old.directories.items }
-        ensures marks { self.new.marks.items ≡ self.old.marks.items }
-        ensures grows { OnOk result (Grows [] self.old self.new) }
-        ensures taken { OnOk result (IsTaken self.new path.now id) }
+        ensures { OnOk result (AddsFile path.now id self.old self.new) }
     {
         if chooses(self.patterns, below) {
             self.push_file(path, id)
@@ -253,11 +234,7 @@ impl<'w> Walk<'w> {
 
     /// Adds a file.
     fn push_file(&mut self, path: &str, id: FileId) -> Result<(), AllocError>
-        ensures adds { Adds self.old.found.items path.now id self.new.found.items }
-        ensures directories { self.new.directories.items ≡ self.old.directories.items }
-        ensures marks { self.new.marks.items ≡ self.old.marks.items }
-        ensures is_in { OnOk result (IsIn self.new.found.items path.now id) }
-        ensures grows { OnOk result (Grows (path.now ∷ []) self.old self.new) }
+        ensures { OnOk result (FindsFile path.now id self.old self.new) }
     {
         let path = String::from_str(self.alloc, path)?;
         self.found.push(Found { path, id })?;
@@ -275,15 +252,12 @@ impl<'w> Walk<'w> {
     ) -> Result<(), AllocError>
         requires { IsRooted (map string_bytes self.old.paths.now)
             (string_bytes directory.now.path) directory.now.root }
-        ensures finds { Finds (T.history tree.old) (T.history tree.new) self.old.found.items
-            self.new.found.items }
-        ensures told { VisitTells (string_bytes directory.now.path ++ name.now) (T.history tree.old)
-            (T.history tree.new) report.old report.new }
-        ensures visits { OnOk result (VisitsOne (scope_of self.old)
-            (string_bytes directory.now.path) name.now (T.history tree.old) (T.history tree.new)
-            (waiting self.old) (waiting self.new) report.old report.new) }
-        ensures catches { OnOk result
-            (Catches [] (T.history tree.old) (T.history tree.new) self.old self.new) }
+        ensures look { OnOk result (Look
+            (inside (string_bytes directory.now.path ++ name.now) name.now)
+            (at (scope_of self.old) (T.history tree.old) self.old report.old)
+            (at (scope_of self.new) (T.history tree.new) self.new report.new)) }
+        ensures loses { OnErr result
+            (Loses (T.history tree.old) (T.history tree.new) report.old report.new) }
     {
         let mut path = String::from_str(self.alloc, directory.path.as_str())?;
         let Ok(text) = std::str::from_utf8(name) else {
@@ -322,14 +296,8 @@ impl<'w> Walk<'w> {
         node: Node,
     ) -> Result<(), AllocError>
         requires { IsRooted (map string_bytes self.old.paths.now) path.now root }
-        ensures adds { AddsNode self.old.found.items path.now node self.new.found.items }
-        ensures waits { OnOk result (AddsDirectory (scope_of self.old) path.now name.now node
-            (waiting self.old) (waiting self.new)) }
-        ensures grows { OnOk result (Grows [] self.old self.new) }
-        ensures taken { OnOk result (node.kind ≡ NodeKind.File →
-            IsTaken self.new path.now node.id) }
-        ensures marks { MarksNode (scope_of self.old) path.now node.kind self.old.marks.items
-            self.new.marks.items }
+        ensures { OnOk result
+            (Meets (scope_of self.old) (inside path.now name.now) node [] self.old self.new) }
     {
         let below = below(path.as_bytes(), root);
         mark(&mut self.marks, self.patterns, node.kind, below);
@@ -349,13 +317,13 @@ impl<'w> Walk<'w> {
     ) -> Result<(), AllocError>
         requires { IsRooted (map string_bytes self.old.paths.now)
             (string_bytes directory.now.path) directory.now.root }
-        ensures goes_on { GoesOn (T.history tree.old) (T.history tree.new) self.old self.new
-            report.old report.new }
-        ensures enters { OnOk result (Enters (scope_of self.old)
-            (string_bytes directory.now.path) (T.history tree.old) (T.history tree.new)
-            (waiting self.old) (waiting self.new) report.old report.new) }
-        ensures catches { OnOk result
-            (Catches [] (T.history tree.old) (T.history tree.new) self.old self.new) }
+        ensures steps { OnOk result (Steps []
+            (topped directory.now (at (scope_of self.old) (T.history tree.old) self.old report.old))
+            [] (at (scope_of self.new) (T.history tree.new) self.new report.new)) }
+        ensures called { OnOk result (length (T.history tree.old) < length (T.history tree.new)) }
+        ensures stops { OnErr result (Stops []
+            (topped directory.now (at (scope_of self.old) (T.history tree.old) self.old report.old))
+            (T.history tree.new) report.new) }
     {
         let names = self.list_directory(tree, report, directory.path.as_str());
         for name in names.as_slice() {
@@ -371,12 +339,8 @@ impl<'w> Walk<'w> {
         report: &mut Report<E>,
         directory: &str,
     ) -> Vec<Vec<u8>>
-        ensures told { ReportsNames directory.now (map (λ n. n.items) result.items)
-            (T.history tree.old) (T.history tree.new) report.old report.new }
-        ensures counted { 0 < report.old.faulty → 0 < report.new.faulty }
-        ensures lists { (answer : Bool) × (T.history tree.new ≡
-            walked (listed directory.now (map (λ n. n.items) result.items) answer)
-            ∷ T.history tree.old) }
+        ensures { Listing directory.now (map (λ n. n.items) result.items) (T.history tree.old)
+            (T.history tree.new) report.old report.new }
     {
         let mut names = Vec::new(self.alloc);
         let listed = tree.list(directory, &mut names);
@@ -397,13 +361,15 @@ impl<'w> Walk<'w> {
         report: &mut Report<E>,
     ) -> Result<(), AllocError>
         requires { AreRooted self.old }
-        ensures goes_on { GoesOn (T.history tree.old) (T.history tree.new) self.old self.new
-            report.old report.new }
-        ensures exhausts { OnOk result (Exhausts (scope_of self.old)
-            (T.history tree.old) (T.history tree.new)
-            (waiting self.old) (waiting self.new) report.old report.new) }
-        ensures catches { OnOk result
-            (Catches [] (T.history tree.old) (T.history tree.new) self.old self.new) }
+        ensures steps { OnOk result (Steps []
+            (at (scope_of self.old) (T.history tree.old) self.old report.old)
+            [] (at (scope_of self.new) (T.history tree.new) self.new report.new)) }
+        ensures all { OnOk result
+            (length (T.history tree.new) + 1 < length (T.history tree.old) + 2 ^ 64 →
+            self.new.directories.items ≡ []) }
+        ensures stops { OnErr result (Stops []
+            (at (scope_of self.old) (T.history tree.old) self.old report.old)
+            (T.history tree.new) report.new) }
     {
         'directories: for _entered in 0..u64::MAX {
             let Some(directory) = self.directories.pop() else {

@@ -1,9 +1,9 @@
-use Rattle.ud_tree.specs.WalkMessages.{GoesOn}
-use Rattle.std.proofs.Common.{◌<◌, map, take}
-use Rattle.ud_tree.specs.Covering.{CoversInput, IsIn}
+use Rattle.std.proofs.Common.{drop, map}
+use Rattle.ud_tree.specs.WalkSteps.{at, given, nowhere, Steps}
 use Rattle.ud_tree.proofs.find_files.add_input.Given as goal
 
 abbrev pub invariant-loop-name : goal.invariant-loop-name
-invariant-loop-name g l =
-    GoesOn (g.T.Directory.history l.fn.tree) (g.T.Directory.history l.tree) l.fn.walk l.walk l.fn.report l.report
-    × CoversInput (map (λ p. p.items) (take l.name-index l.name-items)) (g.T.Directory.history l.fn.tree) (g.T.Directory.history l.tree) IsIn l.walk.found.items (0 < l.report.faulty)
+invariant-loop-name g l = Steps (map given (map (λ p. p.items) l.name-items))
+    (at nowhere (g.T.Directory.history l.fn.tree) l.fn.walk l.fn.report)
+    (map given (map (λ p. p.items) (drop l.name-index l.name-items)))
+    (at nowhere (g.T.Directory.history l.tree) l.walk l.report)

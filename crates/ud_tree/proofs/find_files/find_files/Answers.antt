@@ -13,28 +13,28 @@ returns-then-not-all-clause-ends g c = λ none. record { files = tt; stops = c.i
 pub returns-then-faults-gt0-clause-ends : goal.returns-then-faults-gt0-clause-ends
 returns-then-faults-gt0-clause-ends g c = λ none. record {
   files = tt;
-  stops = stops_bad _ none c.if-not-job.true (subst (λ (n : ℕ). 0 < n) c.faulty-faults.ensures c.if-faults-gt0.true) c.walk_all.ensures.goes_on.told;
+  stops = stops_bad _ none c.if-not-job.true (subst (λ (n : ℕ). 0 < n) c.faulty-faults.ensures c.if-faults-gt0.true) c.walk_all.ensures.told;
 }
 
 pub returns-then-not-job-clause-ends : goal.returns-then-not-job-clause-ends
-returns-then-not-job-clause-ends g c = λ none. record { files = tt; stops = stops_told (λ ms. no_match c.if-not-job.true refl) c.walk_all.ensures.goes_on.told c.line.ensures }
+returns-then-not-job-clause-ends g c = λ none. record { files = tt; stops = stops_told (λ ms. no_match c.if-not-job.true refl) c.walk_all.ensures.told c.line.ensures }
 
 pub returns-clause-ends : goal.returns-clause-ends
 returns-clause-ends g c = λ none. record {
   files = record {
-    is_walk = walk_found c.in_ok-files.files.items c.in_ok-walk.ensures.found c.walk_all.ensures.goes_on.finds c.in_ok-files.ensures;
+    is_walk = walk_found c.in_ok-files.files.items c.in_ok-walk.ensures.found c.in_ok-all.ensures.finds c.in_ok-files.ensures;
     some = elim c.else-is_empty.branch [
       | else-is_empty-via-then-is_empty+else-not-job w ↦ some_unless _ _ w.if-not-job.false
       | else-is_empty-via-else-is_empty w ↦ some_files _ _ _ _ (sym c.in_ok-files.files.ok.0) c.is_empty.ensures w.if-is_empty.false
     ];
-    reports = c.walk_all.ensures.goes_on.told;
-    paths = paths_kept c.walk_all.new.walk.found.items c.in_ok-files.files.items (0 < c.walk_all.new.report.faulty) (0 < length c.walk_all.ensures.goes_on.told.messages)
+    reports = c.walk_all.ensures.told;
+    paths = paths_kept c.walk_all.new.walk.found.items c.in_ok-files.files.items (0 < c.walk_all.new.report.faulty) (0 < length c.walk_all.ensures.told.messages)
         (λ some. some_told c.args.report.now.faulty c.walk_all.new.report.faulty
-        (length c.walk_all.ensures.goes_on.told.messages) none c.walk_all.ensures.goes_on.told.counted some)
+        (length c.walk_all.ensures.told.messages) none c.walk_all.ensures.told.counted some)
         c.in_ok-files.ensures.kept c.in_ok-files.ensures.from
         (c.in_ok-all.ensures.walks.takes c.if-not-all.false);
-    leaves = leaves_rules (length c.walk_all.ensures.goes_on.told.messages) c.faulty-faults.result
-        (λ few. c.faulty-faults.ensures ∙ counted_from c.args.report.now.faulty c.walk_all.new.report.faulty (length c.walk_all.ensures.goes_on.told.messages) none c.walk_all.ensures.goes_on.told.counted few)
+    leaves = leaves_rules (length c.walk_all.ensures.told.messages) c.faulty-faults.result
+        (λ few. c.faulty-faults.ensures ∙ counted_from c.args.report.now.faulty c.walk_all.new.report.faulty (length c.walk_all.ensures.told.messages) none c.walk_all.ensures.told.counted few)
         (λ some. ap (map (λ r. r.items)) (c.in_ok-rules.ensures.faulty some)) (λ input. ap (map (λ r. r.items)) (c.in_ok-rules.ensures.input input))
         c.in_ok-rules.ensures.each (λ paths. c.in_ok-all.ensures.marks c.if-not-all.false paths)
         (scope_same c.args.job.now.arguments.now c.in_ok-walk.walk (c.in_ok-walk.ensures.paths ∙ c.as_slice-paths.ensures.value) (c.in_ok-walk.ensures.patterns ∙ c.as_slice.ensures.value))

@@ -12,5 +12,5 @@ pub returns-clause-walks : goal.returns-clause-walks
 returns-clause-walks g c = if_ok_both c.walk_paths.result
     (λ all covers refused. record {
       takes = λ is. paths_covered c.args.job.now.arguments.now c.if-job.false (covers is) c.requires.scope;
-      stops = λ bad none. stops_bad _ none c.if-job.false (refused bad) c.walk_paths.ensures.goes_on.told;
+      stops = λ bad none. stops_bad _ none c.if-job.false (refused bad) c.walk_paths.ensures.told;
     }) c.walk_paths.ensures.covers c.walk_paths.ensures.refused

@@ -1,57 +1,40 @@
-use Rattle.std.proofs.Common.{refl, sym}
-use Rattle.ud_tree.proofs.WalkLemmas.{finds_none, finds_call, finds_node}
-use Rattle.ud_tree.specs.WalkMessages.{is_no_text}
-use Rattle.ud_tree.proofs.WalkTellLemmas.{walk_none, walk_given, walk_unmet, walk_remark}
-use Rattle.ud_replace.specs.declared.node.Lookup.TheVariants.{Absent, Unknown}
-use Rattle.std.proofs.lemmas.Result.{on_ok_weaker}
-use Rattle.ud_tree.proofs.CoverLemmas.{takes_node, takes_unmet, takes_other, on_ok_both}
+use Rattle.std.proofs.Common.{[], ◌∷◌, refl, sym}
+use Rattle.std.proofs.lemmas.Result.{on_ok_weaker, on_err_weaker}
+use Rattle.ud_replace.specs.declared.node.Lookup.TheVariants.{Present, Absent, Unknown}
+use Rattle.ud_replace.specs.Calls.{met}
+use Rattle.ud_tree.specs.WalkSteps.{is_bytes, is_told}
+use Rattle.ud_tree.proofs.CoverLemmas.{on_err_always}
+use Rattle.ud_tree.proofs.LookLemmas.{look_still, look_unmet, loses}
 use Rattle.ud_tree.proofs.walk.Walk.add.Goals as goal
 
-pub returns-in_err-escaped-clause-goes_on : goal.returns-in_err-escaped-clause-goes_on
-returns-in_err-escaped-clause-goes_on g c = record {
-  finds = finds_none (g.T.Directory.history c.args.tree.now) c.args.self.now.found.items;
-  told = walk_none (g.T.Directory.history c.args.tree.now) c.args.report.now;
-}
+pub returns-in_err-escaped-clause-loses : goal.returns-in_err-escaped-clause-loses
+returns-in_err-escaped-clause-loses g c =
+    on_err_always c.from_residual.result (loses [] tt refl refl)
 
-pub returns-in_default-clause-goes_on : goal.returns-in_default-clause-goes_on
-returns-in_default-clause-goes_on g c = record {
-  finds = finds_none (g.T.Directory.history c.args.tree.now) c.args.self.now.found.items;
-  told = walk_remark _ (g.T.Directory.history c.args.tree.now) (is_no_text _ refl) c.fault.ensures;
-}
+pub returns-in_default-clause-look : goal.returns-in_default-clause-look
+returns-in_default-clause-look g c = look_still refl refl (is_told _ c.fault.ensures)
+    (is_bytes _ c.in_default.ensures.cases.0 refl)
 
-pub returns-in-Present-clause-goes_on : goal.returns-in-Present-clause-goes_on
-returns-in-Present-clause-goes_on g c = record {
-  finds = finds_node _ c.in-Present.node c.in-Present.ensures c.add_given.ensures.adds;
-  told = walk_given _ c.in-Present.node c.in-Present.ensures c.add_given.ensures.told;
-}
+pub returns-in-Present-clause-look : goal.returns-in-Present-clause-look
+returns-in-Present-clause-look g c = on_ok_weaker c.add_given.result (λ m. record {
+  does = _;
+  called = rw c.in-Ok.ensures.cases.0 at c.in-Present.ensures;
+  told = m.told;
+  scope = refl;
+  found = m.meets.gains.found;
+  waits = m.meets.gains.waits;
+  looks = rw c.in-Ok.ensures.cases.0 at m.meets.looks;
+}) c.add_given.ensures.meets
 
-pub returns-in-Absent-clause-goes_on : goal.returns-in-Absent-clause-goes_on
-returns-in-Absent-clause-goes_on g c = record {
-  finds = finds_call _ c.args.self.now.found.items c.node.ensures;
-  told = walk_unmet Absent _ c.args.name.now (sym c.in-Ok.ensures.cases.0) c.in-Absent.ensures c.missing.ensures;
-}
+pub returns-in-Absent-clause-look : goal.returns-in-Absent-clause-look
+returns-in-Absent-clause-look g c = look_unmet Absent c.args.name.now refl
+    (rw c.in-Ok.ensures.cases.0 at c.in-Absent.ensures) tt refl c.missing.ensures
 
-pub returns-in-Unknown-clause-goes_on : goal.returns-in-Unknown-clause-goes_on
-returns-in-Unknown-clause-goes_on g c = record {
-  finds = finds_call _ c.args.self.now.found.items c.node.ensures;
-  told = walk_unmet Unknown _ c.args.name.now (sym c.in-Ok.ensures.cases.0) c.in-Unknown.ensures c.unknown.ensures;
-}
+pub returns-in-Unknown-clause-look : goal.returns-in-Unknown-clause-look
+returns-in-Unknown-clause-look g c = look_unmet Unknown c.args.name.now refl
+    (rw c.in-Ok.ensures.cases.0 at c.in-Unknown.ensures) tt refl c.unknown.ensures
 
-pub returns-in_default-clause-takes : goal.returns-in_default-clause-takes
-returns-in_default-clause-takes g c = takes_other c.args.name.now (g.T.Directory.history c.args.tree.now) c.args.self.now.found.items c.args.report.now _ c.in_default.ensures.cases.0 c.fault.ensures.some
-
-pub returns-in-Present-clause-takes : goal.returns-in-Present-clause-takes
-returns-in-Present-clause-takes g c = on_ok_weaker c.add_given.result
-    (λ both. takes_node c.in-Present.node _ c.args.name.now _ _ c.args.report.now _ c.add_given.ensures.counted both.1
-    (sym c.in-Ok.ensures.cases.0) c.in-Present.ensures c.add_given.ensures.adds both.0)
-    (on_ok_both _ _ c.add_given.result c.add_given.ensures.is_in c.add_given.ensures.other)
-
-pub returns-in-Absent-clause-takes : goal.returns-in-Absent-clause-takes
-returns-in-Absent-clause-takes g c =
-    takes_unmet Absent _ c.args.name.now c.args.self.now.found.items c.args.report.now _
-    (λ before. c.missing.ensures.reports.some) (λ node e. absurd cc) (sym c.in-Ok.ensures.cases.0) c.in-Absent.ensures
-
-pub returns-in-Unknown-clause-takes : goal.returns-in-Unknown-clause-takes
-returns-in-Unknown-clause-takes g c =
-    takes_unmet Unknown _ c.args.name.now c.args.self.now.found.items c.args.report.now _
-    (λ before. c.unknown.ensures.reports.some) (λ node e. absurd cc) (sym c.in-Ok.ensures.cases.0) c.in-Unknown.ensures
+pub returns-in-Present-clause-loses : goal.returns-in-Present-clause-loses
+returns-in-Present-clause-loses g c = on_err_weaker c.add_given.result
+    (λ same. loses (met _ (Present c.in-Present.node) ∷ []) (refl, tt)
+    c.in-Present.ensures same) c.add_given.ensures.same

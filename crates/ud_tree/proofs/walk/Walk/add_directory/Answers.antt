@@ -1,12 +1,16 @@
-use Rattle.std.specs.Prelude.{string_bytes}
-use Rattle.std.proofs.Common.{refl}
-use Rattle.ud_tree.proofs.CoverLemmas.{waits_pushed}
-use Rattle.ud_tree.proofs.CatchLemmas.{grows_waits}
+use Rattle.std.proofs.Common.{append-nil, refl, sym}
 use Rattle.ud_tree.proofs.ScopeLemmas.{rooted_directory}
 use Rattle.ud_tree.proofs.walk.Walk.add_directory.Goals as goal
 
-pub returns-clause-waits : goal.returns-clause-waits
-returns-clause-waits c = waits_pushed (λ d. string_bytes d.path) _ _ (record { path = c.in_ok-path.path; root = c.args.root }) c.args.path.now c.in_ok-path.ensures c.in_ok-push.ensures.items
-
-pub returns-clause-grows : goal.returns-clause-grows
-returns-clause-grows c = grows_waits c.args.self.now _ (record { path = c.in_ok-path.path; root = c.args.root }) refl refl c.in_ok-push.ensures.items (rooted_directory c.in_ok-path.ensures c.requires)
+pub returns : goal.returns
+returns c = record {
+  directory = record { path = c.in_ok-path.path; root = c.args.root };
+  has_path = c.in_ok-path.ensures;
+  rooted = rooted_directory c.in_ok-path.ensures c.requires;
+  gains = record {
+    scope = refl;
+    found = sym (append-nil c.args.self.now.found.items);
+    waits = c.in_ok-push.ensures.items;
+  };
+  marks = refl;
+}

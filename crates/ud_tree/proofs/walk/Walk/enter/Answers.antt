@@ -1,42 +1,48 @@
-use Rattle.std.proofs.Common.{arith, refl, string_bytes}
-use Rattle.ud_tree.proofs.CatchLemmas.{grows_same, catches_listed, catches_then}
-use Rattle.ud_tree.proofs.CoverLemmas.{enters_begun, enters_name, enters_all}
-use Rattle.ud_tree.proofs.WalkLemmas.{finds_call, finds_then}
-use Rattle.ud_tree.proofs.WalkTellLemmas.{name_listed, walk_visited}
+use Rattle.std.proofs.Common.{◌++◌, ap, arith, length, refl, string_bytes, subst, sym}
+use Rattle.ud_tree.specs.Scopes.{IsRooted, Scope}
+use Rattle.ud_tree.specs.WalkSteps.{inside}
+use Rattle.ud_tree.proofs.CoverLemmas.{on_err_always}
+use Rattle.ud_tree.proofs.StepLemmas.{all_looked, look_calls, next_look, same_scope, steps_list}
 use Rattle.ud_tree.proofs.walk.Walk.enter.Goals as goal
 
 pub loop-name-init : goal.loop-name-init
-loop-name-init g c = (
-  finds_call _ c.args.self.now.found.items c.list_directory-names.ensures.lists.1,
-  enters_begun (λ n. n.items) _ _ (string_bytes c.args.directory.now.path) _ _ _ c.list_directory-names.ensures.counted c.as_slice-name-items.ensures.value (rw c.as_str.ensures.value at c.list_directory-names.ensures.lists),
-  rw c.as_slice-name-items.ensures.value (rw c.as_str.ensures.value at c.list_directory-names.ensures.told),
-  catches_listed _ _ c.list_directory-names.ensures.lists.0 c.args.self.now c.args.self.now c.list_directory-names.ensures.lists.1 (grows_same _ _ refl refl (λ h. h)) refl,
-)
+loop-name-init g c = record {
+  steps = steps_list {d = c.args.directory.now} (record {
+    listing = rw c.as_slice-name-items.ensures.value
+        (rw c.as_str.ensures.value at c.list_directory-names.ensures);
+    scope = refl;
+    found = refl;
+    marks = refl;
+    waits = refl;
+  });
+  called = let e = ap length c.list_directory-names.ensures.called in omega (arith, e);
+}
+
+pub visit-requires : goal.visit-requires
+visit-requires g c = subst (λ (s : Scope). IsRooted s.paths
+    (string_bytes c.args.directory.now.path) c.args.directory.now.root)
+    (sym (same_scope c.loop-name.invariant.steps)) c.requires
 
 pub loop-name-preserved : goal.loop-name-preserved
-loop-name-preserved g c = (
-  finds_then c.loop-name.invariant.0 c.visit.ensures.finds,
-  enters_name (λ n. n.items) c.as_slice-name-items.result.now c.loop-name.name-index c.name-item.result c.as_slice.result.now c.loop-name-test.true c.name-item.is c.as_slice.ensures.value
-      c.loop-name.invariant.1 (rw c.loop-name.invariant.3.grows.same at c.in_ok-visit.ensures.visits),
-  walk_visited c.loop-name.invariant.2
-      (name_listed (λ n. n.items) c.as_slice-name-items.result.now c.loop-name.name-index c.name-item.result c.as_slice.result.now c.loop-name-test.true c.name-item.is c.as_slice.ensures.value)
-      c.visit.ensures.told,
-  catches_then c.loop-name.invariant.3 c.in_ok-visit.ensures.catches,
-)
-
-pub returns-in_err-visit-clause-goes_on : goal.returns-in_err-visit-clause-goes_on
-returns-in_err-visit-clause-goes_on g c = record {
-  finds = finds_then c.loop-name.invariant.0 c.visit.ensures.finds;
-  told = (walk_visited c.loop-name.invariant.2
-      (name_listed (λ n. n.items) c.as_slice-name-items.result.now c.loop-name.name-index c.name-item.result c.as_slice.result.now c.loop-name-test.true c.name-item.is c.as_slice.ensures.value)
-      c.visit.ensures.told).reports;
+loop-name-preserved g c = record {
+  steps = next_look (λ name. inside (string_bytes c.args.directory.now.path ++ name) name)
+      (λ n. n.items) c.as_slice-name-items.result.now c.loop-name.name-index c.name-item.result
+      c.as_slice.result.now c.loop-name-test.true c.name-item.is c.as_slice.ensures.value
+      c.loop-name.invariant.steps c.in_ok-visit.ensures.look;
+  called = let few = c.loop-name.invariant.called in
+      let more = look_calls c.in_ok-visit.ensures.look in omega arith;
 }
 
-pub returns-clause-goes_on : goal.returns-clause-goes_on
-returns-clause-goes_on g c = record {
-  finds = c.loop-name.invariant.0;
-  told = c.loop-name.invariant.2.reports;
-}
+pub returns-in_err-visit-clause-stops : goal.returns-in_err-visit-clause-stops
+returns-in_err-visit-clause-stops g c = on_err_always c.from_residual.result (record {
+  rest = _;
+  last = _;
+  steps = c.loop-name.invariant.steps;
+  loses = c.in_err-visit.ensures.loses;
+})
 
-pub returns-clause-enters : goal.returns-clause-enters
-returns-clause-enters g c = enters_all (λ n. n.items) c.as_slice-name-items.result.now c.loop-name.name-index (omega arith) c.loop-name.invariant.1
+pub returns-clause-steps : goal.returns-clause-steps
+returns-clause-steps g c = all_looked
+    (λ name. inside (string_bytes c.args.directory.now.path ++ name) name) (λ n. n.items)
+    c.as_slice-name-items.result.now c.loop-name.name-index (omega arith)
+    c.loop-name.invariant.steps

@@ -1,18 +1,22 @@
-use Rattle.std.proofs.Common.{true, false}
-use Rattle.ud_tree.proofs.WalkTellLemmas.{walk_listed, walk_unread}
+use Rattle.std.proofs.Common.{true, false, refl}
+use Rattle.ud_tree.specs.WalkSteps.{is_cut, is_silent, is_told, is_whole}
 use Rattle.ud_tree.proofs.walk.Walk.list_directory.Goals as goal
 
-pub returns-then-listed-clause-told : goal.returns-then-listed-clause-told
-returns-then-listed-clause-told g c = walk_listed _ _ c.args.report.now c.if-listed.ensures.noted
+pub returns-then-listed : goal.returns-then-listed
+returns-then-listed g c = record {
+  answer = true;
+  messages = _;
+  called = c.if-listed.ensures.noted;
+  told = is_silent refl;
+  reads = is_whole;
+}
 
-pub returns-clause-told : goal.returns-clause-told
-returns-clause-told g c = walk_unread _ _ _ c.as_bytes.ensures.value c.if-listed.ensures.noted c.failure.ensures
-
-pub returns-then-listed-clause-lists : goal.returns-then-listed-clause-lists
-returns-then-listed-clause-lists g c = (true, c.if-listed.ensures.noted)
-
-pub returns-clause-lists : goal.returns-clause-lists
-returns-clause-lists g c = (false, c.if-listed.ensures.noted)
-
-pub returns-clause-counted : goal.returns-clause-counted
-returns-clause-counted g c = λ before. c.failure.ensures.reports.some
+pub returns : goal.returns
+returns g c = record {
+  answer = false;
+  messages = _;
+  called = c.if-listed.ensures.noted;
+  told = is_told c.failure.ensures.message c.failure.ensures.reports;
+  reads = is_cut c.failure.ensures.message
+      (rw c.as_bytes.ensures.value at c.failure.ensures.is_of);
+}
