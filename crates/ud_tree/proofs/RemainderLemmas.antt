@@ -1,22 +1,21 @@
 -- The conditions of some outputs, and the names in some texts, one after another.
-use Rattle.std.proofs.Common.{◌≡◌, ℕ, List, [], ◌∷◌, ◌++◌, Bool, true, false, not, ◌||◌, refl, sym, ◌∙◌, ap, subst, append-nil, arith}
+use Rattle.std.proofs.Common.{◌≡◌, ℕ, List, [], ◌∷◌, ◌++◌, Bool, true, not, refl, sym, ◌∙◌, ap, subst, append-nil, arith}
 use Rattle.std.proofs.lemmas.Grind.{flat_map-append, common_steps}
 use Rattle.std.proofs.lemmas.Bool.{false≢true}
 use Rattle.std.proofs.lemmas.List.Elements.{filter_agree}
 use Rattle.std.proofs.lemmas.List.Folds.{list_any-append}
 use Rattle.std.proofs.lemmas.List.Sums.{sum_by-append}
 use Rattle.std.specs.Prelude.{filter, map, ◌&&◌}
-use Rattle.std.specs.List.{list_any}
 use Rattle.ud_model.specs.conditions.Conditions.{is_listed}
 use Rattle.ud_model.specs.conditions.Table.{Argument}
 use Rattle.ud_args.specs.CommandLines.{Parsed}
-use Rattle.ud_args.specs.TreeWords.{has_name, symbol_names}
+use Rattle.ud_args.specs.TreeWords.{has_name}
 use Rattle.ud_cond.specs.symbols.Marks.{is_marked, Unmarks}
 use Rattle.ud_cond.specs.symbols.SymbolTable.{TableRepresents}
 use Rattle.ud_passes.specs.remaining.RemainingLists.{RemainingState, AddsAll, LeavesUnnamed}
 use Rattle.ud_tree.specs.declared.arguments.Arguments.{Arguments}
 use Rattle.ud_tree.specs.Reports.{ReportState, KeepsFinds}
-use Rattle.ud_tree.specs.Remainders.{mode_of, is_searched, Finds, AddsOutputs, FindsAll, has_condition, is_named_in, unnamed_in}
+use Rattle.ud_tree.specs.Remainders.{mode_of, is_searched, Finds, AddsOutputs, FindsAll, is_named_in, unnamed_in}
 use Rattle.ud_tree.specs.Requests.{IsArgumentsOf}
 use Rattle.ud_tree.specs.Summaries.{still_unnamed}
 use Rattle.ud_tree.specs.Unnamed.{FindsNames}

@@ -1,4 +1,4 @@
-use Rattle.std.proofs.Common.{[], arith, map, refl, subst}
+use Rattle.std.proofs.Common.{[], arith, map, refl}
 use Rattle.ud_tree.specs.WalkSteps.{at, given, no_step, nowhere}
 use Rattle.ud_tree.proofs.StepLemmas.{all_looked, next_look, none_given, steps_find, steps_give}
 use Rattle.ud_tree.proofs.StepLemmas.{steps_report, stops_report}

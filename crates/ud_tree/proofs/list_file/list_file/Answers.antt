@@ -1,5 +1,5 @@
 -- By the run over the file's text.
-use Rattle.std.proofs.Common.{◌≡◌, ℕ, List, [], Bool, Ok, is_ok, if◌then◌else◌, refl, sym, ap, ◌∙◌, subst, append-nil, arith}
+use Rattle.std.proofs.Common.{ℕ, List, [], is_ok, if◌then◌else◌, refl, sym, ap, ◌∙◌, subst, append-nil, arith}
 use Rattle.std.proofs.lemmas.Result.{err_from_is_err_and}
 use Rattle.ud_replace.specs.UnprunedRuns.{RunsUnpruned}
 use Rattle.ud_tree.specs.Shown.{fails_over, not_read, unlisted}

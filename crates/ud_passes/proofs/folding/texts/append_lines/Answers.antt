@@ -1,5 +1,5 @@
 -- From the first line to the last.
-use Rattle.std.proofs.Common.{[], append-nil, sym, ◌∙◌}
+use Rattle.std.proofs.Common.{sym, ◌∙◌}
 use Rattle.ud_model.specs.declared.kind.Mode.TheVariants.{C}
 use Rattle.ud_text.proofs.lemmas.scan.PassLemmas.{nothing_left}
 use Rattle.ud_passes.proofs.FoldLemmas.{first_folded, all_folded}

@@ -1,5 +1,5 @@
 -- From the first line to the last.
-use Rattle.std.proofs.Common.{◌≡◌, ℕ, List, [], ◌++◌, length, map, append-nil, append_assoc, sym, ◌∙◌, ap, arith}
+use Rattle.std.proofs.Common.{◌≡◌, ℕ, List, ◌++◌, length, map, sym, ◌∙◌, ap, arith}
 use Rattle.std.specs.List.{concat}
 use Rattle.ud_model.specs.text.Scans.{Reading}
 use Rattle.ud_model.specs.aids.ReadAs.{read_as}

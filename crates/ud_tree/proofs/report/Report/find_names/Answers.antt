@@ -1,5 +1,5 @@
 -- By the search of the text, if a name is sought.
-use Rattle.std.proofs.Common.{◌≡◌, [], ◌∙◌, ap, refl, sym, arith}
+use Rattle.std.proofs.Common.{◌≡◌, [], refl, arith}
 use Rattle.std.proofs.lemmas.List.{nil_from_length}
 use Rattle.ud_tree.proofs.RemainderLemmas.{finds_named, finds_unsought}
 use Rattle.ud_tree.proofs.report.Report.find_names.Goals as goal

@@ -1,5 +1,5 @@
 -- By whether the next name is marked.
-use Rattle.std.proofs.Common.{◌≡◌, ◌∙◌, List, sym, ap, subst, map, take, ◌+◌}
+use Rattle.std.proofs.Common.{◌∙◌, sym, ap, subst, map, take, ◌+◌}
 use Rattle.std.specs.List.{flat_map}
 use Rattle.std.specs.Prelude.{filter}
 use Rattle.ud_io.specs.Streams.{Sends, stream_of}
