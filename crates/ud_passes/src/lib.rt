@@ -6,8 +6,8 @@
 //!
 //! - `Names` keeps the files' lists of names, and the conditions that can't be listed in full.
 //! - `Remaining` keeps the conditions that still name a symbol of the options.
-//! - `prune` appends a text without the operands of its conditions that the symbols decide.
-//! - `fold` appends a text with each conditional directive on one line, and `restore` goes back.
+//! - `prune` returns a text without the operands of its conditions that the symbols decide.
+//! - `fold` returns a text with each conditional directive on one line, and `restore` goes back.
 //! - `is_untouched` tells most texts that `fold` and `prune` leave as they are.
 //! - `squeeze` leaves out the blank lines that only stood there because of lines that went.
 //!

@@ -9,9 +9,9 @@
 -- The text may be a folded one, in which a vertical tab represents a newline. Its conditions are
 -- listed by the lines of the text that was folded: by the number and the body of the first one.
 --
--- Example: for `#if A`, `#elif B \` and `#endif` in the file `f.c`, the list is the line `f.c:2:
--- #elif B \`. `#if F(A)` is listed too, and `#if F(1)` isn't. For the folded text of `#if A \`, `||
--- B`, `#elif C \`, `D` and `#endif` it is the line `f.c:3: #elif C \`.
+-- Example: for `#if A`, `#elif B \` and `#endif` in the file `f.c`, the list is the line
+-- `f.c:2: #elif B \`. For the folded text of `#if A \`, `|| B`, `#elif C \`, `D` and `#endif` it is
+-- the line `f.c:3: #elif C \`. The line `#if F(A)` is listed too, and `#if F(1)` isn't.
 use Rattle.std.specs.Prelude.{ℕ, suc, ◌+◌, ◌==◌, List, [], ◌∷◌, ◌++◌, length}
 use Rattle.std.specs.Prelude.{Bool, true, false, not, ◌&&◌, ◌||◌, if◌then◌else◌, count_by}
 use Rattle.std.specs.Prelude.{is_some}
