@@ -4,6 +4,7 @@
 --   WordLemmas.word_taken          the words of a block, one after another
 --   CourseLemmas.begins            the course of a text in chunks begins
 pub mod WordLemmas
+pub mod FaultLemmas
 pub mod TextCallLemmas
 pub mod WalkWords
 pub mod HandleBox

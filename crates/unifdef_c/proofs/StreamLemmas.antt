@@ -6,8 +6,10 @@ use Rattle.ud_model.specs.declared.settings.Settings.{Settings}
 use Rattle.ud_engine.specs.declared.fault.RunFault.{RunFault}
 use Rattle.ud_args.specs.Plans.{PlanState, IsPlanOf}
 use Rattle.unifdef_c.specs.Streams.{IsNewStream, BeginsStream, FeedsStream, TakesStream, EndsStream, pending, has_ended}
-use Rattle.unifdef_c.specs.StreamCalls.{OpensStream, OpensHandle, FeedsHandle, TakesHandle, TellsEnd, EndsHandle, as_int, HasBadWords, opened, bad_words, no_memory}
+use Rattle.unifdef_c.specs.StreamCalls.{OpensStream, OpensHandle, FeedsHandle, TakesHandle, TellsEnd, EndsHandle, as_int, opened, refused}
 use Rattle.unifdef_c.specs.StreamCalls as calls
+use Rattle.unifdef_c.specs.CallFaults.{IsCallFault, code}
+use Rattle.unifdef_c.specs.declared.fault.CallFault.{CallFault}
 use Rattle.unifdef_c.specs.declared.stream.Stream.{Stream}
 use Rattle.unifdef_c.specs.declared.stream.Fed.{Fed}
 use Rattle.unifdef_c.specs.declared.stream.Fed.TheVariants as is
@@ -42,11 +44,8 @@ begins args plan name s p named n = record {
 pub opens : (block : List ℕ) (h : Option Stream) (s : Stream) → h ≡ Some s → OpensStream block s → OpensHandle block h (pos 0)
 opens block h s e w = subst (λ (x : Option Stream). OpensHandle block x (pos 0)) (sym e) (opened s w)
 
-pub opens_bad : (block : List ℕ) (h : Option Stream) → h ≡ None → HasBadWords block → OpensHandle block h (negsuc 0)
-opens_bad block h e w = subst (λ (x : Option Stream). OpensHandle block x (negsuc 0)) (sym e) (bad_words w)
-
-pub opens_none : (block : List ℕ) (h : Option Stream) → h ≡ None → OpensHandle block h (negsuc 1)
-opens_none block h e = subst (λ (x : Option Stream). OpensHandle block x (negsuc 1)) (sym e) no_memory
+pub opens_none : (block : List ℕ) (h : Option Stream) (f : CallFault) → h ≡ None → IsCallFault block f → OpensHandle block h (code f)
+opens_none block h f e w = subst (λ (x : Option Stream). OpensHandle block x (code f)) (sym e) (refused f w)
 
 pub feeds : (chunk : List ℕ) (h h' : Option Stream) (s t : Stream) (f : Fed) → h ≡ Some s → h' ≡ Some t → FeedsStream s t chunk f → FeedsHandle chunk h h' (as_int f)
 feeds chunk h h' s t f e e' w =

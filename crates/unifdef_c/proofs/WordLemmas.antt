@@ -8,9 +8,9 @@ use Rattle.std.specs.List.{position_or_len, position}
 use Rattle.std.specs.Str.{IsUtf8}
 use Rattle.std.proofs.lemmas.Grind.{common_steps}
 use Rattle.unifdef_c.specs.Words.{onto_first, words_of, AreUtf8}
-use Rattle.unifdef_c.specs.ArgsFaults.{IsArgsFault}
-use Rattle.unifdef_c.specs.declared.args.ArgsFault.{ArgsFault}
-use Rattle.unifdef_c.specs.declared.args.ArgsFault.TheVariants.{NotUtf8}
+use Rattle.unifdef_c.specs.CallFaults.{IsWordsFault}
+use Rattle.unifdef_c.specs.declared.fault.CallFault.{CallFault}
+use Rattle.unifdef_c.specs.declared.fault.CallFault.TheVariants.{BadWords}
 
 -- `word_len block`: how many bytes come before the first zero byte.
 abbrev pub word_len : List ℕ → ℕ
@@ -81,6 +81,6 @@ AreUtf8-right [] ys all = all
 AreUtf8-right (x ∷ xs) ys all = AreUtf8-right xs ys all.1
 
 -- a word that isn't UTF-8 is why the block isn't taken
-pub word_refused : (block word : List ℕ) (done after : List (List ℕ)) (fault : ArgsFault) →
-    words_of block ≡ done ++ word ∷ after → (fault ≡ NotUtf8 → ¬ (IsUtf8 word)) → IsArgsFault block fault
+pub word_refused : (block word : List ℕ) (done after : List (List ℕ)) (fault : CallFault) →
+    words_of block ≡ done ++ word ∷ after → (fault ≡ BadWords → ¬ (IsUtf8 word)) → IsWordsFault block fault
 word_refused block word done after fault e wrong = grind (arith, AreUtf8-right)

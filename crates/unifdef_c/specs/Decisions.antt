@@ -1,7 +1,7 @@
 -- Decisions: what a call from C returns for one expression.
 use Rattle.std.specs.Prelude.{◌≡◌, ◌⊎◌, ℕ, ℤ, pos, negsuc, ◌<◌, ◌≤◌, List, length, nat_le}
-use Rattle.std.specs.Prelude.{None, Some, if◌then◌else◌}
-use Rattle.ud_model.specs.answer.CommandLine.{UsageFault, usage_fault, options_of}
+use Rattle.std.specs.Prelude.{None, if◌then◌else◌}
+use Rattle.ud_model.specs.answer.CommandLine.{usage_fault, options_of}
 use Rattle.ud_model.specs.conditions.Conditions.{condition_of}
 use Rattle.ud_model.specs.conditions.Names.{names_of}
 use Rattle.ud_model.specs.sections.Items.{rules_of}
@@ -10,9 +10,9 @@ use Rattle.ud_model.specs.declared.cond.Cond.TheVariants.{Yes, No, Unknown}
 use Rattle.ud_model.specs.declared.kind.Kind.TheVariants.{If}
 use Rattle.ud_model.specs.declared.limits.TheConstants.{LINE_BYTES}
 use Rattle.unifdef_c.specs.Words.{words_of, block_of, AreUtf8}
+use Rattle.unifdef_c.specs.CallFaults.{IsCallFault, code}
 use Rattle.unifdef_c.specs.TextCalls.{overwritten}
-use Rattle.unifdef_c.specs.declared.decide.Decision.{Decision}
-use Rattle.unifdef_c.specs.declared.decide.Decision.TheVariants as is
+use Rattle.unifdef_c.specs.declared.fault.CallFault.{CallFault}
 
 -- `cond_by args text`: the condition of the expression `text` by the options of `args`.
 abbrev pub cond_by : List (List ℕ) → List ℕ → Cond
@@ -23,35 +23,20 @@ cond_by args text =
 abbrev pub Decides : List (List ℕ) → List ℕ → Cond → Type 0
 Decides args text cond = (usage_fault args ≡ None) × (cond_by args text ≡ cond)
 
--- `IsDecisionByArgs args text d`: `d` is how the arguments decide the expression `text`. Memory for
--- a symbol may be refused.
-abbrev pub IsDecisionByArgs : List (List ℕ) → List ℕ → Decision → Type 0
-IsDecisionByArgs args text is.False = Decides args text No
-IsDecisionByArgs args text is.True = Decides args text Yes
-IsDecisionByArgs args text is.Unknown = Decides args text Unknown
-IsDecisionByArgs args text is.BadWords = (f : UsageFault) × (usage_fault args ≡ Some f)
-IsDecisionByArgs args text is.OutOfMemory = Unit {0}
-IsDecisionByArgs args text is.TooLong = ⊥
+-- `as_int c`: the number of the condition `c`.
+abbrev pub as_int : Cond → ℤ
+as_int No = pos 0
+as_int Yes = pos 1
+as_int Unknown = pos 2
 
--- `as_int d`: the number of a decision.
-abbrev pub as_int : Decision → ℤ
-as_int is.False = pos 0
-as_int is.True = pos 1
-as_int is.Unknown = pos 2
-as_int is.BadWords = negsuc 0
-as_int is.OutOfMemory = negsuc 1
-as_int is.TooLong = negsuc 2
-
--- `IsDecision block text n`: `n` is the number of the decision of the words of `block` on the
--- expression. A word that isn't UTF-8 is a fault, and so is an expression longer than a line.
--- A word that isn't UTF-8 is a fault, and an expression may be longer than a line.
+-- `IsDecision block text n`: `n` is the number of the condition of the expression `text` by the
+-- words of `block`, or says why there is none. An expression may be longer than a line.
 pub data IsDecision (block text : List ℕ) : ℤ → Type 0 where
-  by_args : (d : Decision) → AreUtf8 (words_of block) → length text ≤ LINE_BYTES →
-      IsDecisionByArgs (words_of block) text d → IsDecision block text (as_int d)
-  not_words : ¬ (AreUtf8 (words_of block)) → length text ≤ LINE_BYTES →
-      IsDecision block text (as_int is.BadWords)
-  no_memory : length text ≤ LINE_BYTES → IsDecision block text (as_int is.OutOfMemory)
-  too_long : LINE_BYTES < length text → IsDecision block text (as_int is.TooLong)
+  decided : (c : Cond) → AreUtf8 (words_of block) → length text ≤ LINE_BYTES →
+      Decides (words_of block) text c → IsDecision block text (as_int c)
+  refused : (f : CallFault) → IsCallFault block f → length text ≤ LINE_BYTES →
+      IsDecision block text (code f)
+  too_long : LINE_BYTES < length text → IsDecision block text (negsuc 2)
 
 -- The names of the expression, each with a zero byte after it.
 abbrev pub names_block : List ℕ → List ℕ

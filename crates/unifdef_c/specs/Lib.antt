@@ -1,5 +1,5 @@
 pub mod Words
-pub mod ArgsFaults
+pub mod CallFaults
 pub mod TextCalls
 pub mod Parts
 pub mod Decisions

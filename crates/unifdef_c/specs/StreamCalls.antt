@@ -1,18 +1,19 @@
 -- StreamCalls: what the calls from C do for a text that comes in chunks.
 --
 -- A handle is the stream that it owns, or `None` if it is closed.
-use Rattle.std.specs.Prelude.{◌≡◌, ◌⊎◌, ℕ, ℤ, pos, negsuc, List, length, nat_le, Option, None, Some}
+use Rattle.std.specs.Prelude.{◌≡◌, ℕ, ℤ, pos, negsuc, List, length, nat_le, Option, None, Some}
 use Rattle.std.specs.Prelude.{Bool, Result, Err, if◌then◌else◌}
-use Rattle.ud_model.specs.answer.CommandLine.{UsageFault, usage_fault}
 use Rattle.ud_model.specs.answer.Messages.{out_of_memory}
 use Rattle.ud_model.specs.declared.settings.Settings.{Settings}
 use Rattle.ud_engine.specs.declared.fault.RunFault.{RunFault}
 use Rattle.ud_engine.specs.declared.fault.RunFault.TheVariants.{Write}
 use Rattle.unifdef.specs.RunMessages.{result_message, result_status}
 use Rattle.unifdef_c.specs.Words.{words_of, AreUtf8}
+use Rattle.unifdef_c.specs.CallFaults.{IsCallFault, code}
 use Rattle.unifdef_c.specs.TextCalls.{overwritten}
 use Rattle.unifdef_c.specs.Streams.{BeginsStream, FeedsStream, TakesStream, EndsStream, pending}
 use Rattle.unifdef_c.specs.declared.stream.Stream.{Stream}
+use Rattle.unifdef_c.specs.declared.fault.CallFault.{CallFault}
 use Rattle.unifdef_c.specs.declared.stream.Fed.{Fed}
 use Rattle.unifdef_c.specs.declared.stream.Fed.TheVariants as is
 
@@ -20,17 +21,11 @@ use Rattle.unifdef_c.specs.declared.stream.Fed.TheVariants as is
 abbrev pub OpensStream : List ℕ → Stream → Type 0
 OpensStream block s = AreUtf8 (words_of block) × BeginsStream (words_of block) s
 
--- `HasBadWords block`: the words of `block` have a fault, or one of them isn't UTF-8.
-abbrev pub HasBadWords : List ℕ → Type 0
-HasBadWords block =
-    ¬ (AreUtf8 (words_of block)) ⊎ (f : UsageFault) × (usage_fault (words_of block) ≡ Some f)
-
--- `OpensHandle block h n`: `h` has a stream by the words of `block`, and `n` is 0. Or it has none:
--- the words are bad, and `n` is -1; or memory was refused, and `n` is -2.
+-- `OpensHandle block h n`: `h` has a stream by the words of `block`, and `n` is 0. Or it has none,
+-- and `n` says why.
 pub data OpensHandle (block : List ℕ) : Option Stream → ℤ → Type 0 where
   opened : (s : Stream) → OpensStream block s → OpensHandle block (Some s) (pos 0)
-  bad_words : HasBadWords block → OpensHandle block None (negsuc 0)
-  no_memory : OpensHandle block None (negsuc 1)
+  refused : (f : CallFault) → IsCallFault block f → OpensHandle block None (code f)
 
 -- `as_int fed`: the number for the effect of a chunk.
 abbrev pub as_int : Fed → ℤ

@@ -4,46 +4,43 @@ ghost use Rattle.std.specs.Prelude.{◌≡◌, ◌∷◌, ◌<◌, length, map, 
 ghost use Rattle.std.specs.Prelude.{◌==◌, position};
 ghost use Rattle.unifdef_c.specs.Words.{words_of, AreUtf8};
 ghost use Rattle.std.specs.Str.{IsUtf8};
-ghost use Rattle.unifdef_c.specs.ArgsFaults.{IsArgsFault};
+ghost use Rattle.ud_args.specs.Plans.{IsPlanOf};
+ghost use Rattle.unifdef_c.specs.CallFaults.{IsWordsFault, IsCallFault};
 
-use std::alloc::{AllocError, Global};
+use crate::fault::CallFault;
+use std::alloc::Global;
+use ud_args::{Plan, plan};
 
-/// The reason why words aren't accepted as arguments.
-#[derive(Clone, Copy, Debug, PartialEq, Eq)]
-pub(crate) enum ArgsFault {
-    /// A word isn't UTF-8.
-    NotUtf8,
-    /// Memory for a word can't be allocated.
-    OutOfMemory,
-}
-
-impl From<AllocError> for ArgsFault {
-    ghost use Rattle.unifdef_c.specs.declared.args.ArgsFault.TheVariants.{OutOfMemory};
-
-    ghost from_gives = { λ _ fault. fault ≡ OutOfMemory };
-
-    fn from(_error: AllocError) -> ArgsFault {
-        ArgsFault::OutOfMemory
-    }
+/// Returns the plan of the arguments in a block of words.
+///
+/// # Errors
+/// `BadWords` if the words have a fault or one of them isn't UTF-8, `OutOfMemory` if memory can't
+/// be allocated.
+pub(crate) fn plan_words(alloc: Global, words: &[u8]) -> Result<Plan, CallFault>
+    ensures ok { IfOk result (IsPlanOf (words_of words.now)) }
+    ensures utf8 { IfOk result (λ _. AreUtf8 (words_of words.now)) }
+    ensures err { IfErr result (IsCallFault words.now) }
+{
+    let args = parse_words(alloc, words)?;
+    Ok(plan(alloc, args.as_slice())?)
 }
 
 /// Returns the arguments in a block of words.
 ///
 /// # Errors
-/// `NotUtf8` if a word isn't UTF-8, `OutOfMemory` if memory for an earlier word can't be allocated.
-pub(crate) fn parse_words(alloc: Global, words: &[u8]) -> Result<Vec<String>, ArgsFault>
+/// `BadWords` if a word isn't UTF-8, `OutOfMemory` if memory for an earlier word can't be
+/// allocated.
+pub(crate) fn parse_words(alloc: Global, words: &[u8]) -> Result<Vec<String>, CallFault>
     ensures ok { IfOk result (λ args. map string_bytes args.items ≡ words_of words.now) }
     ensures utf8 { IfOk result (λ args. AreUtf8 (words_of words.now)) }
-    ensures err { IfErr result (IsArgsFault words.now) }
+    ensures err { IfErr result (IsWordsFault words.now) }
 {
     let mut args = Vec::new(alloc);
     let mut rest = words;
     'words: while !rest.is_empty() {
         let (word, after) = split_word(rest);
-        match args.push(parse_word(alloc, word)?) {
-            Ok(()) => rest = after,
-            Err(_) => return Err(ArgsFault::OutOfMemory),
-        }
+        args.push(parse_word(alloc, word)?)?;
+        rest = after;
     }
     Ok(args)
 }
@@ -52,14 +49,14 @@ pub(crate) fn parse_words(alloc: Global, words: &[u8]) -> Result<Vec<String>, Ar
 ///
 /// # Errors
 /// As `parse_words`.
-fn parse_word(alloc: Global, word: &[u8]) -> Result<String, ArgsFault>
+fn parse_word(alloc: Global, word: &[u8]) -> Result<String, CallFault>
     ensures ok { IfOk result (λ arg. string_bytes arg ≡ word.now) }
     ensures utf8 { IfOk result (λ arg. IsUtf8 word.now) }
-    ensures err { IfErr result (λ fault. fault ≡ ArgsFault.NotUtf8 → ¬ (IsUtf8 word.now)) }
+    ensures err { IfErr result (λ fault. fault ≡ CallFault.BadWords → ¬ (IsUtf8 word.now)) }
 {
     match str::from_utf8(word) {
         Ok(text) => Ok(String::from_str(alloc, text)?),
-        Err(_) => Err(ArgsFault::NotUtf8),
+        Err(_) => Err(CallFault::BadWords),
     }
 }
 

@@ -1,7 +1,6 @@
 //! Decides one condition, and lists the names in one.
 
-ghost use Rattle.std.specs.Prelude.{◌≡◌, ◌≤◌, ◌++◌, ◌∷◌, [], ℕ, List, length, map, string_bytes};
-ghost use Rattle.std.specs.Prelude.{IfSome, true};
+ghost use Rattle.std.specs.Prelude.{◌≡◌, ◌≤◌, List, length, IfOk, IfErr};
 ghost use Rattle.ud_model.specs.conditions.Table.{Argument};
 ghost use Rattle.ud_model.specs.conditions.Conditions.{condition_of};
 ghost use Rattle.ud_model.specs.conditions.Names.{names_of};
@@ -9,32 +8,17 @@ ghost use Rattle.ud_model.specs.sections.Items.{rules_of};
 ghost use Rattle.ud_model.specs.declared.limits.TheConstants.{LINE_BYTES};
 ghost use Rattle.ud_model.specs.declared.kind.Kind.TheVariants.{If};
 ghost use Rattle.ud_cond.specs.symbols.SymbolTable.{TableRepresents};
-ghost use Rattle.unifdef_c.specs.Words.{block_of};
-ghost use Rattle.unifdef_c.specs.Decisions.{IsDecision, IsDecisionByArgs, NamesAnswer, as_int};
+ghost use Rattle.unifdef_c.specs.Words.{words_of, block_of, AreUtf8};
+ghost use Rattle.unifdef_c.specs.CallFaults.{IsCallFault};
+ghost use Rattle.unifdef_c.specs.Decisions.{Decides, IsDecision, NamesAnswer};
 
-use crate::args::{ArgsFault, parse_words};
+use crate::args::plan_words;
+use crate::fault::CallFault;
 use crate::hand_out::overwrite;
 use std::alloc::Global;
-use ud_args::{Plan, Usage, plan};
+use ud_args::Plan;
 use ud_cond::{Rules, condition, names};
 use ud_model::{Cond, Kind, LINE_BYTES};
-
-/// The decision on an expression, or why there is none.
-#[derive(Clone, Copy, Debug, PartialEq, Eq)]
-pub(crate) enum Decision {
-    /// The expression is false.
-    False,
-    /// The expression is true.
-    True,
-    /// The words don't decide the expression, or it can't be understood.
-    Unknown,
-    /// The words have a fault, or one of them isn't UTF-8.
-    BadWords,
-    /// Memory can't be allocated.
-    OutOfMemory,
-    /// The expression is longer than a line.
-    TooLong,
-}
 
 /// Decides the expression of an `#if` by the arguments in `words`.
 ///
@@ -47,44 +31,29 @@ pub(crate) enum Decision {
 pub extern "C" fn unifdef_condition(alloc: Global, words: &[u8], expression: &[u8]) -> i32
     ensures { IsDecision words.now expression.now result }
 {
+    if expression.len() > LINE_BYTES {
+        return -3;
+    }
     match decide(alloc, words, expression) {
-        Decision::False => 0,
-        Decision::True => 1,
-        Decision::Unknown => 2,
-        Decision::BadWords => -1,
-        Decision::OutOfMemory => -2,
-        Decision::TooLong => -3,
+        Ok(Cond::No) => 0,
+        Ok(Cond::Yes) => 1,
+        Ok(Cond::Unknown) => 2,
+        Err(fault) => fault.code(),
     }
 }
 
 /// Decides an expression by the words of a block.
-fn decide(alloc: Global, words: &[u8], expression: &[u8]) -> Decision
-    ensures { IsDecision words.now expression.now (as_int result) }
-{
-    if expression.len() > LINE_BYTES {
-        return Decision::TooLong;
-    }
-    match parse_words(alloc, words) {
-        Ok(args) => decide_by_args(alloc, args.as_slice(), expression),
-        Err(ArgsFault::NotUtf8) => Decision::BadWords,
-        Err(ArgsFault::OutOfMemory) => Decision::OutOfMemory,
-    }
-}
-
-/// Decides an expression by arguments.
-fn decide_by_args(alloc: Global, args: &[String], expression: &[u8]) -> Decision
+///
+/// # Errors
+/// As `plan_words`.
+fn decide(alloc: Global, words: &[u8], expression: &[u8]) -> Result<Cond, CallFault>
     requires fits { length expression.now ≤ LINE_BYTES }
-    ensures { IsDecisionByArgs (map string_bytes args.now) expression.now result }
+    ensures ok { IfOk result (Decides (words_of words.now) expression.now) }
+    ensures utf8 { IfOk result (λ _. AreUtf8 (words_of words.now)) }
+    ensures err { IfErr result (IsCallFault words.now) }
 {
-    match plan(alloc, args) {
-        Ok(plan) => match cond_by_plan(&plan, expression) {
-            Cond::Yes => Decision::True,
-            Cond::No => Decision::False,
-            Cond::Unknown => Decision::Unknown,
-        },
-        Err(Usage::OutOfMemory) => Decision::OutOfMemory,
-        Err(_) => Decision::BadWords,
-    }
+    let plan = plan_words(alloc, words)?;
+    Ok(cond_by_plan(&plan, expression))
 }
 
 /// Returns the condition of an expression under a plan.
@@ -118,32 +87,28 @@ pub extern "C" fn unifdef_names(
         return -3;
     }
     match name_block(alloc, expression) {
-        None => -2,
-        Some(all) => {
+        Ok(all) => {
             *size = all.len();
             overwrite(block, all.as_slice());
             if all.len() <= block.len() { 0 } else { 3 }
         }
+        Err(fault) => fault.code(),
     }
 }
 
-/// Returns the names of an expression, each with a zero byte after it; `None` if memory is refused.
-fn name_block(alloc: Global, expression: &[u8]) -> Option<Vec<u8>>
+/// Returns the names of an expression, each with a zero byte after it.
+///
+/// # Errors
+/// `OutOfMemory` if memory is refused.
+fn name_block(alloc: Global, expression: &[u8]) -> Result<Vec<u8>, CallFault>
     requires fits { length expression.now ≤ LINE_BYTES }
-    ensures { IfSome result (λ all. all.items ≡ block_of (names_of If expression.now)) }
+    ensures ok { IfOk result (λ all. all.items ≡ block_of (names_of If expression.now)) }
+    ensures err { IfErr result (λ fault. fault ≡ CallFault.OutOfMemory) }
 {
     let mut all = Vec::new(alloc);
     for name in names(Kind::If, expression) {
-        if !push_name(&mut all, name) {
-            return None;
-        }
+        all.extend_from_slice(name)?;
+        all.push(0)?;
     }
-    Some(all)
-}
-
-/// Appends a name and a zero byte. Returns whether memory suffices.
-fn push_name(all: &mut Vec<u8>, name: &[u8]) -> bool
-    ensures { result ≡ true → all.new.items ≡ all.old.items ++ (name.now ++ 0 ∷ []) }
-{
-    all.extend_from_slice(name).is_ok() && all.push(0).is_ok()
+    Ok(all)
 }

@@ -7,6 +7,7 @@
 
 mod args;
 mod decide;
+mod fault;
 mod hand_out;
 mod handle;
 mod laws;

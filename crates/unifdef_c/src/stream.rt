@@ -2,13 +2,14 @@
 
 ghost use Rattle.std.specs.Prelude.{◌≡◌, ◌+◌, ◌^◌, ◌<◌, None, IfOk, IfErr, length, map};
 ghost use Rattle.std.specs.Prelude.{string_bytes};
-ghost use Rattle.ud_model.specs.answer.CommandLine.{UsageFault, usage_fault};
+ghost use Rattle.unifdef_c.specs.CallFaults.{IsArgsFault};
 ghost use Rattle.unifdef_c.specs.Streams.{IsNewStream, BeginsStream, FeedsStream, TakesStream};
 ghost use Rattle.unifdef_c.specs.Streams.{EndsStream, FinishesStream, pending, fed_of};
 
+use crate::fault::CallFault;
 use crate::hand_out::overwrite;
 use std::alloc::Global;
-use ud_args::{Plan, Usage, display_name, plan};
+use ud_args::{Plan, display_name, plan};
 use ud_engine::{EngineOf, RunFault, Watched};
 use ud_model::Settings;
 use ud_sections::Printer;
@@ -30,15 +31,6 @@ pub struct Stream {
     pub(crate) ended: Option<Result<bool, RunFault>>,
 }
 
-/// The reason why no stream begins.
-#[derive(Clone, Copy, Debug, PartialEq, Eq)]
-pub(crate) enum BeginFault {
-    /// The words have a fault, or one of them isn't UTF-8.
-    BadWords,
-    /// Memory can't be allocated.
-    OutOfMemory,
-}
-
 /// The effect of a chunk.
 #[derive(Clone, Copy, Debug, PartialEq, Eq)]
 pub(crate) enum Fed {
@@ -57,34 +49,26 @@ impl Stream {
     ///
     /// # Errors
     /// `BadWords` if the arguments have a fault, `OutOfMemory` if memory is refused.
-    pub(crate) fn begin(alloc: Global, args: &[String]) -> Result<Stream, BeginFault>
+    pub(crate) fn begin(alloc: Global, args: &[String]) -> Result<Stream, CallFault>
         ensures ok { IfOk result (BeginsStream (map string_bytes args.now)) }
-        ensures err { IfErr result (λ e. e ≡ BeginFault.BadWords →
-            (f : UsageFault) × (usage_fault (map string_bytes args.now) ≡ Some f)) }
+        ensures err { IfErr result (IsArgsFault (map string_bytes args.now)) }
     {
-        match plan(alloc, args) {
-            Ok(plan) => {
-                let name = display_name(&plan, args);
-                Stream::with_plan(alloc, plan, name)
-            }
-            Err(Usage::OutOfMemory) => Err(BeginFault::OutOfMemory),
-            Err(_) => Err(BeginFault::BadWords),
-        }
+        let plan = plan(alloc, args)?;
+        let name = display_name(&plan, args);
+        Stream::with_plan(alloc, plan, name)
     }
 
     /// Returns a stream before the first byte, by a plan.
     ///
     /// # Errors
     /// `OutOfMemory` if memory is refused.
-    fn with_plan(alloc: Global, plan: Plan, name: &[u8]) -> Result<Stream, BeginFault>
+    fn with_plan(alloc: Global, plan: Plan, name: &[u8]) -> Result<Stream, CallFault>
         ensures ok { IfOk result (IsNewStream plan name.now) }
-        ensures err { IfErr result (λ e. e ≡ BeginFault.OutOfMemory) }
+        ensures err { IfErr result (λ fault. fault ≡ CallFault.OutOfMemory) }
     {
         let settings = plan.settings();
         let mut owned = Vec::new(alloc);
-        if owned.extend_from_slice(name).is_err() {
-            return Err(BeginFault::OutOfMemory);
-        }
+        owned.extend_from_slice(name)?;
         Ok(Stream {
             engine: EngineOf::new(plan, Printer::of(&settings)),
             output: Watched::new(Vec::new(alloc)),

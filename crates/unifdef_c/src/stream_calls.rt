@@ -1,15 +1,15 @@
 //! The whole tool over a text that comes in chunks.
 
-ghost use Rattle.std.specs.Prelude.{◌≡◌, None, Some, IfOk, IfErr, map, string_bytes};
-ghost use Rattle.ud_model.specs.answer.CommandLine.{UsageFault, usage_fault};
-ghost use Rattle.unifdef_c.specs.Streams.{BeginsStream};
+ghost use Rattle.std.specs.Prelude.{◌≡◌, None, IfOk, IfErr};
+ghost use Rattle.unifdef_c.specs.CallFaults.{IsCallFault};
 ghost use Rattle.unifdef_c.specs.StreamCalls.{OpensHandle, FeedsHandle, TakesHandle, EndsHandle};
-ghost use Rattle.unifdef_c.specs.StreamCalls.{TellsEnd, Tells, OpensStream, HasBadWords};
+ghost use Rattle.unifdef_c.specs.StreamCalls.{TellsEnd, Tells, OpensStream};
 
-use crate::args::{ArgsFault, parse_words};
+use crate::args::parse_words;
+use crate::fault::CallFault;
 use crate::hand_out::{TOO_SMALL, overwrite};
 use crate::handle::Handle;
-use crate::stream::{BeginFault, Fed, Stream};
+use crate::stream::{Fed, Stream};
 use std::alloc::Global;
 use ud_engine::RunFault;
 use ud_io::Watched;
@@ -35,10 +35,7 @@ pub extern "C" fn unifdef_open(alloc: Global, handle: &mut Handle, words: &[u8])
         }
         Err(fault) => {
             *handle = Handle::closed(alloc);
-            match fault {
-                BeginFault::BadWords => -1,
-                BeginFault::OutOfMemory => -2,
-            }
+            fault.code()
         }
     }
 }
@@ -141,31 +138,13 @@ pub extern "C" fn unifdef_close(alloc: Global, handle: &mut Handle)
 /// # Errors
 /// `BadWords` if the words have a fault or one of them isn't UTF-8, `OutOfMemory` if memory is
 /// refused.
-fn open(alloc: Global, words: &[u8]) -> Result<Box<Stream>, BeginFault>
+fn open(alloc: Global, words: &[u8]) -> Result<Box<Stream>, CallFault>
     ensures ok { IfOk result (λ owner. OpensStream words.now owner.value) }
-    ensures err { IfErr result (λ e. e ≡ BeginFault.BadWords → HasBadWords words.now) }
+    ensures err { IfErr result (IsCallFault words.now) }
 {
-    match parse_words(alloc, words) {
-        Ok(args) => open_by_args(alloc, args.as_slice()),
-        Err(ArgsFault::NotUtf8) => Err(BeginFault::BadWords),
-        Err(ArgsFault::OutOfMemory) => Err(BeginFault::OutOfMemory),
-    }
-}
-
-/// Returns a stream before the first byte, by arguments.
-///
-/// # Errors
-/// As `Stream::begin`.
-fn open_by_args(alloc: Global, args: &[String]) -> Result<Box<Stream>, BeginFault>
-    ensures ok { IfOk result (λ owner. BeginsStream (map string_bytes args.now) owner.value) }
-    ensures err { IfErr result (λ e. e ≡ BeginFault.BadWords →
-        (f : UsageFault) × (usage_fault (map string_bytes args.now) ≡ Some f)) }
-{
-    let stream = Stream::begin(alloc, args)?;
-    match Box::new(alloc, stream) {
-        Ok(owner) => Ok(owner),
-        Err(_) => Err(BeginFault::OutOfMemory),
-    }
+    let args = parse_words(alloc, words)?;
+    let stream = Stream::begin(alloc, args.as_slice())?;
+    Ok(Box::new(alloc, stream)?)
 }
 
 /// Hands out the message for the end of a text. Returns the exit status, or 3 if the message

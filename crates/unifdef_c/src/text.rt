@@ -4,7 +4,8 @@ ghost use Rattle.std.specs.Prelude.{◌≡◌, ℕ, pos, map, string_bytes};
 ghost use Rattle.ud_model.specs.answer.Answer.{memory_answer};
 ghost use Rattle.unifdef_c.specs.TextCalls.{AnswersText, AnswersArgs, HandsOut, words_answer};
 
-use crate::args::{ArgsFault, parse_words};
+use crate::args::parse_words;
+use crate::fault::CallFault;
 use crate::hand_out::{Parts, Sizes, hand_out};
 use std::alloc::Global;
 use ud_io::Watched;
@@ -50,8 +51,8 @@ fn answer_text(
 {
     match parse_words(alloc, words) {
         Ok(args) => run_tool(alloc, args.as_slice(), text, output, message, sizes),
-        Err(ArgsFault::NotUtf8) => refuse_words(output, message, sizes),
-        Err(ArgsFault::OutOfMemory) => refuse_memory(output, message, sizes),
+        Err(CallFault::BadWords) => refuse_words(output, message, sizes),
+        Err(CallFault::OutOfMemory) => refuse_memory(output, message, sizes),
     }
 }
 

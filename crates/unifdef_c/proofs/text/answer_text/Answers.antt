@@ -7,8 +7,8 @@ use Rattle.unifdef_c.proofs.text.answer_text.Goals as goal
 pub returns-in-Ok : goal.returns-in-Ok
 returns-in-Ok c = grind (arith, text_answered)
 
-pub returns-in-Err-NotUtf8 : goal.returns-in-Err-NotUtf8
-returns-in-Err-NotUtf8 c = (words_answer, not_words (rw c.in-Err-NotUtf8.field-0-is at c.in-Err-NotUtf8.ensures.err), c.refuse_words.ensures)
+pub returns-in-Err-BadWords : goal.returns-in-Err-BadWords
+returns-in-Err-BadWords c = (words_answer, not_words (rw c.in-Err-BadWords.field-0-is at c.in-Err-BadWords.ensures.err), c.refuse_words.ensures)
 
 pub returns-in-Err-OutOfMemory : goal.returns-in-Err-OutOfMemory
 returns-in-Err-OutOfMemory c = (memory_answer, no_memory, c.refuse_memory.ensures)
