@@ -63,13 +63,6 @@ fn tabs_are_beside(shown: &[u8]) -> bool
     true
 }
 
-/// Returns whether masked bytes have no quote, and white space next to each vertical tab.
-fn are_apart(shown: &[u8]) -> bool
-    ensures { result ≡ (spec.has_no_quote shown.now && tabs_are_beside true shown.now) }
-{
-    !has_quote(shown) && tabs_are_beside(shown)
-}
-
 /// Returns whether a line with this scan is a directive that joins no next line, with these masked
 /// bytes. They have no quote, and white space next to each vertical tab.
 fn is_shown_as(scan: &Scan<'_>, shown: &[u8]) -> bool
@@ -81,7 +74,7 @@ fn is_shown_as(scan: &Scan<'_>, shown: &[u8]) -> bool
     if scan.masked != shown {
         return false;
     }
-    is_directive(scan) && are_apart(shown)
+    is_directive(scan) && !has_quote(shown) && tabs_are_beside(shown)
 }
 
 /// Returns whether a line, read as the first one of a text, is a directive with these masked bytes.

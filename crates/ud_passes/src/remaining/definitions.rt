@@ -32,7 +32,7 @@ fn defines_after(symbols: &Symbols, text: &[u8]) -> bool
     ensures { (calls : List Argument) → TableRepresents symbols.now calls →
         result ≡ spec.defines_after calls text.now }
 {
-    if let [b'd', b'e', b'f', b'i', b'n', b'e', b' ', after @ ..] = text {
+    if let Some(after) = text.strip_prefix(b"define ".as_slice()) {
         return begins_with_name(symbols, after);
     }
     let text = skip_white(text);
