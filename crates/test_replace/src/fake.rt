@@ -147,9 +147,11 @@ impl Directory for FakeDirectory {
         answer
     }
 
-    fn may_write(&mut self, name: &[u8]) -> bool {
+    fn open_to_write(&mut self, name: &[u8]) -> bool {
         let answer = self.works(b'm');
-        self.history = self.history.with(&DirectoryCall::MayWrite { name, answer });
+        self.history = self
+            .history
+            .with(&DirectoryCall::OpenToWrite { name, answer });
         answer
     }
 

@@ -3,7 +3,7 @@ use Rattle.std.specs.Prelude.{map}
 use Rattle.ud_replace.specs.declared.call.DirectoryWalk.{DirectoryWalk}
 use Rattle.ud_replace.specs.declared.call.DirectoryWalk.TheVariants.{Met, Followed, Listed}
 use Rattle.ud_replace.specs.declared.call.DirectoryCall.{DirectoryCall}
-use Rattle.ud_replace.specs.declared.call.DirectoryCall.TheVariants.{Read, MayWrite, Create, Append}
+use Rattle.ud_replace.specs.declared.call.DirectoryCall.TheVariants.{Read, OpenToWrite, Create, Append}
 use Rattle.ud_replace.specs.declared.call.DirectoryCall.TheVariants.{SetModeAndOwner, Sync, Look}
 use Rattle.ud_replace.specs.declared.call.DirectoryCall.TheVariants.{Rename, Overwrite, Remove}
 use Rattle.ud_replace.specs.declared.call.DirectoryCall.TheVariants.{Sample, Walk}
@@ -21,7 +21,7 @@ walk_call_of (Listed directory names answer) =
 -- `call_of c`: the same call, with the bytes that `c` refers to.
 abbrev pub call_of : DirectoryCall → Call
 call_of (Read name text answer) = was_read name.now text.now answer
-call_of (MayWrite name answer) = asked name.now answer
+call_of (OpenToWrite name answer) = asked name.now answer
 call_of (Create name answer) = made name.now answer
 call_of (Append name bytes answer) = appended name.now bytes.now answer
 call_of (SetModeAndOwner name like answer) = given name.now like answer

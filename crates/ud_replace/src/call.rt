@@ -35,7 +35,7 @@ pub enum DirectoryCall<'a> {
         answer: Option<FileStat>,
     },
     /// The user was found to have write permission for the file, or not.
-    MayWrite {
+    OpenToWrite {
         name: &'a [u8],
         answer: bool,
     },

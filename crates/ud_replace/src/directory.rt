@@ -45,7 +45,7 @@ pub trait Directory {
             was_read name.now text.new.items result ∷ history self.old };
 
     /// Returns whether the user may write into a file.
-    fn may_write(&mut self, name: &[u8]) -> bool
+    fn open_to_write(&mut self, name: &[u8]) -> bool
         ensures { history self.new ≡ asked name.now result ∷ history self.old };
 
     /// Creates an empty file, which only the user may read and write. Its name must be free. A file

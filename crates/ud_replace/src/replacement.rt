@@ -135,7 +135,7 @@ fn put<F: Directory>(
     if before.stat.links > 1 {
         return put_into(directory, target, before, output);
     }
-    if !directory.may_write(target.name) {
+    if !directory.open_to_write(target.name) {
         return Err(ReplaceError::ReadOnly);
     }
     rename_over(directory, target, before, output)
@@ -155,7 +155,7 @@ fn put_into<F: Directory>(
     if !target.write_into {
         return Err(ReplaceError::SeveralLinks);
     }
-    if !directory.may_write(target.name) {
+    if !directory.open_to_write(target.name) {
         return Err(ReplaceError::ReadOnly);
     }
     overwrite(directory, target.name, before, output)

@@ -54,7 +54,7 @@ adds_same : {table : List Argument} {args : Arguments} (s : RemainingState) → 
 adds_same s = record { list_is = sym (append-nil s.list); count_is = λ small. omega arith; defined_is = λ small. omega arith; listing_is = refl }
 
 -- The report has the same conditions as before.
-pub finds_none : {args : Arguments} {old new : ReportState} → new.remaining ≡ old.remaining → (old.has_lost ≡ true → new.has_lost ≡ true) → new.unnamed ≡ old.unnamed → FindsAll args [] [] old new
+pub finds_none : {args : Arguments} {old new : ReportState} → new.remaining ≡ old.remaining → (old.lacks_memory ≡ true → new.lacks_memory ≡ true) → new.unnamed ≡ old.unnamed → FindsAll args [] [] old new
 finds_none {args = args} {old = old} {new = new} same kept names = record {
   kept = kept;
   added = λ whole wanted calls r. subst (λ (t : RemainingState). AddsOutputs calls args [] old.remaining t) (sym same) (adds_same old.remaining);
@@ -89,7 +89,7 @@ finds_text {args = args} {text = text} {old = old} h = record {
 }
 
 -- A text that is its own output was searched at once.
-pub finds_at_once : {args : Arguments} {name text : List ℕ} {old new : ReportState} → is_searched args ≡ true → new.has_lost ≡ old.has_lost →
+pub finds_at_once : {args : Arguments} {name text : List ℕ} {old new : ReportState} → is_searched args ≡ true → new.lacks_memory ≡ old.lacks_memory →
     ((calls : List Argument) → TableRepresents args.plan.run.symbols calls → AddsAll calls (mode_of args) name text old.remaining new.remaining) →
     ((calls : List Argument) → TableRepresents args.plan.run.symbols calls → LeavesUnnamed calls (mode_of args) text args.plan.run.symbols old.unnamed new.unnamed) →
     FindsAll args (text ∷ []) (made name text) old new
@@ -101,7 +101,7 @@ finds_at_once {args = args} {text = text} {old = old} wanted lost adds removes =
 }
 
 -- Memory ran out for a text that is its own output.
-pub finds_lost : {args : Arguments} {ts : List (List ℕ)} {xs : List Output} {old new : ReportState} → is_searched args ≡ true → new.has_lost ≡ true → FindsAll args ts xs old new
+pub finds_lost : {args : Arguments} {ts : List (List ℕ)} {xs : List Output} {old new : ReportState} → is_searched args ≡ true → new.lacks_memory ≡ true → FindsAll args ts xs old new
 finds_lost wanted lost = record {
   kept = λ gone. lost;
   added = λ whole. absurd (false≢true (sym whole ∙ lost));
@@ -110,7 +110,7 @@ finds_lost wanted lost = record {
 }
 
 -- The names of a text were looked for.
-pub finds_named : {args : Arguments} {text : List ℕ} {old new : ReportState} → new.has_lost ≡ old.has_lost → new.remaining ≡ old.remaining →
+pub finds_named : {args : Arguments} {text : List ℕ} {old new : ReportState} → new.lacks_memory ≡ old.lacks_memory → new.remaining ≡ old.remaining →
     ((calls : List Argument) → TableRepresents args.plan.run.symbols calls → LeavesUnnamed calls (mode_of args) text args.plan.run.symbols old.unnamed new.unnamed) → FindsNames args text old new
 finds_named lost same leaves = record { kept = λ gone. lost ∙ gone; removed = λ whole. leaves; remaining = same }
 

@@ -254,7 +254,7 @@ rules_sent args rules {last = last} {after = after} false loud unshown said same
 pub ends : (job : Job) (walked : Walked) (p : Processed) {old new : Moment} {mid : Stage} {listed ended : Stream}
     {seek_report sought_report list_report end_report last_report rules_report : ReportState} (lost unwritten : Bool)
     (status : ℕ) (start lists : NameLists) → start.list.items ≡ [] → start.hidden ≡ 0 →
-    start.hidden_list.items ≡ [] → p.hidden ≡ lists.hidden → (lost ≡ false → sought_report.has_lost ≡ false) →
+    start.hidden_list.items ≡ [] → p.hidden ≡ lists.hidden → (lost ≡ false → sought_report.lacks_memory ≡ false) →
     Seeks job.arguments.now (begun job old.err) seek_report →
     DoesFiles job walked.files.items (record { calls = old.calls; out = old.out; report = seek_report }) mid p.counts start
     lists → FindsOthers job.arguments.now mid.out.failed walked.files.items mid.calls new.calls mid.report sought_report p.others →

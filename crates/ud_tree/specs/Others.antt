@@ -206,5 +206,5 @@ pub record FindsOthers (args : Arguments) (failed : Bool) (files : List Found)
   pub screen : KeepsScreen before after
   pub remaining : after.remaining ≡ before.remaining
   pub unnamed : after.unnamed ≡ before.unnamed
-  pub kept : before.has_lost ≡ true → after.has_lost ≡ true
-  pub seeks : SeeksOthers args failed files old new after.has_lost others
+  pub kept : before.lacks_memory ≡ true → after.lacks_memory ≡ true
+  pub seeks : SeeksOthers args failed files old new after.lacks_memory others

@@ -70,8 +70,8 @@ AddsMentions args name output old new = (calls : List Argument) →
 -- the report, if they are wanted. If memory ran out, for this output or an earlier one, the report
 -- records that.
 pub record Finds (args : Arguments) (name output : List ℕ) (old new : ReportState) : Type 0 where
-  pub kept : old.has_lost ≡ true → new.has_lost ≡ true
-  pub added : new.has_lost ≡ false → is_searched args ≡ true →
+  pub kept : old.lacks_memory ≡ true → new.lacks_memory ≡ true
+  pub added : new.lacks_memory ≡ false → is_searched args ≡ true →
       AddsMentions args name output old.remaining new.remaining
   pub same : is_searched args ≡ false → new.remaining ≡ old.remaining
   pub unnamed : new.unnamed ≡ old.unnamed
@@ -123,11 +123,11 @@ pub record AddsOutputs (table : List Argument) (args : Arguments) (outputs : Lis
 -- row. If memory ran out, the report records that.
 pub record FindsAll (args : Arguments) (texts : List (List ℕ)) (outputs : List Output)
     (old new : ReportState) : Type 0 where
-  pub kept : old.has_lost ≡ true → new.has_lost ≡ true
-  pub added : new.has_lost ≡ false → is_searched args ≡ true → (calls : List Argument) →
+  pub kept : old.lacks_memory ≡ true → new.lacks_memory ≡ true
+  pub added : new.lacks_memory ≡ false → is_searched args ≡ true → (calls : List Argument) →
       TableRepresents args.plan.run.symbols calls →
       AddsOutputs calls args outputs old.remaining new.remaining
   pub same : is_searched args ≡ false → new.remaining ≡ old.remaining
-  pub unnamed : new.has_lost ≡ false → (calls : List Argument) →
+  pub unnamed : new.lacks_memory ≡ false → (calls : List Argument) →
       TableRepresents args.plan.run.symbols calls →
       Unmarks args.plan.run.symbols (is_named_in calls args texts) old.unnamed new.unnamed

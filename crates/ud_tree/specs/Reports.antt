@@ -29,7 +29,7 @@ pub record ReportState : Type 0 where
   pub faulty : ℕ
   pub remaining : RemainingState
   pub unnamed : List Bool
-  pub has_lost : Bool
+  pub lacks_memory : Bool
 
 -- `new_report is_terminal listing err`: a report without messages, whose error stream is `err`.
 abbrev pub new_report : Bool → Listing → Stream → ReportState
@@ -40,7 +40,7 @@ new_report is_terminal listing err = record {
   faulty = 0;
   remaining = record { listing = listing; count = 0; defined = 0; list = [] };
   unnamed = [];
-  has_lost = false;
+  lacks_memory = false;
 }
 
 -- `counted r`: one fault more is counted, unless the number is too large.
@@ -63,7 +63,7 @@ pub record KeepsScreen (old new : ReportState) : Type 0 where
 pub record KeepsFinds (old new : ReportState) : Type 0 where
   pub remaining : new.remaining ≡ old.remaining
   pub unnamed : new.unnamed ≡ old.unnamed
-  pub lost : new.has_lost ≡ old.has_lost
+  pub lost : new.lacks_memory ≡ old.lacks_memory
 
 -- `Writes old new bytes`: if the error stream is no terminal, `bytes` were written to it.
 pub record Writes (old new : ReportState) (bytes : List ℕ) : Type 0 where

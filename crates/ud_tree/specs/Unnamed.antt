@@ -18,16 +18,16 @@ use Rattle.ud_tree.specs.Reports.{ReportState, KeepsScreen}
 pub record Seeks (args : Arguments) (old new : ReportState) : Type 0 where
   pub screen : KeepsScreen old new
   pub remaining : new.remaining ≡ old.remaining
-  pub kept : old.has_lost ≡ true → new.has_lost ≡ true
-  pub marks : old.unnamed ≡ [] → new.has_lost ≡ false → (name : List ℕ) →
+  pub kept : old.lacks_memory ≡ true → new.lacks_memory ≡ true
+  pub marks : old.unnamed ≡ [] → new.lacks_memory ≡ false → (name : List ℕ) →
       is_marked args.plan.run.symbols new.unnamed name ≡
       (not args.quiet && is_listed args.plan.run.symbols name)
 
 -- `FindsNames args text old new`: the rows whose names a condition of the text has lost their
 -- marks, and no other row. If memory ran out, the report records that.
 pub record FindsNames (args : Arguments) (text : List ℕ) (old new : ReportState) : Type 0 where
-  pub kept : old.has_lost ≡ true → new.has_lost ≡ true
-  pub removed : new.has_lost ≡ false → (calls : List Argument) →
+  pub kept : old.lacks_memory ≡ true → new.lacks_memory ≡ true
+  pub removed : new.lacks_memory ≡ false → (calls : List Argument) →
       TableRepresents args.plan.run.symbols calls → Unmarks args.plan.run.symbols
       (has_condition calls args text) old.unnamed new.unnamed
   pub remaining : new.remaining ≡ old.remaining

@@ -81,7 +81,7 @@ pub record WritesOne (args : Arguments)
       })
   pub sent : Sends before.out after.out shown
   pub finds : FindsAll args texts outputs before.report after.report
-  pub loses : after.report.has_lost ≡ false → lost ≡ false
+  pub loses : after.report.lacks_memory ≡ false → lost ≡ false
 
 -- `ProcessesOne args P name before after done lists lists'`: the same, and what is listed of the
 -- file was added to `lists`.
@@ -108,7 +108,7 @@ pub record WritesAll (args : Arguments)
   pub adds : Adds lists lists' (listed_of counted.results)
   pub finds : FindsAll args (texts_of counted.results) (outputs_of counted.results)
       before.report after.report
-  pub loses : after.report.has_lost ≡ false → lost_in counted.results ≡ false
+  pub loses : after.report.lacks_memory ≡ false → lost_in counted.results ≡ false
 
 -- `WritesList args names rest lost out out'`: a list was written, empty unless names or the
 -- conditions that still name a symbol are to be listed. Names are listed in a table, after the

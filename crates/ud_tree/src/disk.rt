@@ -58,8 +58,8 @@ pub struct Disk<'s, S: Changes> {
     alloc: Global,
     /// The file that `create` made, until it is renamed or removed.
     fresh: Option<Named<S::New>>,
-    /// The file that `may_write` opened. It is read again, and written into, without looking at its
-    /// path again.
+    /// The file that `open_to_write` opened. It is read again, and written into, without looking at
+    /// its path again.
     opened: Option<Named<S::Old>>,
     /// The error of the last failed call.
     reason: Option<io::Error>,
@@ -104,7 +104,8 @@ impl<'s, S: Changes> Disk<'s, S> {
         }
     }
 
-    /// Reads a file: the one that `may_write` opened under that name, else the one that is there.
+    /// Reads a file: the one that `open_to_write` opened under that name, else the one that is
+    /// there.
     fn read_at(&mut self, name: &[u8], text: &mut Vec<u8>) -> io::Result<FileStat>
         requires empty { text.old.items ≡ [] }
         ensures read { IfOk result (λ stat. At S.looking name.now (λ place. HasRead S.looking
@@ -229,7 +230,7 @@ impl<'s, S: Changes> Disk<'s, S> {
         self.notes.add(&DirectoryCall::Walk(walk));
     }
 
-    /// Writes over the bytes of the file that `may_write` opened under that name.
+    /// Writes over the bytes of the file that `open_to_write` opened under that name.
     fn overwrite_at(&mut self, name: &[u8], text: &[u8]) -> io::Result<()>
         ensures written { OnOk result ((file : _) × HasBytes S.changing S.Old.contents text.now file) }
         ensures calls { self.new.notes.history.calls ≡ self.old.notes.history.calls }
@@ -257,11 +258,11 @@ impl<S: Changes> Directory for Disk<'_, S> {
         answer
     }
 
-    fn may_write(&mut self, name: &[u8]) -> bool {
+    fn open_to_write(&mut self, name: &[u8]) -> bool {
         let opened = self.opened_at(name);
         self.opened = self.kept(opened);
         let answer = self.opened.is_some();
-        self.notes.add(&DirectoryCall::MayWrite { name, answer });
+        self.notes.add(&DirectoryCall::OpenToWrite { name, answer });
         answer
     }
 

@@ -50,7 +50,7 @@ pub(crate) fn fate_of(update: Result<Update, ReplaceError>) -> Fate
 
 impl<E: Write> Report<E> {
     /// Writes the message of a file's error, if any.
-    pub(crate) fn file_result<T: Tree>(
+    pub(crate) fn tell_result<T: Tree>(
         &mut self,
         job: &Job<'_>,
         tree: &T,

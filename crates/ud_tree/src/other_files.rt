@@ -212,8 +212,8 @@ fn others_of<T: Tree>(job: &Job<'_>, tree: &mut T, files: &[Found]) -> Result<Ot
     let patterns = any_name(job.alloc, job.arguments.patterns.as_slice())?;
     let paths = job.arguments.paths.as_slice();
     let mut walk = Walk::new(job.alloc, paths, patterns.as_slice())?;
-    let mut untold = Report::new(job, Watched::new(Vec::<u8>::new(job.alloc)));
-    let all = walk_paths(&mut walk, tree, &mut untold)?;
+    let mut silent = Report::new(job, Watched::new(Vec::<u8>::new(job.alloc)));
+    let all = walk_paths(&mut walk, tree, &mut silent)?;
     if !all {
         return Ok(Others::none(job.alloc));
     }
@@ -259,7 +259,7 @@ pub(crate) fn find_others<T: Tree, W: Write, E: Write>(
     match others_of(job, tree, files) {
         Ok(others) => others,
         Err(_) => {
-            report.lose();
+            report.note_lack();
             Others::none(job.alloc)
         }
     }

@@ -55,7 +55,7 @@ pub(crate) fn process_files<T: Tree, W: Write, E: Write>(
         let name = found.path.as_bytes();
         let file = FileAt { name, id: found.id };
         let result = process_file(job, tree, file, out, session);
-        session.report.file_result(job, tree, name, result.update);
+        session.report.tell_result(job, tree, name, result.update);
         counts.add(fate_of(result.update), result.edits);
     }
     counts

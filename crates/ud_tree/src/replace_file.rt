@@ -71,9 +71,9 @@ fn change_of<E: Write>(
     report: &mut Report<E>,
 ) -> Vec<u8>
     ensures change { ShowsChange job.now.arguments.now.show_changes name.now update
-        kept.now.text.items (output_of kept.now) report.new.has_lost result.items }
+        kept.now.text.items (output_of kept.now) report.new.lacks_memory result.items }
     ensures remaining { report.new.remaining ≡ report.old.remaining }
-    ensures lost { report.old.has_lost ≡ true → report.new.has_lost ≡ true }
+    ensures lost { report.old.lacks_memory ≡ true → report.new.lacks_memory ≡ true }
     ensures unnamed { report.new.unnamed ≡ report.old.unnamed }
     ensures screen { KeepsScreen report.old report.new }
 {
@@ -87,7 +87,7 @@ fn change_of<E: Write>(
     match diff_of(job.alloc, name, kept) {
         Ok(diff) => diff,
         Err(_) => {
-            report.lose();
+            report.note_lack();
             nothing
         }
     }

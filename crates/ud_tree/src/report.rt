@@ -144,7 +144,7 @@ pub(crate) struct Report<E: Write> {
     /// nothing, if no name is sought.
     unnamed: Vec<bool>,
     /// True if memory ran out for some of these, or for a diff.
-    has_lost: bool,
+    lacks_memory: bool,
 }
 
 impl<E: Write> Model for Report<E> {
@@ -160,7 +160,7 @@ impl<E: Write> Model for Report<E> {
       faulty = r.faulty;
       remaining = r.remaining;
       unnamed = r.unnamed.items;
-      has_lost = r.has_lost;
+      lacks_memory = r.lacks_memory;
     } };
 }
 
@@ -178,7 +178,7 @@ impl<E: Write> Report<E> {
             faulty: 0,
             remaining: Remaining::new(job.alloc, listing_of(job.arguments)),
             unnamed: Vec::new(job.alloc),
-            has_lost: false,
+            lacks_memory: false,
         }
     }
 
@@ -222,10 +222,10 @@ impl<E: Write> Report<E> {
     }
 
     /// Returns whether memory ran out for something to be printed.
-    pub(crate) fn has_lost(&self) -> bool
-        ensures { result ≡ self.now.has_lost }
+    pub(crate) fn lacks_memory(&self) -> bool
+        ensures { result ≡ self.now.lacks_memory }
     {
-        self.has_lost
+        self.lacks_memory
     }
 
     /// Adds the mentions of symbols in a file's output, if they are wanted.
@@ -240,18 +240,18 @@ impl<E: Write> Report<E> {
         let mut none = Vec::new(job.alloc);
         match self.remaining.add(name, output, mode, symbols, &mut none) {
             Ok(()) => {}
-            Err(_) => self.lose(),
+            Err(_) => self.note_lack(),
         }
     }
 
     /// Records that memory ran out for something to be printed.
-    pub(crate) fn lose(&mut self)
+    pub(crate) fn note_lack(&mut self)
         ensures screen { KeepsScreen self.old self.new }
         ensures remaining { self.new.remaining ≡ self.old.remaining }
         ensures unnamed { self.new.unnamed ≡ self.old.unnamed }
-        ensures lost { self.new.has_lost ≡ true }
+        ensures lost { self.new.lacks_memory ≡ true }
     {
-        self.has_lost = true;
+        self.lacks_memory = true;
     }
 
     /// Removes the number of files from the terminal.

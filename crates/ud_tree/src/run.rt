@@ -122,13 +122,13 @@ fn write_lists<W: Write, E: Write>(
         report.old.remaining.list result
         (stream_of W.contents out.old) (stream_of W.contents out.new) }
     ensures told { TellsIf list_message result report.old report.new }
-    ensures whole { result ≡ false → report.old.has_lost ≡ false }
+    ensures whole { result ≡ false → report.old.lacks_memory ≡ false }
 {
     let mut list = Vec::new(job.alloc);
     let listed = append_names(job, names, &mut list);
     send(out, list.as_slice());
     report.write_remaining(job, out);
-    if listed && !report.has_lost() {
+    if listed && !report.lacks_memory() {
         return false;
     }
     report.fault(b"stdout", b"Out of memory");

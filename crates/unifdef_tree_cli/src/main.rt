@@ -69,7 +69,11 @@ fn main(rt: HostRuntime) -> ExitCode {
             Err(_) => ExitCode::from(EXIT_TROUBLE),
         },
         Ok(Request::Run(arguments)) => {
-            let _closed = [taken(&rt), taken(&rt), taken(&rt)];
+            let _closed = [
+                fill_closed_stream(&rt),
+                fill_closed_stream(&rt),
+                fill_closed_stream(&rt),
+            ];
             run(&rt, &arguments)
         }
     }
@@ -78,7 +82,7 @@ fn main(rt: HostRuntime) -> ExitCode {
 /// Opens a directory for reading in the place of the first standard stream that is closed. Else a
 /// file of the tree would get its number, and messages would be written into that file. Such a
 /// stream can't be read or written, as one that is closed. `None` if all are open.
-fn taken(rt: &HostRuntime) -> Option<File> {
+fn fill_closed_stream(rt: &HostRuntime) -> Option<File> {
     match fs::open(rt, "/") {
         Ok(open) if open.as_fd().as_raw_fd() <= STDERR => Some(open),
         _ => None,
@@ -93,7 +97,7 @@ fn run(rt: &HostRuntime, arguments: &Arguments) -> ExitCode {
     if stdout.is_terminal() && paints {
         return run_to(rt, arguments, Painter::new(stdout));
     }
-    match diffs(rt, arguments) {
+    match reopened_stdout(rt, arguments) {
         Some(file) => run_to(rt, arguments, Synced::new(stdout, file)),
         None => run_to(rt, arguments, stdout),
     }
@@ -101,7 +105,7 @@ fn run(rt: &HostRuntime, arguments: &Arguments) -> ExitCode {
 
 /// Opens standard output anew if the diffs that undo the run go there, and if it is a regular file.
 /// `None` also without `/proc`, or if the user may not read that file.
-fn diffs(rt: &HostRuntime, arguments: &Arguments) -> Option<File> {
+fn reopened_stdout(rt: &HostRuntime, arguments: &Arguments) -> Option<File> {
     let undoes = match arguments.task {
         Task::Replace => arguments.show_changes,
         Task::Diff | Task::Names => false,

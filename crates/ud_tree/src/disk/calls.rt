@@ -151,7 +151,7 @@ impl<R: Files<File = File>> Looks for R {
         Ok(Facts::of(&file.metadata()?))
     }
 
-    fn numbered(&self, alloc: Global, directory: &File) -> Result<String, AllocError> {
+    fn path_by_number(&self, alloc: Global, directory: &File) -> Result<String, AllocError> {
         format!(in alloc; "/proc/self/fd/{}/", directory.as_fd().as_raw_fd())
     }
 

@@ -199,7 +199,7 @@ impl<S: Looks> Directories<S> {
             (λ path. IsEntry S.looking directory.now file.now (string_bytes path)) }
         ensures met { self.new.met ≡ self.old.met }
     {
-        let entry = system.numbered(self.alloc, file)?;
+        let entry = system.path_by_number(self.alloc, file)?;
         if self.finds_proc(system, entry.as_str(), file)? {
             return Ok(entry);
         }

@@ -62,7 +62,7 @@ pub trait Looks {
         ensures { IfOk result (looking.shows file.now) };
 
     /// Returns the path that leads into an open directory by its number, with a slash at its end.
-    fn numbered(&self, alloc: Global, directory: &Self::File) -> Result<String, AllocError>
+    fn path_by_number(&self, alloc: Global, directory: &Self::File) -> Result<String, AllocError>
         ensures { IfOk result (λ path. looking.numbers directory.now (string_bytes path)) };
 
     /// Returns the names in a directory.

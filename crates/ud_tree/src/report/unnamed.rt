@@ -65,7 +65,7 @@ impl<E: Write> Report<E> {
         }
         match job.arguments.plan.run.symbols().all_marked() {
             Ok(marks) => self.unnamed = marks,
-            Err(_) => self.lose(),
+            Err(_) => self.note_lack(),
         }
     }
 
@@ -82,7 +82,7 @@ impl<E: Write> Report<E> {
         let mut counts = Remaining::new(job.alloc, Listing::Counted);
         match counts.add(b"", text, mode, symbols, &mut self.unnamed) {
             Ok(()) => {}
-            Err(_) => self.lose(),
+            Err(_) => self.note_lack(),
         }
     }
 
@@ -103,7 +103,7 @@ impl<E: Write> Report<E> {
                 .add(name, output, mode, symbols, &mut self.unnamed)
             {
                 Ok(()) => {}
-                Err(_) => self.lose(),
+                Err(_) => self.note_lack(),
             }
             return;
         }

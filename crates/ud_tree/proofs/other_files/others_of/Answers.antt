@@ -21,7 +21,7 @@ returns-then-not-all-clause-touches g c = walked_touches c.walk_paths.ensures.to
 
 pub returns-then-not-all-clause-others : goal.returns-then-not-all-clause-others
 returns-then-not-all-clause-others g c =
-    none_walked (ap (λ (s : ReportState). s.faulty) c.new-untold.ensures) c.walk_paths.ensures.told (c.in_ok-all.ensures.refused c.if-not-all.true) c.none.ensures
+    none_walked (ap (λ (s : ReportState). s.faulty) c.new-silent.ensures) c.walk_paths.ensures.told (c.in_ok-all.ensures.refused c.if-not-all.true) c.none.ensures
 
 pub returns-in_err-found-clause-touches : goal.returns-in_err-found-clause-touches
 returns-in_err-found-clause-touches g c = walked_touches c.walk_paths.ensures.told
@@ -35,7 +35,7 @@ returns-clause-touches g c = each_then (walked_touches c.walk_paths.ensures.told
 pub returns-clause-others : goal.returns-clause-others
 returns-clause-others g c =
     were_read _ c.in_ok-found.found.items
-    (walked_over c.in_ok-found.found.items c.in_ok-walk.ensures.found (ap (λ (s : ReportState). s.faulty) c.new-untold.ensures) c.walk_paths.ensures.told c.in_ok-all.ensures.finds
+    (walked_over c.in_ok-found.found.items c.in_ok-walk.ensures.found (ap (λ (s : ReportState). s.faulty) c.new-silent.ensures) c.walk_paths.ensures.told c.in_ok-all.ensures.finds
     (rw (c.in_ok-walk.ensures.paths, c.as_slice-paths.ensures.value, c.in_ok-walk.ensures.patterns, c.as_slice-2.ensures.value, c.in_ok-patterns.ensures, c.as_slice.ensures.value) at (c.in_ok-all.ensures.covers c.if-not-all.false))
     c.in_ok-found.ensures)
     c.in_ok-others.ensures.read

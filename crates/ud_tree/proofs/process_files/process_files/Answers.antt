@@ -16,7 +16,7 @@ loop-done-preserved g c = record {
       c.process_file-result.result c.fate_of.result c.add.new.self c.loop-done-test.true
       c.index-files-done.is c.as_bytes-name.ensures.value c.loop-done.invariant.written
       c.progress.ensures c.process_file-result.ensures.screen
-      c.process_file-result.ensures.writes c.file_result.ensures c.fate_of.ensures c.add.ensures.changed c.add.ensures.unchanged c.add.ensures.faulty c.add.ensures.conditions c.add.ensures.lines;
+      c.process_file-result.ensures.writes c.tell_result.ensures c.fate_of.ensures c.add.ensures.changed c.add.ensures.unchanged c.add.ensures.faulty c.add.ensures.conditions c.add.ensures.lines;
 }
 
 pub returns-then-is_unrecorded : goal.returns-then-is_unrecorded

@@ -12,4 +12,4 @@ pub returns-in-Ok-clause-change : goal.returns-in-Ok-clause-change
 returns-in-Ok-clause-change g c = change_shown c.if-not-job.false (sym c.if-not-is_change.ensures) c.in-Ok.ensures
 
 pub returns-in-Err-clause-change : goal.returns-in-Err-clause-change
-returns-in-Err-clause-change g c = no_memory c.new-nothing.ensures.items c.lose.ensures.lost
+returns-in-Err-clause-change g c = no_memory c.new-nothing.ensures.items c.note_lack.ensures.lost

@@ -6,8 +6,8 @@ use Rattle.ud_tree.proofs.ReportLemmas.{tells_none}
 use Rattle.ud_io.proofs.StreamLemmas.{sends_same}
 use Rattle.ud_tree.proofs.run.write_lists.Goals as goal
 
-pub returns-then-not-has_lost-clause-writes : goal.returns-then-not-has_lost-clause-writes
-returns-then-not-has_lost-clause-writes g c =
+pub returns-then-not-lacks_memory-clause-writes : goal.returns-then-not-lacks_memory-clause-writes
+returns-then-not-lacks_memory-clause-writes g c =
     writes_list c.args.job.now.arguments.now c.args.names.now false _ _ (λ other. c.append_names-listed.ensures.other other ∙ c.new-list.ensures.items)
     (λ is whole. subst (λ (x : List ℕ). Tabulates (names_in c.args.names.now.list.items) (x ++ c.args.names.now.hidden_list.items) c.append_names-listed.new.list.items) c.new-list.ensures.items
     (c.append_names-listed.ensures.names c.if-listed.true is))
@@ -19,5 +19,5 @@ returns-clause-writes g c =
     (λ is whole. absurd (true≢false whole))
     (sends_same c.as_slice.ensures.value c.send.ensures) c.write_remaining.ensures
 
-pub returns-then-not-has_lost-clause-told : goal.returns-then-not-has_lost-clause-told
-returns-then-not-has_lost-clause-told g c = tells_none c.args.report.now
+pub returns-then-not-lacks_memory-clause-told : goal.returns-then-not-lacks_memory-clause-told
+returns-then-not-lacks_memory-clause-told g c = tells_none c.args.report.now

@@ -1,6 +1,6 @@
 use Rattle.std.proofs.Common.{sym, ◌∙◌}
 use Rattle.ud_tree.proofs.EvidenceLemmas.{at_map, done_kept, on_map}
-use Rattle.ud_tree.proofs.disk.DiskDirectory.may_write.Goals as goal
+use Rattle.ud_tree.proofs.disk.DiskDirectory.open_to_write.Goals as goal
 
 pub add-requires : goal.add-requires
 add-requires g c = λ yes. done_kept c.opened_at-opened.result c.kept.result c.kept.ensures.value

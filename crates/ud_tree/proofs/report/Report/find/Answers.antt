@@ -20,5 +20,5 @@ returns-then-search_remaining-clause-finds g c =
     elim c.match-add.branch [
       | in-Ok w ↦ subst (λ r. FindsAll args (kept.text.items ∷ []) (made c.args.name.now (output_of kept)) c.args.self.now r) (sym w.self-is)
           (rw same (rw (← c.self.view_is) (finds_at_once wanted refl (rw (← c.mode-mode.ensures, ← c.symbols-symbols.ensures, ← out) w.in-Ok.ensures.added) (rw (← c.mode-mode.ensures, ← c.symbols-symbols.ensures, ← out) w.in-Ok.ensures.unnamed))))
-      | in-Err w ↦ subst (λ r. FindsAll args (kept.text.items ∷ []) (made c.args.name.now (output_of kept)) c.args.self.now r) (sym w.self-is) (finds_lost wanted w.lose.ensures.lost)
+      | in-Err w ↦ subst (λ r. FindsAll args (kept.text.items ∷ []) (made c.args.name.now (output_of kept)) c.args.self.now r) (sym w.self-is) (finds_lost wanted w.note_lack.ensures.lost)
     ]
