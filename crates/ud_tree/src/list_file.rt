@@ -18,6 +18,17 @@ use ud_model::Mode;
 use ud_passes::Names;
 use ud_replace::{ReplaceError, Update, folded, run_over};
 
+/// The text that a file is listed by.
+#[derive(Clone, Copy)]
+struct ListedText<'t> {
+    /// Its lines: those of the file, or the folded ones.
+    lines: &'t [u8],
+    /// True if they are the folded ones.
+    folded: bool,
+    /// The names that the run over them listed.
+    names: &'t [u8],
+}
+
 /// Adds the names of a file to `names`, and its conditions whose names can't all be listed. If its
 /// text has a fault, the names up to the fault count.
 ///
@@ -67,13 +78,19 @@ fn list_text(
 {
     let mut listed = Watched::new(Vec::<u8>::new(job.alloc));
     let folded = list_folded(job, text, &mut listed)?;
-    match folded {
-        Some(lines) => {
-            let lines = lines.as_slice();
-            add_listed(job, name, lines, true, listed.inner().as_slice(), names)
-        }
-        None => add_listed(job, name, text, false, output, names),
-    }
+    let listing = match &folded {
+        Some(lines) => ListedText {
+            lines: lines.as_slice(),
+            folded: true,
+            names: listed.inner().as_slice(),
+        },
+        None => ListedText {
+            lines: text,
+            folded: false,
+            names: output,
+        },
+    };
+    add_listed(job, name, listing, names)
 }
 
 /// Appends the names of the folded text of a file, and returns that text. Returns `None` if the
@@ -111,17 +128,15 @@ fn list_folded(
 fn add_listed(
     job: &Job<'_>,
     name: &[u8],
-    lines: &[u8],
-    folded: bool,
-    listed: &[u8],
+    listing: ListedText<'_>,
     names: &mut Names,
 ) -> Result<Update, ReplaceError>
     requires lists { names.old.lists_hidden ≡ job.now.arguments.now.list_hidden }
-    ensures { AddsListed (listed_by (mode_of job.now.arguments.now) folded
-        job.now.arguments.now.list_hidden name.now lines.now listed.now)
+    ensures { AddsListed (listed_by (mode_of job.now.arguments.now) listing.entry.folded
+        job.now.arguments.now.list_hidden name.now listing.entry.lines.now listing.entry.names.now)
         names.old names.new result }
 {
-    names.add(listed)?;
-    names.add_hidden(name, lines, job.mode(), folded)?;
+    names.add(listing.names)?;
+    names.add_hidden(name, listing.lines, job.mode(), listing.folded)?;
     Ok(Update::Unchanged)
 }

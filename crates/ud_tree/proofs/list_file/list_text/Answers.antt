@@ -5,19 +5,21 @@ use Rattle.ud_tree.specs.Remainders.{mode_of}
 use Rattle.ud_tree.specs.Shown.{ListsFolded}
 use Rattle.ud_tree.proofs.ShownLemmas.{lists_folded, lists_itself, lists_nothing}
 use Rattle.ud_tree.proofs.list_file.list_text.Goals as goal
+use Rattle.ud_tree.proofs.list_file.list_text.Goals.{in-Some, in-None}
 
 pub returns-in_err-folded : goal.returns-in_err-folded
 returns-in_err-folded c =
     let e = err_from_is_err_and c.from_residual.result c.from_residual.ensures.1 in
     rw (e.1, e.2) (lists_nothing c.args.job.now.arguments.now c.args.names.now)
 
-pub returns-in-Some : goal.returns-in-Some
-returns-in-Some c = lists_folded c.args.job.now.arguments.now c.add_listed.result (λ o p.
-    let h = rw c.in-Some.is at (c.in_ok-folded.ensures o p) in (
-      c.as_slice-lines.ensures.value ∙ h.0,
-      subst (λ (x : List ℕ). ListsFolded o (mode_of c.args.job.now.arguments.now) c.args.text.now x)
-          (sym (c.as_slice.ensures.value ∙ ap (λ v. v.items) c.inner.ensures)) h.1,
-    )) c.add_listed.ensures
-
 pub returns : goal.returns
-returns c = lists_itself c.args.job.now.arguments.now c.add_listed-in-None.result (λ o p. rw c.in-None.is at (c.in_ok-folded.ensures o p)) c.add_listed-in-None.ensures
+returns c = elim c.match-folded.branch [
+  | in-Some w ↦ lists_folded c.args.job.now.arguments.now c.add_listed.result (λ o p.
+      let h = rw w.in-Some.is at (c.in_ok-folded.ensures o p) in (
+        w.as_slice.ensures.value ∙ h.0,
+        subst (λ (x : List ℕ). ListsFolded o (mode_of c.args.job.now.arguments.now) c.args.text.now x)
+            (sym (w.as_slice-in-Some.ensures.value ∙ ap (λ v. v.items) w.inner.ensures)) h.1,
+      )) (rw w.listing-is at c.add_listed.ensures)
+  | in-None w ↦ lists_itself c.args.job.now.arguments.now c.add_listed.result
+      (λ o p. rw w.in-None.is at (c.in_ok-folded.ensures o p)) (rw w.listing-is at c.add_listed.ensures)
+]
