@@ -31,8 +31,7 @@ from results import lacks, report, skip
 
 PAGES = ["README.md", "docs/EXAMPLES.md", "docs/LIBRARY.md", "docs/unifdef.1"]
 # The tools that may not be there, each with those that it calls.
-TOOLS = {"cmake": "make cc", "meson": "ninja cc"}
-TOOLS |= dict.fromkeys(("cc", "git", "make", "ninja", "patch", "rg"), "")
+TOOLS = {"cmake": "make cc"} | dict.fromkeys(("cc", "git", "make", "patch"), "")
 BLOCK = re.compile(r"\n```(.*)((?s:.*?))(\n```(?=\n)|\Z)")
 # What a command prints on either stream, as text.
 BOTH = {"stderr": subprocess.STDOUT, "errors": "replace"}
