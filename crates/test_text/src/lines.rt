@@ -133,7 +133,7 @@ fn a_line_ends_where_two_chunks_meet(rt: HostRuntime) -> Result<(), Fail> {
 
 #[test]
 fn a_line_in_a_short_buffer_goes_on_in_a_longer_one(rt: HostRuntime) -> Result<(), Fail> {
-    let mut short: Lines<ShortLineBuffer> = Lines::with_buffer(1);
+    let mut short = Lines::with_buffer(1, ShortLineBuffer::new());
     if short.take(b"ab")?.whole {
         return Err(Fail::new("the line lacks its line feed"));
     }

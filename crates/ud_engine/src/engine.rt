@@ -38,7 +38,7 @@ use ud_cond::Symbols;
 use ud_io::Watched;
 use ud_model::TEXT_LINES;
 use ud_sections::Show;
-use ud_text::{Line, LineBuffer, Lines, LongLineBuffer, is_other_word};
+use ud_text::{Line, LineBuffer, Lines, LongLineBuffer, ShortLineBuffer, is_other_word};
 
 /// A position in a chunk. The bytes from `pending_start` to `pos` are to be copied to the output.
 #[derive(Clone, Copy)]
@@ -184,11 +184,11 @@ impl<P: PlanSource, S: Show> EngineOf<P, S, LongLineBuffer> {
             IsInSession S.represents S.piece result s }
         ensures no_fault { result.fault ≡ None }
     {
-        EngineOf::with_buffer(plan, show)
+        EngineOf::with_buffers(plan, show, LongLineBuffer::new(), LongLineBuffer::new())
     }
 }
 
-impl<'p, S: Show, H: LineBuffer> EngineOf<&'p Plan, S, H> {
+impl<'p, S: Show> EngineOf<&'p Plan, S, ShortLineBuffer> {
     /// Moves the state to an engine whose buffer holds the longest line.
     ///
     /// Leaves behind an engine that prints by `show`, before its first byte.
@@ -196,7 +196,8 @@ impl<'p, S: Show, H: LineBuffer> EngineOf<&'p Plan, S, H> {
     pub(crate) fn take_as_long(&mut self, show: S) -> EngineOf<&'p Plan, S, LongLineBuffer>
         ensures { result ≡ self.old }
     {
-        let spent: EngineOf<&'p Plan, S, H> = EngineOf::with_buffer(self.plan, show);
+        let (lines, masked) = (ShortLineBuffer::new(), ShortLineBuffer::new());
+        let spent = EngineOf::with_buffers(self.plan, show, lines, masked);
         let engine = mem::replace(self, spent);
         EngineOf {
             plan: engine.plan,
@@ -218,8 +219,10 @@ impl<P: PlanSource, S: Show, H: LineBuffer> EngineOf<P, S, H> {
     ghost use Rattle.ud_engine.specs.Advancing.{ConsumesOrStops, IsStep};
     ghost use Rattle.ud_engine.specs.FaultEffects.{result_after};
 
-    /// Returns an engine before the first byte, as `new` does, with an `H` as its line buffer.
-    pub fn with_buffer(plan: P, show: S) -> EngineOf<P, S, H>
+    /// Returns an engine before the first byte, as `new` does, with these buffers for a line and
+    /// for a masked line.
+    pub fn with_buffers(plan: P, show: S, buffer: H, masked: H) -> EngineOf<P, S, H>
+        requires empty { H.items buffer ≡ [] }
         ensures represents { (s : Session) →
             Begins S.represents S.piece show (P.plan plan).settings (P.plan plan).symbols s →
             IsInSession S.represents S.piece result s }
@@ -228,9 +231,9 @@ impl<P: PlanSource, S: Show, H: LineBuffer> EngineOf<P, S, H> {
         let settings = plan.settings();
         EngineOf {
             plan,
-            lines: Lines::with_buffer(TEXT_LINES),
+            lines: Lines::with_buffer(TEXT_LINES, buffer),
             printer: LineProcessor::new(settings, show),
-            masked: H::new(),
+            masked,
             output: Output::new(),
             fault: None,
         }
@@ -238,9 +241,10 @@ impl<P: PlanSource, S: Show, H: LineBuffer> EngineOf<P, S, H> {
 
     /// Processes the next chunk: writes the output for every line that ends in it.
     ///
-    /// `chunk` may have any bytes. An engine from `new` accepts any length; others accept at most
-    /// `Lines::remaining_capacity` bytes. The line that `chunk` begins, at most `LINE_BYTES`, is
-    /// buffered until it ends. `out` hasn't failed, unless the engine is fused.
+    /// `chunk` may have any bytes. An engine with a buffer for the longest line accepts any length;
+    /// others accept at most `Lines::remaining_capacity` bytes. The line that `chunk` begins, at
+    /// most `LINE_BYTES`, is buffered until it ends. `out` hasn't failed, unless the engine is
+    /// fused.
     ///
     /// # Errors
     /// - `Text` or `Section` if a line is faulty, after the output for the lines before it.

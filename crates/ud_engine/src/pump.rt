@@ -67,10 +67,9 @@ pub fn run<R: Read, W: Write>(
         Finished R.remaining W.contents o reader.old reader.new out.old out.new result }
     ensures error_matches { ErrorMatchesStreams reader.new.failed out.new.failed result }
 {
-    let mut engine: Engine<'_, Printer, ShortLineBuffer> = EngineOf::with_buffer(
-        plan,
-        Printer::of(&plan.settings()),
-    );
+    let printer = Printer::of(&plan.settings());
+    let (lines, masked) = (ShortLineBuffer::new(), ShortLineBuffer::new());
+    let mut engine = EngineOf::with_buffers(plan, printer, lines, masked);
     match pump(&mut engine, reader, out) {
         Some(ended) => ended,
         None => run_with_long_buffer(plan, &mut engine, reader, out),

@@ -1,5 +1,5 @@
 -- Marks: the lines of a text one after another, and the marks that are read from a printer's output.
-use Rattle.std.proofs.Common.{◌≡◌, ◌≢◌, ℕ, suc, ◌+◌, ◌-◌, ◌<◌, ◌≤◌, ◌==◌, Bool, true, false, not, ◌&&◌, if◌then◌else◌, List, [], ◌∷◌, ◌++◌, length, take, drop, map, replicate, nat_le, refl, sym, ◌∙◌, ap, ap₂, subst, inl, inr, append_assoc, take-append-drop, take-take, length-take, length-take-le, arith, bytes_eq, ◌⊎◌, Option, None}
+use Rattle.std.proofs.Common.{◌≡◌, ◌≢◌, ℕ, suc, ◌+◌, ◌-◌, ◌≤◌, ◌==◌, Bool, true, false, not, ◌&&◌, if◌then◌else◌, List, [], ◌∷◌, ◌++◌, length, take, drop, map, replicate, nat_le, refl, sym, ◌∙◌, ap, ap₂, subst, inl, inr, append_assoc, take-append-drop, take-take, length-take, arith, bytes_eq, ◌⊎◌, Option, None}
 use Rattle.std.specs.Prelude.{slice_index}
 use Rattle.std.specs.List.{concat}
 use Rattle.std.proofs.lemmas.Grind.{common_steps}
@@ -52,10 +52,6 @@ first_up_to s used false up = (no_line s (up.all refl).1).0 ∙ sym (ap (λ (k :
 pub later_up_to : (s : List ℕ) (used : ℕ) (whole : Bool) → UpToNewline s used whole → texts_of (drop used s) ≡ later_texts (texts_of s)
 later_up_to s used true up = sym (ap later_texts (first_line s (take used s) (drop used s) (sym (take-append-drop used s)) (up.line refl)))
 later_up_to s used false up = nothing_after s used (up.all refl).0 ∙ sym (no_line s (up.all refl).1).1
-
--- The first bytes of a longer text are so many.
-pub cut_len : (n : ℕ) (s : List ℕ) → n < length s → n ≡ length (take n s)
-cut_len n s h = sym (length-take-le n s (omega arith))
 
 -- A number within the first bytes is within all.
 pub within_cut : (n r : ℕ) (s : List ℕ) → r ≤ length (take n s) → (r ≤ n) × (r ≤ length s)

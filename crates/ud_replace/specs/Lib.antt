@@ -2,7 +2,6 @@ pub mod Calls
 pub mod Stats
 pub mod Filling
 pub mod Marks
-pub mod Printing
 pub mod FoldedMarks
 pub mod TextOutcomes
 pub mod MadeOutcomes

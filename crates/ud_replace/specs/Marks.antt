@@ -11,13 +11,12 @@
 --   read_marks ls shown       the marks of the lines `ls`, by the lines that are printed for them
 --   mark_by s j               the mark of the judged line `j`
 --   AreMarks o text ms        the marks of a text
---   PrintsBy o piece text old new   the output for a text by a printer's pieces was appended
 --   marked_piece s before j   what a printer of marks prints for `j`
 --   PrintsMarks o text new    its output for a text
 --
 -- Example: of a kept line `x` and a removed line `y`, the pieces are `x` and `y` after a byte 0,
 -- and the marks are `=` and 0.
-use Rattle.std.specs.Prelude.{◌≡◌, ℕ, List, [], ◌∷◌, ◌++◌, Bool, bytes_eq, if◌then◌else◌, not, map}
+use Rattle.std.specs.Prelude.{◌≡◌, ℕ, List, [], ◌∷◌, Bool, bytes_eq, if◌then◌else◌, not, map}
 use Rattle.std.specs.Prelude.{◌&&◌, None, slice_index}
 use Rattle.ud_model.specs.text.Lines.{text_of, texts_of}
 use Rattle.ud_model.specs.text.Scans.{Reading}
@@ -91,19 +90,13 @@ pub record AreMarks (o : Options) (text ms : List ℕ) : Type 0 where
   pub all : map (λ j. text_of j.line) (judged_lines items (marks tree)) ≡ texts_of text
   pub each : ms ≡ map (mark_by o.settings) (judged_lines items (marks tree))
 
--- `PrintsBy o piece text old new`: the text has no fault, and its output by the definition `piece`
--- was appended to the bytes `old`, which are then `new`.
-pub record PrintsBy (o : Options) (piece : List Judged → Judged → List ℕ)
-    (text old new : List ℕ) : Type 0 where
-  pub items : List (Item Reading)
-  pub tree : Tree Reading
-  pub reads : ReadsAs o text items tree None
-  pub printed : new ≡ old ++ text_by o.settings.listing piece items tree
-
 -- `marked_piece s before j`: what the printer of marks prints for `j` under the settings `s`.
 abbrev pub marked_piece : Settings → List Judged → Judged → List ℕ
 marked_piece s before j = mark_piece s.blank (judged_by s j)
 
 -- `PrintsMarks o text new`: the text has no fault, and `new` is what the printer of marks prints.
-abbrev pub PrintsMarks : Options → List ℕ → List ℕ → Type 0
-PrintsMarks o text new = PrintsBy o (marked_piece o.settings) text [] new
+pub record PrintsMarks (o : Options) (text new : List ℕ) : Type 0 where
+  pub items : List (Item Reading)
+  pub tree : Tree Reading
+  pub reads : ReadsAs o text items tree None
+  pub printed : new ≡ text_by o.settings.listing (marked_piece o.settings) items tree

@@ -13,7 +13,8 @@ mod searching;
 
 pub use bulk::hash_sign::is_other_word;
 pub use lines::{
-    LineBuffer, Lines, LongLineBuffer, ShortLineBuffer, Taken, TextFault, count_lines, line_in,
+    LineBuffer, LineStore, Lines, LongLineBuffer, ShortLineBuffer, Taken, TextFault, count_lines,
+    line_in,
 };
 pub use scan::{GrowingBuffer, Scanner, first_mark, law_same_scans};
 pub use searching::last_line_start;

@@ -30,10 +30,12 @@ use ud_model::{LINE_BYTES, Line, TEXT_LINES};
 
 mod fault;
 mod line_buffer;
+mod line_store;
 mod newlines;
 
 pub use fault::TextFault;
 pub use line_buffer::{LineBuffer, LongLineBuffer, ShortLineBuffer};
+pub use line_store::LineStore;
 
 /// The number of bytes that are searched for a newline at once.
 const NEAR_WINDOW_BYTES: usize = 32;
@@ -96,20 +98,21 @@ impl Lines<LongLineBuffer> {
         ensures value { result ≡ untaken last_line }
         ensures represents { LinesRepresent result [] }
     {
-        Lines::with_buffer(last_line)
+        Lines::with_buffer(last_line, LongLineBuffer::new())
     }
 }
 
 impl<H: LineBuffer> Lines<H> {
-    /// Returns the lines of a text before its first byte, as `new` does, with an `H` as the buffer.
-    pub fn with_buffer(last_line: u32) -> Lines<H>
+    /// Returns the lines of a text before its first byte, as `new` does, with this empty buffer.
+    pub fn with_buffer(last_line: u32, buffer: H) -> Lines<H>
+        requires empty { H.items buffer ≡ [] }
         requires low { 1 ≤ last_line }
         requires high { last_line ≤ TEXT_LINES }
         ensures value { result ≡ untaken last_line }
         ensures represents { LinesRepresent result [] }
     {
         Lines {
-            buffer: H::new(),
+            buffer,
             is_whole: false,
             consumed: 0,
             is_closed: false,

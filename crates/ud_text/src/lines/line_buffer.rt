@@ -33,10 +33,6 @@ pub trait LineBuffer: Drop {
     /// The capacity in clauses.
     ghost CAPACITY: { ℕ };
 
-    /// Returns an empty buffer.
-    fn new() -> Self
-        ensures { items result ≡ [] };
-
     /// Appends a byte.
     fn push(&mut self, byte: u8)
         requires { length (items self.old) < CAPACITY }
@@ -76,10 +72,6 @@ impl<const N: usize> LineBuffer for ArrayVec<u8, N> {
     const CAPACITY: usize = N;
 
     ghost CAPACITY = { N };
-
-    fn new() -> ArrayVec<u8, N> {
-        ArrayVec::new()
-    }
 
     fn push(&mut self, byte: u8) {
         ArrayVec::push(self, byte);

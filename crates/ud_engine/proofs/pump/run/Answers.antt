@@ -12,11 +12,11 @@ pump-requires-clause-begun g c =
       options = o;
       text = [];
       printed = [];
-      fed = c.with_buffer-engine.ensures.represents (own_session o [] []) (record {
+      fed = c.with_buffers-engine.ensures.represents (own_session o [] []) (record {
         settings_are = refl;
         symbols_are = λ name. refl;
-        show_is_new = λ off. c.of.ensures.represents;
-        pieces_are = λ before j. c.of.ensures.piece before j ∙ ap (λ q. piece_after (style_of q) before j) c.settings.ensures;
+        show_is_new = λ off. c.of-printer.ensures.represents;
+        pieces_are = λ before j. c.of-printer.ensures.piece before j ∙ ap (λ q. piece_after (style_of q) before j) c.settings.ensures;
         no_text = refl;
         no_output = refl;
       });
@@ -24,12 +24,12 @@ pump-requires-clause-begun g c =
 
 pub returns-in-Some-clause-finished : goal.returns-in-Some-clause-finished
 returns-in-Some-clause-finished g c = λ o s t.
-    let u = begins o c.with_buffer-engine.result (g.R.Read.remaining c.args.reader.now.inner) (g.W.Write.contents c.args.out.now.inner)
-    (c.with_buffer-engine.ensures.represents (own_session o [] []) (record {
+    let u = begins o c.with_buffers-engine.result (g.R.Read.remaining c.args.reader.now.inner) (g.W.Write.contents c.args.out.now.inner)
+    (c.with_buffers-engine.ensures.represents (own_session o [] []) (record {
       settings_are = s;
       symbols_are = t;
-      show_is_new = λ off. c.of.ensures.represents;
-      pieces_are = λ before j. c.of.ensures.piece before j ∙ ap (λ q. piece_after (style_of q) before j) (c.settings.ensures ∙ sym s);
+      show_is_new = λ off. c.of-printer.ensures.represents;
+      pieces_are = λ before j. c.of-printer.ensures.piece before j ∙ ap (λ q. piece_after (style_of q) before j) (c.settings.ensures ∙ sym s);
       no_text = refl;
       no_output = refl;
     })) in
@@ -37,12 +37,12 @@ returns-in-Some-clause-finished g c = λ o s t.
 
 pub returns-in-None-clause-finished : goal.returns-in-None-clause-finished
 returns-in-None-clause-finished g c = λ o s t.
-    let u = begins o c.with_buffer-engine.result (g.R.Read.remaining c.args.reader.now.inner) (g.W.Write.contents c.args.out.now.inner)
-    (c.with_buffer-engine.ensures.represents (own_session o [] []) (record {
+    let u = begins o c.with_buffers-engine.result (g.R.Read.remaining c.args.reader.now.inner) (g.W.Write.contents c.args.out.now.inner)
+    (c.with_buffers-engine.ensures.represents (own_session o [] []) (record {
       settings_are = s;
       symbols_are = t;
-      show_is_new = λ off. c.of.ensures.represents;
-      pieces_are = λ before j. c.of.ensures.piece before j ∙ ap (λ q. piece_after (style_of q) before j) (c.settings.ensures ∙ sym s);
+      show_is_new = λ off. c.of-printer.ensures.represents;
+      pieces_are = λ before j. c.of-printer.ensures.piece before j ∙ ap (λ q. piece_after (style_of q) before j) (c.settings.ensures ∙ sym s);
       no_text = refl;
       no_output = refl;
     })) in

@@ -3,7 +3,7 @@ use Rattle.ud_model.specs.sections.Tree.{closed, nothing}
 use Rattle.ud_model.specs.sections.Faults.{no_lines}
 use Rattle.ud_text.specs.lines.LinesState.{LinesState}
 use Rattle.ud_engine.proofs.FeedLemmas.{in_session, none_so_far, none_begun, none_count}
-use Rattle.ud_engine.proofs.engine.EngineOf.with_buffer.Goals as goal
+use Rattle.ud_engine.proofs.engine.EngineOf.with_buffers.Goals as goal
 
 pub returns-clause-represents : goal.returns-clause-represents
 returns-clause-represents g c = λ s b. in_session g.S.Show.represents g.S.Show.piece _ b.no_text b.no_output (record {
@@ -21,5 +21,5 @@ returns-clause-represents g c = λ s b. in_session g.S.Show.represents g.S.Show.
     count = none_count c.with_buffer.result c.with_buffer.ensures.value;
   };
   works = refl;
-  written = c.new-3.ensures;
+  written = c.new-2.ensures;
 })
