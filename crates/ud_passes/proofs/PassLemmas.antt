@@ -14,12 +14,11 @@ use Rattle.ud_model.specs.declared.kind.Mode.TheVariants.{C}
 use Rattle.ud_model.proofs.text.ScanBytes.{scan_after-same}
 use Rattle.ud_model.proofs.output.Each.{Pairs, pair}
 use Rattle.ud_simplified.proofs.SimplifiedReadings.{ReadingSimplified, readings_simplified}
-use Rattle.ud_text.specs.scan.ScannerState.{ScannerState, ScannerRepresents}
 use Rattle.ud_passes.specs.Passes.{fits}
 use Rattle.ud_passes.specs.Walks.{read_after, AreTexts, HaveBytes, Walked}
 use Rattle.ud_passes.specs.pruning.PrunedTexts.{pruned_line, pruned_bytes, is_edited, edited_among}
 use Rattle.ud_passes.specs.pruning.EditedLines.{IsEditedTo, IsScannedAlone}
-use Rattle.ud_passes.specs.pruning.Passing.{PrunesNext, Pruned}
+use Rattle.ud_passes.specs.pruning.Passing.{PrunesLine, Pruned}
 use Rattle.ud_passes.specs.declared.walk.Walk.{Walk}
 
 concat-append : (xs ys : List (List ℕ)) → concat (xs ++ ys) ≡ concat xs ++ concat ys
@@ -116,9 +115,9 @@ module _ (table : List Argument) (rules : Rules) where
           by : (s : Reading) → ReadingSimplified table rules r s → IsScannedAlone r.scan r.line
           by s h = grind arith
 
-      pub line_pruned : (n : ℕ) (edited : Bool) → n ≡ count + (if edited then 1 else 0) → (s : ScannerState) → ScannerRepresents s l.read → PrunesNext table rules s k edited out more →
+      pub line_pruned : (n : ℕ) (edited : Bool) → n ≡ count + (if edited then 1 else 0) → (scan : Scan) → scan ≡ scan_after l.read C k → PrunesLine table rules k scan edited out more →
           Pruned table rules text start n next more
-      line_pruned n edited c s q h = let p = h l.read q alone in grind (arith, renumbered, line_more)
+      line_pruned n edited c scan q h = let p = subst (λ (s : Scan). PrunesLine table rules k s edited out more) q h alone in grind (arith, renumbered, line_more)
 
   pub first_place : (all start : List ℕ) (walk : Walk) → Walked C all [] walk.rest.now walk.scanner → Pruned table rules all start 0 walk start
   first_place all start walk w = grind (arith, append-nil)

@@ -8,7 +8,7 @@ use Rattle.std.proofs.lemmas.List.{map-append, length-map}
 use Rattle.std.proofs.lemmas.List.Elements.{filter-append}
 use Rattle.std.proofs.lemmas.List.Folds.{list_any-append}
 use Rattle.ud_model.specs.text.Lines.{Line, whole_lines}
-use Rattle.ud_model.specs.text.Scans.{Reading}
+use Rattle.ud_model.specs.text.Scans.{Scan, Reading}
 use Rattle.ud_model.specs.text.Scanning.{scan_after}
 use Rattle.ud_model.specs.conditions.Table.{Argument}
 use Rattle.ud_model.specs.aids.ReadAs.{read_as}
@@ -22,7 +22,7 @@ use Rattle.ud_passes.specs.remaining.Definitions.{IsClear}
 use Rattle.ud_passes.specs.remaining.Mentions.{Mention, mentions_in, mentions_of, joins_next, joined_text}
 use Rattle.ud_passes.specs.remaining.ListedNames.{names_by, names_listed}
 use Rattle.ud_passes.specs.remaining.RemainingLists.{is_condition, is_defining, line_of, lines_for, named_by, named_count, defining_count, has_name}
-use Rattle.ud_passes.specs.remaining.Searches.{rest_from, as_mention, ended, Appends, EndsLine, Searched, IsTaken, begun_as, IsClearTo, shown_number, as_listed}
+use Rattle.ud_passes.specs.remaining.Searches.{extended, rest_from, as_mention, ended, Appends, EndsLine, Searched, IsTaken, begun_as, IsClearTo, shown_number, as_listed}
 use Rattle.ud_passes.specs.declared.remaining.mentions.Begun.{Begun}
 use Rattle.ud_passes.specs.declared.remaining.listing.Listing.{Listing}
 use Rattle.ud_passes.specs.declared.remaining.mentions.Class.{Class}
@@ -30,7 +30,7 @@ use Rattle.ud_passes.specs.declared.remaining.search.Search.{Search}
 use Rattle.ud_passes.specs.declared.remaining.search.Place.{Place}
 use Rattle.ud_passes.specs.declared.walk.Walk.{Walk}
 use Rattle.ud_passes.proofs.DefinitionLemmas.{clear_drop, DefineNothing, lines_clear}
-use Rattle.ud_passes.proofs.MentionLemmas.{end_of_text, taken_long}
+use Rattle.ud_passes.proofs.MentionLemmas.{end_of_text, taken_fitting, taken_long}
 use Rattle.ud_passes.proofs.WalkLemmas.{walk_ends}
 
 -- 1. The mentions of more lines.
@@ -229,6 +229,11 @@ module _ (rows table : List Argument) (mode : Mode) (name text : List ℕ) (star
           subst (λ (x : Option Mention). Goes table (s.seen ++ seen ∷ []) (s.found ++ ended q) x true) (sym a.1) (goes_by_end table (s.seen ++ seen ∷ []) s.found q g),
           appends_more rows table name s.found (ended q) start mid new kept a.0,
         )
+
+    pub fitting_searched : (c : Option Begun) (scan : Scan) → scan ≡ scan_after s.read mode k → fits k ≡ true →
+        begun_as c mid.after.items ≡ extended table begun_before (reading_at mode k scan place.number) →
+        EndsLine rows table name c scan.joins_after mid new next.begun → Searched rows table mode name text start new next on
+    fitting_searched c scan is f i e = line_searched c scan.joins_after (grind (arith, is, f, taken_fitting table begun_before seen, i), grind (arith, is, f)) e
 
     pub long_searched : fits k ≡ false → mid.after.items ≡ old.after.items → EndsLine rows table name place.begun false mid new next.begun → Searched rows table mode name text start new next on
     long_searched f a e = line_searched place.begun false (ap (begun_as place.begun) a ∙ sym (taken_long table begun_before seen f), sym (grind (arith, f))) e

@@ -4,20 +4,21 @@ use Rattle.std.specs.List.{concat}
 use Rattle.std.proofs.lemmas.Simd.{map-map}
 use Rattle.std.proofs.lemmas.Slice.Eq.{bytes_eq-Decides}
 use Rattle.ud_model.specs.text.Lines.{Line, text_of, lines_of}
-use Rattle.ud_model.specs.text.Scans.{Reading}
+use Rattle.ud_model.specs.text.Scans.{Scan, Reading}
+use Rattle.ud_model.specs.text.Scanning.{scan_after}
 use Rattle.ud_model.specs.conditions.Table.{Argument}
 use Rattle.ud_model.specs.conditions.Conditions.{Rules}
 use Rattle.ud_model.specs.aids.ReadAs.{read_as}
 use Rattle.ud_model.specs.declared.kind.Mode.TheVariants.{C}
 use Rattle.ud_model.proofs.output.Changed.{lines_join}
 use Rattle.ud_simplified.specs.FoldedTexts.{has_tab, folded_lines}
-use Rattle.ud_text.specs.scan.ScannerState.{ScannerState, ScannerRepresents}
 use Rattle.ud_passes.specs.Passes.{fits}
 use Rattle.ud_passes.specs.Walks.{read_after, AreTexts, HaveBytes, Walked}
 use Rattle.ud_passes.specs.folding.Folding.{FoldsReading}
+use Rattle.ud_passes.specs.folding.LogicalLines.{begins}
 use Rattle.ud_passes.specs.pruning.Passing.{Pruned}
 use Rattle.ud_passes.specs.pruning.PrunedTexts.{pruned_bytes, edited_among}
-use Rattle.ud_passes.specs.UntouchedTexts.{IsUntouched, LeavesNext, StayedTo}
+use Rattle.ud_passes.specs.UntouchedTexts.{IsUntouched, LeavesLine, StayedTo}
 use Rattle.ud_passes.specs.declared.folding.logical.LogicalLine.{LogicalLine}
 use Rattle.ud_passes.specs.declared.walk.Walk.{Walk}
 use Rattle.ud_passes.proofs.FoldLemmas.{takes_line, long_taken, line_folded, texts_folded, first_folded, all_folded}
@@ -85,7 +86,7 @@ module _ (table : List Argument) (rules : Rules) (text : List ℕ) where
       long_stayed e = line_stayed (long_more table rules text [] 0 walk s.done s.pruned next (s.done ++ text_of k) k (h s.pruned.read s.pruned.walked) e refl)
           (λ l. let g = s.folded l in long_taken (read_after C g.read k) s.done l None g.group (s.done ++ text_of k) e g.is_group tt (let none = g.is_group in grind (arith, append-nil)) l)
 
-      pub short_stayed : (t : ScannerState) → ((read : List Reading) → Walked C text read walk.rest.now walk.scanner → ScannerRepresents t read) → LeavesNext table rules t k → StayedTo table rules text next
-      short_stayed t q n = line_stayed (line_pruned table rules text [] 0 walk s.done s.pruned next (s.done ++ text_of k) k (h s.pruned.read s.pruned.walked) 0 false refl t (q s.pruned.read s.pruned.walked) (n.unedited s.done))
+      pub short_stayed : (scan : Scan) → ((read : List Reading) → Walked C text read walk.rest.now walk.scanner → scan ≡ scan_after read C k) → LeavesLine table rules k scan → StayedTo table rules text next
+      short_stayed scan q n = line_stayed (line_pruned table rules text [] 0 walk s.done s.pruned next (s.done ++ text_of k) k (h s.pruned.read s.pruned.walked) 0 false refl scan (q s.pruned.read s.pruned.walked) (n.unedited s.done))
           (λ l. let g = s.folded l in subst (λ (x : List Reading). FoldsReading (read_after C g.read k) x s.done l None (s.done ++ text_of k)) (sym g.is_group)
-          (takes_line (read_after C g.read k) s.done l (s.done ++ text_of k) refl (n.unbegun g.read (q g.read g.walked))))
+          (takes_line (read_after C g.read k) s.done l (s.done ++ text_of k) refl (ap begins (sym (q g.read g.walked)) ∙ n.unbegun)))

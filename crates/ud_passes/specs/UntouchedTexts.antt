@@ -1,16 +1,13 @@
 -- UntouchedTexts: texts that are neither folded nor edited.
 use Rattle.std.specs.Prelude.{◌≡◌, ℕ, List, [], ◌++◌, false, None}
 use Rattle.ud_model.specs.text.Lines.{Line, text_of}
-use Rattle.ud_model.specs.text.Scans.{Reading}
-use Rattle.ud_model.specs.text.Scanning.{scan_after}
-use Rattle.ud_model.specs.declared.kind.Mode.TheVariants.{C}
+use Rattle.ud_model.specs.text.Scans.{Scan}
 use Rattle.ud_model.specs.conditions.Table.{Argument}
 use Rattle.ud_model.specs.conditions.Conditions.{Rules}
 use Rattle.ud_simplified.specs.FoldedTexts.{folded_text}
-use Rattle.ud_text.specs.scan.ScannerState.{ScannerState, ScannerRepresents}
 use Rattle.ud_passes.specs.folding.Folding.{Folded}
 use Rattle.ud_passes.specs.folding.LogicalLines.{begins}
-use Rattle.ud_passes.specs.pruning.Passing.{Pruned, PrunesNext}
+use Rattle.ud_passes.specs.pruning.Passing.{Pruned, PrunesLine}
 use Rattle.ud_passes.specs.pruning.PrunedTexts.{pruned_text, edited_count}
 use Rattle.ud_passes.specs.declared.folding.logical.LogicalLine.{LogicalLine}
 use Rattle.ud_passes.specs.declared.walk.Walk.{Walk}
@@ -21,13 +18,12 @@ pub record IsUntouched (table : List Argument) (rules : Rules) (bytes : List ℕ
   pub unpruned : pruned_text table rules bytes ≡ bytes
   pub unedited : edited_count table rules bytes ≡ 0
 
--- `LeavesNext table rules s l`: after the lines that the scanner `s` represents, the line `l`
--- begins no directive that goes on, and isn't edited.
-pub record LeavesNext (table : List Argument) (rules : Rules) (s : ScannerState) (l : Line) :
+-- `LeavesLine table rules l scan`: the line `l` with this scan begins no directive that goes on,
+-- and isn't edited.
+pub record LeavesLine (table : List Argument) (rules : Rules) (l : Line) (scan : Scan) :
     Type 0 where
-  pub unbegun : (before : List Reading) → ScannerRepresents s before →
-      begins (scan_after before C l) ≡ false
-  pub unedited : (old : List ℕ) → PrunesNext table rules s l false old (old ++ text_of l)
+  pub unbegun : begins scan ≡ false
+  pub unedited : (old : List ℕ) → PrunesLine table rules l scan false old (old ++ text_of l)
 
 -- `StayedTo table rules text walk`: the lines `done` of the text, before the place of `walk`, stay
 -- if they are pruned, and if they are folded.

@@ -8,19 +8,19 @@
 --   len_of s                       how many bytes the stretch `s` has
 --   is_one_line s                  the stretch `s` is one line
 --   IsPrefixOf most rest s         the text lines of the stretch `s` are a prefix of `rest`
---   CanBeRead s                    the scanner can read the line of the stretch `s`
+--   IsFitting s                    a line of the stretch `s` with a scan is within the limit
 --   IsNext mode whole read next ..   the stretch `next` has the lines after the lines `read`
 --
--- Example: a walk over `x;` newline `#if A` newline first reads a text line. The pass reads the
--- next line, since only the pass needs its scan.
+-- Example: a walk over `x;` newline `#if A` newline first reads a text line. Then comes a line with
+-- its scan.
 use Rattle.std.specs.Prelude.{◌≡◌, ℕ, ◌+◌, ◌<◌, ◌≤◌, List, [], ◌∷◌, ◌++◌, length, map, take, Bool}
 use Rattle.std.specs.Prelude.{true, false}
 use Rattle.std.specs.List.{concat}
 use Rattle.ud_model.specs.text.Lines.{Line, NoNewline, text_of, texts_of, whole_lines}
 use Rattle.ud_model.specs.text.Lines.{numbered_from}
 use Rattle.ud_model.specs.text.Scans.{Scan, Reading}
-use Rattle.ud_model.specs.text.Scanning.{scan_after, next_reading}
-use Rattle.ud_model.specs.aids.LineViews.{as_line}
+use Rattle.ud_model.specs.text.Scanning.{scan_after}
+use Rattle.ud_model.specs.aids.LineViews.{as_line, as_scan}
 use Rattle.ud_model.specs.sections.Directives.{text, content_of}
 use Rattle.ud_model.specs.aids.ReadAs.{read_as}
 use Rattle.ud_model.specs.declared.kind.Mode.{Mode}
@@ -67,13 +67,13 @@ pub record Walked (mode : Mode) (text : List ℕ) (read : List Reading) (rest : 
 -- `len_of s`: how many bytes the stretch `s` has.
 abbrev pub len_of : Stretch → ℕ
 len_of (Texts bytes) = length bytes.now
-len_of (Fitting line) = length line.body.now + length line.ending.now
+len_of (Fitting line scan) = length line.body.now + length line.ending.now
 len_of (TooLong line) = length line.body.now + length line.ending.now
 
 -- `is_one_line s`: the stretch `s` is one line.
 abbrev pub is_one_line : Stretch → Bool
 is_one_line (Texts bytes) = false
-is_one_line (Fitting line) = true
+is_one_line (Fitting line scan) = true
 is_one_line (TooLong line) = true
 
 -- `IsPrefixOf most rest s`: if the stretch `s` has text lines, they are a prefix of the text `rest`
@@ -81,19 +81,19 @@ is_one_line (TooLong line) = true
 abbrev pub IsPrefixOf : ℕ → List ℕ → Stretch → Type 0
 IsPrefixOf most rest (Texts bytes) =
     (length bytes.now ≤ most) × (bytes.now ≡ take (length bytes.now) rest)
-IsPrefixOf most rest (Fitting line) = Unit {0}
+IsPrefixOf most rest (Fitting line scan) = Unit {0}
 IsPrefixOf most rest (TooLong line) = Unit {0}
 
--- `CanBeRead s`: a line that the scanner is to read has no newline, and fits.
-abbrev pub CanBeRead : Stretch → Type 0
-CanBeRead (Texts bytes) = Unit {0}
-CanBeRead (TooLong line) = Unit {0}
-CanBeRead (Fitting line) =
-    NoNewline line.body.now × (length (text_of (as_line line)) ≤ LINE_BYTES)
+-- `IsFitting s`: a line of the stretch `s` with a scan has no newline in its body. Neither the line
+-- nor the masked line is longer than a line may be.
+abbrev pub IsFitting : Stretch → Type 0
+IsFitting (Texts bytes) = Unit {0}
+IsFitting (TooLong line) = Unit {0}
+IsFitting (Fitting line scan) = NoNewline line.body.now ×
+    (length (text_of (as_line line)) ≤ LINE_BYTES) × (length scan.masked.now ≤ LINE_BYTES)
 
 -- `IsNext mode whole read next rest s`: after the lines `read`, the next lines are those of the
--- stretch, and the text after them is `rest`. A line that fits isn't read yet: it is once a scanner
--- represents it.
+-- stretch, and the text after them is `rest`. A line that fits has its scan after the lines `read`.
 abbrev pub IsNext : Mode → List ℕ → List Reading → Stretch → List ℕ → ScannerState → Type 0
 IsNext mode whole read (Texts bytes) rest s =
     (rs : List Reading) × AreTexts rs × HaveBytes bytes.now rs ×
@@ -101,8 +101,6 @@ IsNext mode whole read (Texts bytes) rest s =
 IsNext mode whole read (TooLong line) rest s =
     (fits (as_line line) ≡ false) ×
     Walked mode whole (read ++ read_after mode read (as_line line) ∷ []) rest s
-IsNext mode whole read (Fitting line) rest s =
-    ScannerRepresents s read ×
-    ((t : ScannerState) →
-    ScannerRepresents t (read ++ next_reading read mode (as_line line) ∷ []) →
-    Walked mode whole (read ++ read_after mode read (as_line line) ∷ []) rest t)
+IsNext mode whole read (Fitting line scan) rest s =
+    (as_scan scan ≡ scan_after read mode (as_line line)) ×
+    Walked mode whole (read ++ read_after mode read (as_line line) ∷ []) rest s

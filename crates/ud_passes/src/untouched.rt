@@ -6,47 +6,45 @@ ghost use Rattle.std.specs.Prelude.{OnOk};
 ghost use Rattle.ud_model.specs.text.Lines.{NoNewline, text_of};
 ghost use Rattle.ud_model.specs.text.Scans.{Reading};
 ghost use Rattle.ud_model.specs.text.Scanning.{next_reading};
-ghost use Rattle.ud_model.specs.aids.LineViews.{as_line};
+ghost use Rattle.ud_model.specs.aids.LineViews.{as_line, as_scan};
 ghost use Rattle.ud_model.specs.declared.limits.TheConstants.{LINE_BYTES};
 ghost use Rattle.ud_model.specs.declared.kind.Mode.{Mode};
 ghost use Rattle.ud_text.specs.scan.ScannerState.{ScannerRepresents};
 ghost use Rattle.ud_model.specs.conditions.Table.{Argument};
 ghost use Rattle.ud_cond.specs.symbols.SymbolTable.{TableRepresents};
 ghost use Rattle.ud_cond.specs.CondViews.{as_rules};
-ghost use Rattle.ud_passes.specs.UntouchedTexts.{IsUntouched, LeavesNext, StaysOn};
+ghost use Rattle.ud_passes.specs.UntouchedTexts.{IsUntouched, LeavesLine, StaysOn};
 
 use crate::folding::begins;
 use crate::pruning::LineEditor;
-use crate::walk::{LineScanner, Stretch, Walk};
+use crate::walk::{Stretch, Walk};
 use std::alloc::{AllocError, Global};
 use ud_cond::{Rules, Symbols};
-use ud_model::{Line, Mode};
+use ud_model::{Line, Mode, Scan};
+use ud_text::LineStore;
 
-/// Reads a line. Returns whether it stays.
+/// Returns whether a line with this scan stays.
 ///
 /// # Errors
 /// Fails if memory runs out.
 fn line_stays(
-    scanner: &mut LineScanner,
     editor: &mut LineEditor,
     line: &Line<'_>,
+    scan: &Scan<'_>,
     symbols: &Symbols,
     rules: Rules,
 ) -> Result<bool, AllocError>
     requires fits { length (text_of (as_line line.now)) ≤ LINE_BYTES }
+    requires masked { length scan.now.masked.now ≤ LINE_BYTES }
     requires one_line { NoNewline line.now.body.now }
-    ensures represents { OnOk result ((before : List Reading) →
-        ScannerRepresents scanner.old before → ScannerRepresents scanner.new
-        (before ++ next_reading before Mode.C (as_line line.now) ∷ [])) }
-    ensures stays { IfOk result (λ stays. stays ≡ true → (calls : List Argument) →
+    ensures { IfOk result (λ stays. stays ≡ true → (calls : List Argument) →
         TableRepresents symbols.now calls →
-        LeavesNext calls (as_rules rules) scanner.old (as_line line.now)) }
+        LeavesLine calls (as_rules rules) (as_line line.now) (as_scan scan.now)) }
 {
-    let scan = scanner.read_growing(Mode::C, line)?;
-    if begins(&scan) {
+    if begins(scan) {
         return Ok(false);
     }
-    let edited = editor.edit(line, &scan, symbols, rules)?;
+    let edited = editor.edit(line, scan, symbols, rules)?;
     Ok(!edited)
 }
 
@@ -56,6 +54,7 @@ fn line_stays(
 /// Fails if memory runs out.
 fn step(
     walk: &mut Walk<'_>,
+    masked: &mut LineStore,
     editor: &mut LineEditor,
     symbols: &Symbols,
     rules: Rules,
@@ -65,11 +64,11 @@ fn step(
     ensures stay { IfOk result (λ stay. stay ≡ true → (calls : List Argument) →
         TableRepresents symbols.now calls → StaysOn calls (as_rules rules) walk.old walk.new) }
 {
-    match walk.next(Mode::C) {
+    match walk.next(Mode::C, masked) {
         Stretch::Texts(_) => Ok(true),
         Stretch::TooLong(_) => Ok(true),
-        Stretch::Fitting(line) => {
-            let stays = line_stays(&mut walk.scanner, editor, &line, symbols, rules)?;
+        Stretch::Fitting(line, scan) => {
+            let stays = line_stays(editor, &line, &scan, symbols, rules)?;
             Ok(stays)
         }
     }
@@ -91,10 +90,11 @@ pub fn is_untouched(
     ensures { IfOk result (λ known. known ≡ true → (calls : List Argument) →
         TableRepresents symbols.now calls → IsUntouched calls (as_rules rules) text.now) }
 {
-    let mut walk = Walk::new(alloc, text);
+    let mut masked = LineStore::new(alloc)?;
+    let mut walk = Walk::new(text);
     let mut editor = LineEditor::new(alloc);
     while !walk.is_at_end() {
-        if !step(&mut walk, &mut editor, symbols, rules)? {
+        if !step(&mut walk, &mut masked, &mut editor, symbols, rules)? {
             return Ok(false);
         }
     }

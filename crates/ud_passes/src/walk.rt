@@ -1,7 +1,7 @@
 //! A walk over the lines of a text, which every pass makes.
 //!
-//! Text lines are skipped many at once. Any other line that fits is left to the pass, which reads
-//! it by the walk's scanner, so the scan needs no place of its own.
+//! Text lines are skipped many at once. Any other line that fits comes with its scan, which borrows
+//! from the line and from a buffer of the pass.
 //!
 //! What comes next is a `Stretch`. A further kind of stretch needs a case in `IsNext`.
 
@@ -9,24 +9,20 @@ ghost use Rattle.std.specs.Prelude.{◌≡◌, ◌+◌, ◌<◌, ◌≤◌, ◌=
 ghost use Rattle.std.specs.Prelude.{drop};
 ghost use Rattle.ud_model.specs.text.Scans.{Reading};
 ghost use Rattle.ud_model.specs.declared.kind.Mode.{Mode};
-ghost use Rattle.ud_passes.specs.Walks.{Walked, len_of, is_one_line, IsPrefixOf, CanBeRead};
+ghost use Rattle.ud_passes.specs.Walks.{Walked, len_of, is_one_line, IsPrefixOf, IsFitting};
 ghost use Rattle.ud_passes.specs.Walks.{IsNext};
 
-use std::alloc::Global;
-use ud_model::{LINE_BYTES, Line, Mode};
-use ud_text::{GrowingBuffer, Scanner, line_in};
-
-/// The scanner of a walk.
-pub(crate) type LineScanner = Scanner<GrowingBuffer>;
+use ud_model::{LINE_BYTES, Line, Mode, Scan};
+use ud_text::{LineStore, Scanner, line_in};
 
 /// The next lines of a text.
 #[derive(Clone, Copy)]
-pub(crate) enum Stretch<'t> {
-    /// Text lines, already read.
+pub(crate) enum Stretch<'t, 's> {
+    /// Text lines.
     Texts(&'t [u8]),
-    /// A line that fits, still to be read.
-    Fitting(Line<'t>),
-    /// A line over the limit, which was skipped.
+    /// A line that fits, with its scan.
+    Fitting(Line<'t>, Scan<'s>),
+    /// A line over the limit.
     TooLong(Line<'t>),
 }
 
@@ -38,12 +34,12 @@ pub(crate) struct Walk<'t> {
     /// Text lines were taken last, so another is hardly next.
     is_stopped: bool,
     /// The scanner, after the lines before.
-    pub(crate) scanner: LineScanner,
+    scanner: Scanner<()>,
 }
 
 impl<'t> Walk<'t> {
     /// Returns the beginning of a text.
-    pub(crate) fn new(alloc: Global, text: &'t [u8]) -> Walk<'t>
+    pub(crate) fn new(text: &'t [u8]) -> Walk<'t>
         ensures rest { result.rest.now ≡ text.now }
         ensures walked { (mode : Mode) →
             Walked mode text.now [] result.rest.now result.scanner }
@@ -51,7 +47,7 @@ impl<'t> Walk<'t> {
         Walk {
             rest: text,
             is_stopped: false,
-            scanner: Scanner::growing(alloc),
+            scanner: Scanner::bare(),
         }
     }
 
@@ -62,40 +58,50 @@ impl<'t> Walk<'t> {
         self.rest.is_empty()
     }
 
-    /// Takes the next lines: text lines, or one line.
-    pub(crate) fn next(&mut self, mode: Mode) -> Stretch<'t>
+    /// Takes the next lines: text lines, or one line. The masked line is written to `masked`,
+    /// unless it is the line itself.
+    pub(crate) fn next<'s>(&mut self, mode: Mode, masked: &'s mut LineStore) -> Stretch<'t, 's>
+    where
+        't: 's,
         requires some { 0 < length self.old.rest.now }
         ensures some { 0 < len_of result }
         ensures bytes { len_of result + length self.new.rest.now ≡ length self.old.rest.now }
-        ensures readable { CanBeRead result }
+        ensures fitting { IsFitting result }
         ensures next { (text : List ℕ) (read : List Reading) →
             Walked mode text read self.old.rest.now self.old.scanner →
             IsNext mode text read result self.new.rest.now self.new.scanner }
     {
-        self.next_within(mode, self.rest.len())
+        self.next_within(mode, self.rest.len(), masked)
     }
 
     /// Takes the next lines: text lines of at most `most` bytes in all, or one line. After text
     /// lines comes one line.
-    pub(crate) fn next_within(&mut self, mode: Mode, most: usize) -> Stretch<'t>
+    pub(crate) fn next_within<'s>(
+        &mut self,
+        mode: Mode,
+        most: usize,
+        masked: &'s mut LineStore,
+    ) -> Stretch<'t, 's>
+    where
+        't: 's,
         requires some { 0 < length self.old.rest.now }
         ensures one { most ≡ 0 → is_one_line result ≡ true }
         ensures some { 0 < len_of result }
         ensures bytes { len_of result + length self.new.rest.now ≡ length self.old.rest.now }
         ensures rest { self.new.rest.now ≡ drop (len_of result) self.old.rest.now }
         ensures prefix { IsPrefixOf most self.old.rest.now result }
-        ensures readable { CanBeRead result }
+        ensures fitting { IsFitting result }
         ensures next { (text : List ℕ) (read : List Reading) →
             Walked mode text read self.old.rest.now self.old.scanner →
             IsNext mode text read result self.new.rest.now self.new.scanner }
     {
         if most == 0 || self.is_stopped {
-            return self.next_line(mode);
+            return self.next_line(mode, masked);
         }
         let within = &self.rest[..most.min(self.rest.len())];
         let skipped = self.scanner.skip_text(mode, within);
         if skipped == 0 {
-            return self.next_line(mode);
+            return self.next_line(mode, masked);
         }
         let (bytes, rest) = self.rest.split_at(skipped);
         self.rest = rest;
@@ -104,13 +110,15 @@ impl<'t> Walk<'t> {
     }
 
     /// Takes the next line, even if it is a text line.
-    fn next_line(&mut self, mode: Mode) -> Stretch<'t>
+    fn next_line<'s>(&mut self, mode: Mode, masked: &'s mut LineStore) -> Stretch<'t, 's>
+    where
+        't: 's,
         requires some { 0 < length self.old.rest.now }
         ensures one { is_one_line result ≡ true }
         ensures some { 0 < len_of result }
         ensures bytes { len_of result + length self.new.rest.now ≡ length self.old.rest.now }
         ensures rest { self.new.rest.now ≡ drop (len_of result) self.old.rest.now }
-        ensures readable { CanBeRead result }
+        ensures fitting { IsFitting result }
         ensures next { (text : List ℕ) (read : List Reading) →
             Walked mode text read self.old.rest.now self.old.scanner →
             IsNext mode text read result self.new.rest.now self.new.scanner }
@@ -123,6 +131,7 @@ impl<'t> Walk<'t> {
             self.scanner.pass(mode, &line);
             return Stretch::TooLong(line);
         }
-        Stretch::Fitting(line)
+        let scan = self.scanner.read_into(mode, &line, masked);
+        Stretch::Fitting(line, scan)
     }
 }

@@ -2,4 +2,3 @@
 pub mod LexerViews
 pub mod ScannerState
 pub mod ScanBorrows
-pub mod GrowingScans

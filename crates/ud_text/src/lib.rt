@@ -16,6 +16,6 @@ pub use lines::{
     LineBuffer, LineStore, Lines, LongLineBuffer, ShortLineBuffer, Taken, TextFault, count_lines,
     line_in,
 };
-pub use scan::{GrowingBuffer, Scanner, first_mark, law_same_scans};
+pub use scan::{Scanner, first_mark, law_same_scans};
 pub use searching::last_line_start;
 pub use ud_model::{CommentAt, Line, Scan};

@@ -1,10 +1,8 @@
 //! Scans the lines of a text, one after the other.
 
-mod growing;
 pub(crate) mod lexer;
 mod marks;
 mod scanner;
 
-pub use growing::GrowingBuffer;
 pub use marks::first_mark;
 pub use scanner::{Scanner, law_same_scans};

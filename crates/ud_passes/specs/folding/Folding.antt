@@ -3,14 +3,12 @@ use Rattle.std.specs.Prelude.{◌≡◌, ℕ, List, [], ◌∷◌, ◌++◌, Boo
 use Rattle.std.specs.List.{flat_map}
 use Rattle.ud_model.specs.text.Scans.{Reading}
 use Rattle.ud_model.specs.text.Splicing.{c_run_of}
-use Rattle.ud_model.specs.text.Scanning.{joins, scan_after}
-use Rattle.ud_model.specs.aids.LineViews.{as_line}
+use Rattle.ud_model.specs.text.Scanning.{joins}
 use Rattle.ud_simplified.specs.FoldedTexts.{continued, folded_bytes, folded_lines, restored_line}
 use Rattle.ud_model.specs.declared.line.Line.{Line as CodeLine}
 use Rattle.ud_model.specs.declared.scan.Scan.{Scan as CodeScan}
 use Rattle.ud_model.specs.declared.kind.Mode.TheVariants.{C}
-use Rattle.ud_text.specs.scan.ScannerState.{ScannerState, ScannerRepresents}
-use Rattle.ud_passes.specs.Walks.{reading_at, Walked}
+use Rattle.ud_passes.specs.Walks.{Walked}
 use Rattle.ud_passes.specs.folding.LogicalLines.{plain_lines, c_reading, HasItsSplice, IsGroup}
 use Rattle.ud_passes.specs.declared.folding.logical.Last.{Last}
 use Rattle.ud_passes.specs.declared.folding.logical.LogicalLine.{LogicalLine}
@@ -46,16 +44,6 @@ abbrev pub FoldsLine : CodeLine → CodeScan → LogicalLine → Option Last →
 FoldsLine line scan l b old m c new = (n : ℕ) (group : List Reading) → IsGroup l b group →
     IfSome b (λ _. scan.joins_before ≡ true) → HasItsSplice line scan →
     FoldsReading (c_reading line scan n) group old m c new
-
--- `FoldsNext s line l b old m c new`: the line, which comes after those that the scanner `s`
--- represents, was taken after those that go on, if `l` and `b` have some.
-abbrev pub FoldsNext : ScannerState → CodeLine → LogicalLine → Option Last → List ℕ → LogicalLine →
-    Option Last → List ℕ → Type 0
-FoldsNext s line l b old m c new = (before : List Reading) → ScannerRepresents s before →
-    (n : ℕ) (group : List Reading) → IsGroup l b group →
-    IfSome b (λ _. joins (c_run_of before) ≡ true) →
-    FoldsReading (reading_at C (as_line line) (scan_after before C (as_line line)) n) group old m c
-    new
 
 -- `Folded text start l b walk out`: the folded lines before the walk's place were appended to
 -- `start`, except those of the pending logical line.

@@ -2,26 +2,22 @@
 use Rattle.std.specs.Prelude.{◌≡◌, ℕ, List, ◌++◌, map, Bool}
 use Rattle.std.specs.List.{concat}
 use Rattle.ud_model.specs.text.Lines.{Line}
-use Rattle.ud_model.specs.text.Scans.{Reading}
-use Rattle.ud_model.specs.text.Scanning.{scan_after, next_reading}
+use Rattle.ud_model.specs.text.Scans.{Scan, Reading}
 use Rattle.ud_model.specs.conditions.Table.{Argument}
 use Rattle.ud_model.specs.conditions.Conditions.{Rules}
 use Rattle.ud_model.specs.declared.kind.Mode.TheVariants.{C}
-use Rattle.ud_text.specs.scan.ScannerState.{ScannerState, ScannerRepresents}
 use Rattle.ud_passes.specs.Walks.{Walked}
 use Rattle.ud_passes.specs.pruning.PrunedTexts.{pruned_bytes, is_edited, edited_among}
-use Rattle.ud_passes.specs.pruning.EditedLines.{IsScannedAlone}
+use Rattle.ud_passes.specs.pruning.EditedLines.{c_reading, IsScannedAlone}
 use Rattle.ud_passes.specs.declared.walk.Walk.{Walk}
 
--- `PrunesNext table rules s l edited old new`: after the lines that the scanner `s` represents, the
--- rest of the line `l` was appended to `old`, and it is `edited` or not. This is known if the line
--- is scanned as the first of a text, unless the line before joins it.
-abbrev pub PrunesNext : List Argument → Rules → ScannerState → Line → Bool → List ℕ → List ℕ →
-    Type 0
-PrunesNext table rules s l edited old new = (before : List Reading) → ScannerRepresents s before →
-    IsScannedAlone (scan_after before C l) l →
-    (new ≡ old ++ pruned_bytes table rules (next_reading before C l)) ×
-    (edited ≡ is_edited table rules (next_reading before C l))
+-- `PrunesLine table rules l scan edited old new`: the rest of the line `l` with this scan was
+-- appended to `old`, and it is `edited` or not. This is known if the line is scanned as the first
+-- of a text, unless the line before joins it.
+abbrev pub PrunesLine : List Argument → Rules → Line → Scan → Bool → List ℕ → List ℕ → Type 0
+PrunesLine table rules l scan edited old new = IsScannedAlone scan l →
+    (new ≡ old ++ pruned_bytes table rules (c_reading l scan)) ×
+    (edited ≡ is_edited table rules (c_reading l scan))
 
 -- `Pruned table rules text start count walk out`: the rest of the lines before the walk's place was
 -- appended to `start`, and `count` of them were edited.

@@ -8,7 +8,6 @@
 --   ended p                      the ended mention `p`
 --   ExtendsMention table line .. p q    `q` is the mention `p` after a line with its scan
 --   IsTaken table p r q goes_on  `q` is the mention after the line `r`
---   MentionsNext table mode s ..    the line that the scanner `s` reads next was taken
 --   AppendsLine table ..         the line of a mention was appended
 --   Appends rows table .. ms     the mentions among `ms` that name a listed symbol were counted
 --                                and appended, and their rows lost their marks
@@ -20,14 +19,12 @@
 use Rattle.std.specs.Prelude.{◌≡◌, ℕ, ◌+◌, ◌-◌, ◌<◌, ◌^◌, List, [], ◌∷◌, ◌++◌, length, Bool, true}
 use Rattle.std.specs.Prelude.{false, Option, Some, None, map}
 use Rattle.ud_model.specs.text.Scans.{Reading}
-use Rattle.ud_model.specs.text.Scanning.{scan_after}
 use Rattle.ud_model.specs.aids.LineViews.{as_line, as_scan}
 use Rattle.ud_model.specs.sections.Directives.{content_of}
 use Rattle.ud_model.specs.conditions.Table.{Argument}
 use Rattle.ud_model.specs.declared.kind.Mode.{Mode}
 use Rattle.ud_model.specs.declared.line.Line.{Line as CodeLine}
 use Rattle.ud_model.specs.declared.scan.Scan.{Scan as CodeScan}
-use Rattle.ud_text.specs.scan.ScannerState.{ScannerState, ScannerRepresents}
 use Rattle.ud_cond.specs.symbols.Marks.{Unmarks}
 use Rattle.ud_passes.specs.Walks.{reading_at, Walked}
 use Rattle.ud_passes.specs.remaining.Definitions.{IsClear}
@@ -41,7 +38,6 @@ use Rattle.ud_passes.specs.declared.remaining.listing.Listing.TheVariants.{Count
 use Rattle.ud_passes.specs.declared.remaining.mentions.Begun.{Begun}
 use Rattle.ud_passes.specs.declared.remaining.search.Place.{Place}
 use Rattle.ud_passes.specs.declared.remaining.search.Search.{Search}
-use Rattle.ud_passes.specs.declared.remaining.search.Taken.{Taken}
 use Rattle.ud_passes.specs.declared.walk.Walk.{Walk}
 
 -- `as_mention b after`: the mention that has begun, with the text `after`.
@@ -95,16 +91,6 @@ abbrev pub ExtendsMention : List Argument → CodeLine → CodeScan → ℕ → 
     Type 0
 ExtendsMention table line scan number p q = (mode : Mode) →
     q ≡ extended table p (reading_at mode (as_line line) (as_scan scan) number)
-
--- `MentionsNext table mode s line place after t more`: the line, which comes after those that the
--- scanner `s` represents, was taken after the mention of the place, whose text is `after`. Then `t`
--- has the mention, whose text is `more`.
-abbrev pub MentionsNext : List Argument → Mode → ScannerState → CodeLine → Place → List ℕ → Taken →
-    List ℕ → Type 0
-MentionsNext table mode s line place after t more = (before : List Reading) →
-    ScannerRepresents s before → IsTaken table (begun_as place.begun after)
-    (reading_at mode (as_line line) (scan_after before mode (as_line line)) place.number)
-    (begun_as t.begun more) t.goes_on
 
 -- `AppendsLine table name b old new`: the line of the mention `b` of the file `name` was appended.
 -- The search `old` has its text.

@@ -13,7 +13,7 @@ use crate::folding::shown::{VERTICAL_TAB, has_tab};
 use crate::walk::{Stretch, Walk};
 use std::alloc::{AllocError, Global};
 use ud_model::{Line, Mode};
-use ud_text::Scanner;
+use ud_text::{LineStore, Scanner};
 
 /// Appends the bytes that a byte with this masked form represents, in a line with this ending.
 ///
@@ -68,8 +68,9 @@ pub(crate) fn append_restored_line(line: &Line<'_>, out: &mut Vec<u8>) -> Result
         append_line(line, out)?;
         return Ok(());
     }
-    let mut scanner = Scanner::growing(*out.allocator());
-    let scan = scanner.read_growing(Mode::C, line)?;
+    let mut masked = LineStore::new(*out.allocator())?;
+    let mut scanner = Scanner::bare();
+    let scan = scanner.read_into(Mode::C, line, &mut masked);
     append_body(line.ending, line.body, scan.masked, out)?;
     out.extend_from_slice(line.ending)?;
     Ok(())
@@ -79,20 +80,17 @@ pub(crate) fn append_restored_line(line: &Line<'_>, out: &mut Vec<u8>) -> Result
 ///
 /// # Errors
 /// Fails if memory runs out.
-fn step(walk: &mut Walk<'_>, out: &mut Vec<u8>) -> Result<(), AllocError>
+fn step(walk: &mut Walk<'_>, masked: &mut LineStore, out: &mut Vec<u8>) -> Result<(), AllocError>
     requires some { 0 < length walk.old.rest.now }
     ensures shorter { length walk.new.rest.now < length walk.old.rest.now }
     ensures restored { OnOk result ((text start : List ℕ) →
         Restored text start walk.old out.old.items →
         Restored text start walk.new out.new.items) }
 {
-    match walk.next_within(Mode::C, 0) {
+    match walk.next_within(Mode::C, 0, masked) {
         Stretch::Texts(bytes) => out.extend_from_slice(bytes)?,
         Stretch::TooLong(line) => append_line(&line, out)?,
-        Stretch::Fitting(line) => {
-            walk.scanner.pass(Mode::C, &line);
-            append_restored_line(&line, out)?;
-        }
+        Stretch::Fitting(line, _) => append_restored_line(&line, out)?,
     }
     Ok(())
 }
@@ -104,9 +102,10 @@ fn step(walk: &mut Walk<'_>, out: &mut Vec<u8>) -> Result<(), AllocError>
 fn append_restored(text: &[u8], out: &mut Vec<u8>) -> Result<(), AllocError>
     ensures { OnOk result (out.new.items ≡ out.old.items ++ restored_text text.now) }
 {
-    let mut walk = Walk::new(*out.allocator(), text);
+    let mut masked = LineStore::new(*out.allocator())?;
+    let mut walk = Walk::new(text);
     'lines: while !walk.is_at_end() {
-        step(&mut walk, out)?;
+        step(&mut walk, &mut masked, out)?;
     }
     Ok(())
 }

@@ -15,7 +15,7 @@ use memchr::memchr;
 use std::alloc::{AllocError, Global};
 use ud_model::{LINE_BYTES, Line, Mode, Scan};
 use ud_sections::directive;
-use ud_text::{Scanner, line_in};
+use ud_text::{LineStore, Scanner, line_in};
 
 /// The vertical tab, which represents a newline that continues a directive.
 pub(crate) const VERTICAL_TAB: u8 = 11;
@@ -87,8 +87,9 @@ fn is_shown(alloc: Global, line: &Line<'_>, shown: &[u8]) -> Result<bool, AllocE
     ensures { IfOk result (λ so.
         so ≡ is_shown_as (scan_after_run [] (as_line line.now)) shown.now) }
 {
-    let mut scanner = Scanner::growing(alloc);
-    let scan = scanner.read_growing(Mode::C, line)?;
+    let mut masked = LineStore::new(alloc)?;
+    let mut scanner = Scanner::bare();
+    let scan = scanner.read_into(Mode::C, line, &mut masked);
     Ok(is_shown_as(&scan, shown))
 }
 

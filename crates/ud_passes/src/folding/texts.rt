@@ -12,36 +12,14 @@ ghost use Rattle.ud_model.specs.declared.kind.Mode.{Mode};
 ghost use Rattle.ud_model.specs.declared.kind.Mode.TheVariants.{C};
 ghost use Rattle.ud_model.specs.declared.limits.TheConstants.{LINE_BYTES};
 ghost use Rattle.ud_text.specs.scan.ScannerState.{ScannerRepresents};
-ghost use Rattle.ud_passes.specs.folding.Folding.{FoldsNext, Folded};
+ghost use Rattle.ud_passes.specs.folding.Folding.{Folded};
 
 use crate::folding::logical::{Last, LogicalLine, append_line};
 use crate::folding::shown::has_tab;
-use crate::walk::{LineScanner, Stretch, Walk};
+use crate::walk::{Stretch, Walk};
 use std::alloc::{AllocError, Global};
-use ud_model::{Line, Mode};
-
-/// Reads a line, and takes it after the pending lines.
-///
-/// # Errors
-/// Fails if memory runs out.
-fn take<'t>(
-    scanner: &mut LineScanner,
-    logical: &mut LogicalLine,
-    begun: Option<Last<'t>>,
-    line: &Line<'t>,
-    out: &mut Vec<u8>,
-) -> Result<Option<Last<'t>>, AllocError>
-    requires fits { length (text_of (as_line line.now)) ≤ LINE_BYTES }
-    requires one_line { NoNewline line.now.body.now }
-    ensures represents { OnOk result ((before : List Reading) →
-        ScannerRepresents scanner.old before → ScannerRepresents scanner.new
-        (before ++ next_reading before Mode.C (as_line line.now) ∷ [])) }
-    ensures taken { IfOk result (λ b. FoldsNext scanner.old line.now logical.old begun.entry
-        out.old.items logical.new b out.new.items) }
-{
-    let scan = scanner.read_growing(Mode::C, line)?;
-    logical.take(begun, line, &scan, out)
-}
+use ud_model::Mode;
+use ud_text::LineStore;
 
 /// Returns how many bytes of text lines may be skipped at once: none while a directive goes on.
 fn passable_len(begun: Option<Last<'_>>) -> usize
@@ -59,6 +37,7 @@ fn passable_len(begun: Option<Last<'_>>) -> usize
 /// Fails if memory runs out.
 fn step<'t>(
     walk: &mut Walk<'t>,
+    masked: &mut LineStore,
     logical: &mut LogicalLine,
     begun: Option<Last<'t>>,
     out: &mut Vec<u8>,
@@ -69,7 +48,7 @@ fn step<'t>(
         Folded text start logical.old begun.entry walk.old out.old.items →
         Folded text start logical.new b walk.new out.new.items) }
 {
-    match walk.next_within(Mode::C, passable_len(begun)) {
+    match walk.next_within(Mode::C, passable_len(begun), masked) {
         Stretch::Texts(bytes) => {
             out.extend_from_slice(bytes)?;
             Ok(None)
@@ -79,8 +58,8 @@ fn step<'t>(
             append_line(&line, out)?;
             Ok(None)
         }
-        Stretch::Fitting(line) => {
-            let last = take(&mut walk.scanner, logical, begun, &line, out)?;
+        Stretch::Fitting(line, scan) => {
+            let last = logical.take(begun, &line, &scan, out)?;
             Ok(last)
         }
     }
@@ -95,11 +74,12 @@ fn append_lines(text: &[u8], out: &mut Vec<u8>) -> Result<(), AllocError>
         (out.new.items ≡ out.old.items ++ folded_lines (read_as C text.now)) }
 {
     let alloc = *out.allocator();
-    let mut walk = Walk::new(alloc, text);
+    let mut masked = LineStore::new(alloc)?;
+    let mut walk = Walk::new(text);
     let mut logical = LogicalLine::new(alloc);
     let mut begun = None;
     'lines: while !walk.is_at_end() {
-        begun = step(&mut walk, &mut logical, begun, out)?;
+        begun = step(&mut walk, &mut masked, &mut logical, begun, out)?;
     }
     logical.end_text(begun, out)?;
     Ok(())

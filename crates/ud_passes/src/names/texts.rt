@@ -17,10 +17,10 @@ ghost use Rattle.ud_passes.specs.names.UnlistedLines.{listed_text, Listed};
 use crate::folding::{VERTICAL_TAB, append_restored_line};
 use crate::lines::append_line;
 use crate::names::conditions::has_unlisted;
-use crate::walk::{LineScanner, Stretch, Walk};
+use crate::walk::{Stretch, Walk};
 use std::alloc::{AllocError, Global};
 use ud_model::{Line, Mode};
-use ud_text::line_in;
+use ud_text::{LineStore, line_in};
 
 /// A file whose conditions are counted.
 #[derive(Clone, Copy)]
@@ -41,29 +41,6 @@ struct Found {
     count: usize,
     /// The number of the next line, if the conditions are listed.
     number: usize,
-}
-
-/// Reads a line. Returns whether it has a condition that can't be listed in full.
-///
-/// # Errors
-/// Fails if memory runs out.
-fn read_line(
-    alloc: Global,
-    scanner: &mut LineScanner,
-    mode: Mode,
-    line: &Line<'_>,
-) -> Result<bool, AllocError>
-    requires one_line { NoNewline line.now.body.now }
-    requires fits { length (text_of (as_line line.now)) ≤ LINE_BYTES }
-    ensures represents { OnOk result ((before : List Reading) →
-        ScannerRepresents scanner.old before → ScannerRepresents scanner.new
-        (before ++ next_reading before mode (as_line line.now) ∷ [])) }
-    ensures unlisted { IfOk result (λ unlisted. (before : List Reading) →
-        ScannerRepresents scanner.old before →
-        unlisted ≡ is_unlisted_line (next_reading before mode (as_line line.now))) }
-{
-    let scan = scanner.read_growing(mode, line)?;
-    Ok(has_unlisted(alloc, &scan))
 }
 
 impl<'a> File<'a> {
@@ -158,6 +135,7 @@ impl<'a> File<'a> {
         self,
         alloc: Global,
         walk: &mut Walk<'_>,
+        masked: &mut LineStore,
         found: Found,
         out: &mut Vec<u8>,
     ) -> Result<Found, AllocError>
@@ -174,15 +152,14 @@ impl<'a> File<'a> {
             Listed self.entry text start found walk.old out.old.items →
             Listed self.entry text start f walk.new out.new.items) }
     {
-        match walk.next(self.mode) {
+        match walk.next(self.mode, masked) {
             Stretch::Texts(bytes) => Ok(Found {
                 number: found.number + self.breaks_in(bytes),
                 ..found
             }),
             Stretch::TooLong(line) => Ok(self.pass(found, &line)),
-            Stretch::Fitting(line) => {
-                let unlisted = read_line(alloc, &mut walk.scanner, self.mode, &line)?;
-                if unlisted {
+            Stretch::Fitting(line, scan) => {
+                if has_unlisted(alloc, &scan) {
                     return Ok(self.add(found, &line, out)?);
                 }
                 Ok(self.pass(found, &line))
@@ -207,13 +184,14 @@ impl<'a> File<'a> {
         ensures list { OnOk result (out.new.items ≡ out.old.items ++
             listed_text self.entry (read_as self.entry.mode text.now)) }
     {
-        let mut walk = Walk::new(alloc, text);
+        let mut masked = LineStore::new(alloc)?;
+        let mut walk = Walk::new(text);
         let mut found = Found {
             count: 0,
             number: 1,
         };
         while !walk.is_at_end() {
-            found = self.step(alloc, &mut walk, found, out)?;
+            found = self.step(alloc, &mut walk, &mut masked, found, out)?;
         }
         Ok(found.count)
     }

@@ -29,7 +29,7 @@ use std::alloc::{AllocError, Global};
 use ud_cond::{Rules, Symbols};
 use ud_model::{Kind, Line, Mode, Scan};
 use ud_sections::{Cut, Directive, directive};
-use ud_text::{Scanner, line_in};
+use ud_text::{LineStore, Scanner, line_in};
 
 /// An editor of lines, with the last edited line.
 #[derive(Drop)]
@@ -107,8 +107,9 @@ fn is_meant(alloc: Global, line: &Line<'_>, kind: Kind, text: &[u8]) -> Result<b
     ensures { IfOk result (λ meant.
         meant ≡ is_meant kind text.now (scan_after_run [] (as_line line.now))) }
 {
-    let mut scanner = Scanner::growing(alloc);
-    let scan = scanner.read_growing(Mode::C, line)?;
+    let mut masked = LineStore::new(alloc)?;
+    let mut scanner = Scanner::bare();
+    let scan = scanner.read_into(Mode::C, line, &mut masked);
     if scan.joins_after {
         return Ok(false);
     }

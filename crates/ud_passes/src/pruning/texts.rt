@@ -5,7 +5,7 @@ ghost use Rattle.std.specs.Prelude.{OnOk, if◌then◌else◌};
 ghost use Rattle.ud_model.specs.text.Lines.{NoNewline, text_of};
 ghost use Rattle.ud_model.specs.text.Scans.{Reading};
 ghost use Rattle.ud_model.specs.text.Scanning.{next_reading};
-ghost use Rattle.ud_model.specs.aids.LineViews.{as_line};
+ghost use Rattle.ud_model.specs.aids.LineViews.{as_line, as_scan};
 ghost use Rattle.ud_model.specs.conditions.Table.{Argument};
 ghost use Rattle.ud_model.specs.declared.kind.Mode.{Mode};
 ghost use Rattle.ud_model.specs.declared.limits.TheConstants.{LINE_BYTES};
@@ -13,13 +13,14 @@ ghost use Rattle.ud_text.specs.scan.ScannerState.{ScannerRepresents};
 ghost use Rattle.ud_cond.specs.symbols.SymbolTable.{TableRepresents};
 ghost use Rattle.ud_cond.specs.CondViews.{as_rules};
 ghost use Rattle.ud_passes.specs.pruning.PrunedTexts.{pruned_text, edited_count};
-ghost use Rattle.ud_passes.specs.pruning.Passing.{PrunesNext, PrunesOn};
+ghost use Rattle.ud_passes.specs.pruning.Passing.{PrunesLine, PrunesOn};
 
 use crate::pruning::lines::LineEditor;
-use crate::walk::{LineScanner, Stretch, Walk};
+use crate::walk::{Stretch, Walk};
 use std::alloc::{AllocError, Global};
 use ud_cond::{Rules, Symbols};
-use ud_model::{Line, Mode};
+use ud_model::{Line, Mode, Scan};
+use ud_text::LineStore;
 
 /// A text without the operands of its conditions that the symbols decide.
 #[derive(Drop)]
@@ -50,29 +51,26 @@ fn append_either(
     out.extend_from_slice(line.ending)
 }
 
-/// Reads a line, and appends the rest of it. Returns whether it was edited.
+/// Appends the rest of a line with this scan. Returns whether it was edited.
 ///
 /// # Errors
 /// Fails if memory runs out.
 fn append_line(
-    scanner: &mut LineScanner,
     editor: &mut LineEditor,
     line: &Line<'_>,
+    scan: &Scan<'_>,
     symbols: &Symbols,
     rules: Rules,
     out: &mut Vec<u8>,
 ) -> Result<bool, AllocError>
     requires fits { length (text_of (as_line line.now)) ≤ LINE_BYTES }
+    requires masked { length scan.now.masked.now ≤ LINE_BYTES }
     requires one_line { NoNewline line.now.body.now }
-    ensures represents { OnOk result ((before : List Reading) →
-        ScannerRepresents scanner.old before → ScannerRepresents scanner.new
-        (before ++ next_reading before Mode.C (as_line line.now) ∷ [])) }
-    ensures pruned { IfOk result (λ edited. (calls : List Argument) →
-        TableRepresents symbols.now calls → PrunesNext calls (as_rules rules) scanner.old
-        (as_line line.now) edited out.old.items out.new.items) }
+    ensures { IfOk result (λ edited. (calls : List Argument) →
+        TableRepresents symbols.now calls → PrunesLine calls (as_rules rules)
+        (as_line line.now) (as_scan scan.now) edited out.old.items out.new.items) }
 {
-    let scan = scanner.read_growing(Mode::C, line)?;
-    let edited = editor.edit(line, &scan, symbols, rules)?;
+    let edited = editor.edit(line, scan, symbols, rules)?;
     append_either(edited, editor.bytes.as_slice(), line, out)?;
     Ok(edited)
 }
@@ -91,6 +89,7 @@ fn one_if(edited: bool) -> usize
 /// Fails if memory runs out.
 fn step(
     walk: &mut Walk<'_>,
+    masked: &mut LineStore,
     editor: &mut LineEditor,
     symbols: &Symbols,
     rules: Rules,
@@ -105,7 +104,7 @@ fn step(
     ensures pruned { IfOk result (λ n. (calls : List Argument) → TableRepresents symbols.now calls →
         PrunesOn calls (as_rules rules) count walk.old out.old.items n walk.new out.new.items) }
 {
-    match walk.next(Mode::C) {
+    match walk.next(Mode::C, masked) {
         Stretch::Texts(bytes) => {
             out.extend_from_slice(bytes)?;
             Ok(count)
@@ -114,8 +113,8 @@ fn step(
             append_either(false, &[], &line, out)?;
             Ok(count)
         }
-        Stretch::Fitting(line) => {
-            let edited = append_line(&mut walk.scanner, editor, &line, symbols, rules, out)?;
+        Stretch::Fitting(line, scan) => {
+            let edited = append_line(editor, &line, &scan, symbols, rules, out)?;
             Ok(count + one_if(edited))
         }
     }
@@ -137,11 +136,20 @@ fn append_pruned(
         (count ≡ edited_count calls (as_rules rules) text.now)) }
 {
     let alloc = *out.allocator();
-    let mut walk = Walk::new(alloc, text);
+    let mut masked = LineStore::new(alloc)?;
+    let mut walk = Walk::new(text);
     let mut editor = LineEditor::new(alloc);
     let mut count = 0;
     while !walk.is_at_end() {
-        count = step(&mut walk, &mut editor, symbols, rules, count, out)?;
+        count = step(
+            &mut walk,
+            &mut masked,
+            &mut editor,
+            symbols,
+            rules,
+            count,
+            out,
+        )?;
     }
     Ok(count)
 }

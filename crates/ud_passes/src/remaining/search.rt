@@ -14,7 +14,7 @@ ghost use Rattle.ud_cond.specs.symbols.SymbolTable.{TableRepresents};
 ghost use Rattle.ud_passes.specs.Passes.{AppendsSome};
 ghost use Rattle.ud_passes.specs.remaining.ListedNames.{names_by};
 ghost use Rattle.ud_passes.specs.remaining.RemainingLists.{has_name, is_condition, is_defining};
-ghost use Rattle.ud_passes.specs.remaining.Searches.{begun_as, MentionsNext, ended, EndsLine};
+ghost use Rattle.ud_passes.specs.remaining.Searches.{begun_as, ended, EndsLine};
 ghost use Rattle.ud_passes.specs.remaining.Searches.{Appends, AppendsLine, SearchesOn, IsClearTo};
 ghost use Rattle.ud_passes.specs.remaining.Mentions.{mentions_of};
 
@@ -24,10 +24,11 @@ use crate::remaining::listing::Listing;
 use crate::remaining::mentions::{Begun, Class, take_line};
 use crate::remaining::names::{has_listed, may_name, unmark_words};
 use crate::remaining::reasons::reason_of;
-use crate::walk::{LineScanner, Stretch, Walk};
+use crate::walk::{Stretch, Walk};
 use std::alloc::{AllocError, Global};
 use ud_cond::Symbols;
-use ud_model::{Line, Mode};
+use ud_model::Mode;
+use ud_text::LineStore;
 
 /// A search for mentions that name a symbol, and those found so far.
 #[derive(Drop)]
@@ -64,35 +65,6 @@ struct Taken<'t> {
     begun: Option<Begun<'t>>,
     /// The line joins the next one.
     goes_on: bool,
-}
-
-/// Reads a line, and takes its text if it belongs to a mention, whose text is `after`.
-///
-/// # Errors
-/// Fails if memory runs out.
-fn take<'t>(
-    scanner: &mut LineScanner,
-    mode: Mode,
-    place: Place<'t>,
-    line: &Line<'t>,
-    symbols: &Symbols,
-    after: &mut Vec<u8>,
-) -> Result<Taken<'t>, AllocError>
-    requires fits { length (text_of (as_line line.now)) ≤ LINE_BYTES }
-    requires one_line { NoNewline line.now.body.now }
-    ensures represents { OnOk result ((before : List Reading) →
-        ScannerRepresents scanner.old before → ScannerRepresents scanner.new
-        (before ++ next_reading before mode (as_line line.now) ∷ [])) }
-    ensures taken { IfOk result (λ t. (calls : List Argument) → TableRepresents symbols.now calls →
-        MentionsNext calls mode scanner.old line.now place.entry after.old.items t
-        after.new.items) }
-{
-    let scan = scanner.read_growing(mode, line)?;
-    let begun = take_line(place.begun, &scan, line, place.number, symbols, after)?;
-    Ok(Taken {
-        begun,
-        goes_on: scan.joins_after,
-    })
 }
 
 /// Returns whether a mention of this class, with the text `after`, names a symbol.
@@ -286,6 +258,7 @@ impl Search {
         mode: Mode,
         symbols: &Symbols,
         walk: &mut Walk<'t>,
+        masked: &mut LineStore,
         place: Place<'t>,
     ) -> Result<Place<'t>, AllocError>
         requires some { 0 < length walk.old.rest.now }
@@ -301,7 +274,7 @@ impl Search {
     {
         let until = clear_until(symbols, walk, place.until);
         let most = passable_len(place, walk, until);
-        match walk.next_within(mode, most) {
+        match walk.next_within(mode, most, masked) {
             Stretch::Texts(bytes) => Ok(Place {
                 number: place.number + self.listing.lines_in(bytes),
                 begun: None,
@@ -314,15 +287,13 @@ impl Search {
                 };
                 Ok(self.end_line(name, symbols, taken, Place { until, ..place })?)
             }
-            Stretch::Fitting(line) => {
-                let taken = take(
-                    &mut walk.scanner,
-                    mode,
-                    place,
-                    &line,
-                    symbols,
-                    &mut self.after,
-                )?;
+            Stretch::Fitting(line, scan) => {
+                let after = &mut self.after;
+                let begun = take_line(place.begun, &scan, &line, place.number, symbols, after)?;
+                let taken = Taken {
+                    begun,
+                    goes_on: scan.joins_after,
+                };
                 Ok(self.end_line(name, symbols, taken, Place { until, ..place })?)
             }
         }
@@ -347,14 +318,15 @@ impl Search {
         if !may_name(symbols, text) {
             return Ok(());
         }
-        let mut walk = Walk::new(*self.list.allocator(), text);
+        let mut masked = LineStore::new(*self.list.allocator())?;
+        let mut walk = Walk::new(text);
         let mut place = Place {
             number: 1,
             begun: None,
             until: text.len(),
         };
         while !walk.is_at_end() {
-            place = self.search_lines(name, mode, symbols, &mut walk, place)?;
+            place = self.search_lines(name, mode, symbols, &mut walk, &mut masked, place)?;
         }
         self.end(name, symbols, place.begun)?;
         Ok(())

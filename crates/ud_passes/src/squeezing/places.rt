@@ -17,11 +17,12 @@ ghost use Rattle.ud_passes.specs.squeezing.SqueezedTexts.{role_in, scanned_place
 ghost use Rattle.ud_passes.specs.squeezing.Squeezing.{Placed};
 
 use crate::squeezing::marks::{after_stay, is_gap};
-use crate::walk::{LineScanner, Stretch, Walk};
+use crate::walk::{Stretch, Walk};
 use std::alloc::{AllocError, Global};
 use ud_model::bytes::{is_white, skip_white};
 use ud_model::{Line, Mode, Role, Scan};
 use ud_sections::directive;
+use ud_text::LineStore;
 
 /// A line of an output, or its beginning or end.
 #[derive(Clone, Copy)]
@@ -80,24 +81,6 @@ fn place_of(gap: bool, line: &Line<'_>, scan: &Scan<'_>) -> Place
     }
 }
 
-/// Reads a line, and returns its place.
-///
-/// # Errors
-/// Fails if memory runs out.
-fn read_place(scanner: &mut LineScanner, gap: bool, line: &Line<'_>) -> Result<Place, AllocError>
-    requires fits { length (text_of (as_line line.now)) ≤ LINE_BYTES }
-    requires one_line { NoNewline line.now.body.now }
-    ensures represents { OnOk result ((before : List Reading) →
-        ScannerRepresents scanner.old before → ScannerRepresents scanner.new
-        (before ++ next_reading before C (as_line line.now) ∷ [])) }
-    ensures place { IfOk result (λ place. (before : List Reading) →
-        ScannerRepresents scanner.old before →
-        place ≡ scanned_place gap line.now.body.now (scan_after before C (as_line line.now))) }
-{
-    let scan = scanner.read_growing(Mode::C, line)?;
-    Ok(place_of(gap, line, &scan))
-}
-
 /// Takes the next line, with the marks from it on, and appends its place. Returns the marks after
 /// it.
 ///
@@ -105,6 +88,7 @@ fn read_place(scanner: &mut LineScanner, gap: bool, line: &Line<'_>) -> Result<P
 /// Fails if memory runs out.
 fn step<'m>(
     walk: &mut Walk<'_>,
+    masked: &mut LineStore,
     marks: &'m [u8],
     places: &mut Vec<Place>,
 ) -> Result<&'m [u8], AllocError>
@@ -115,15 +99,14 @@ fn step<'m>(
         Placed text ms walk.new left.now places.new.items) }
 {
     let gap = is_gap(marks);
-    match walk.next_within(Mode::C, 0) {
+    match walk.next_within(Mode::C, 0, masked) {
         Stretch::Texts(_) => Ok(marks),
         Stretch::TooLong(_) => {
             places.push(bare_place(gap, false))?;
             Ok(after_stay(marks))
         }
-        Stretch::Fitting(line) => {
-            let place = read_place(&mut walk.scanner, gap, &line)?;
-            places.push(place)?;
+        Stretch::Fitting(line, scan) => {
+            places.push(place_of(gap, &line, &scan))?;
             Ok(after_stay(marks))
         }
     }
@@ -152,11 +135,12 @@ pub(crate) fn places_in(alloc: Global, text: &[u8], marks: &[u8]) -> Result<Vec<
     ensures { IfOk result (λ places.
         places.items ≡ spec.places marks.now (read_as C text.now)) }
 {
-    let mut walk = Walk::new(alloc, text);
+    let mut masked = LineStore::new(alloc)?;
+    let mut walk = Walk::new(text);
     let mut left = marks;
     let mut places = Vec::new(alloc);
     'lines: while !walk.is_at_end() {
-        left = step(&mut walk, left, &mut places)?;
+        left = step(&mut walk, &mut masked, left, &mut places)?;
     }
     places.push(bare_place(is_gap(left), true))?;
     Ok(places)

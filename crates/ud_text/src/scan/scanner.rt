@@ -41,38 +41,38 @@ use ud_model::{CommentAt, Line, Mode, Scan};
 
 /// The state that is carried from line to line.
 #[derive(Clone, Copy)]
-pub(crate) struct ScanState {
+struct ScanState {
     /// The lexer after the spliced text of the lines in C mode after the last one in plain mode.
-    pub(crate) lexer: Lexer,
+    lexer: Lexer,
     /// The last of these lines joins the next one.
     joins: bool,
 }
 
 /// The scan of a line without its masked bytes.
 #[derive(Clone, Copy)]
-pub(crate) struct LineFlags {
+struct LineFlags {
     /// On earlier lines, this logical line has only white masked bytes.
-    pub(crate) fresh: bool,
+    fresh: bool,
     /// The line before joins this one.
-    pub(crate) joins_before: bool,
+    joins_before: bool,
     /// This line joins the next one.
-    pub(crate) joins_after: bool,
+    joins_after: bool,
     /// The line ends in a backslash that deletes its ending.
-    pub(crate) spliced: bool,
+    spliced: bool,
     /// The comment left open at the line's end, if any.
-    pub(crate) comment: CommentAt,
+    comment: CommentAt,
 }
 
 /// A scanned line: the state after it, and its scan.
 #[derive(Clone, Copy)]
-pub(crate) struct ScannedLine<'a> {
+struct ScannedLine<'a> {
     /// The state after the line.
-    pub(crate) scan_state: ScanState,
+    scan_state: ScanState,
     /// The line's scan without its masked bytes.
-    pub(crate) flags: LineFlags,
+    flags: LineFlags,
     /// The masked bytes, if they are bytes of the line itself. Otherwise they were appended to
     /// `masked`.
-    pub(crate) borrowed: Option<&'a [u8]>,
+    borrowed: Option<&'a [u8]>,
 }
 
 /// A scanner of the lines of a text, which come in order, each in its mode. It reads lines whose
@@ -80,9 +80,9 @@ pub(crate) struct ScannedLine<'a> {
 #[derive(Drop)]
 pub struct Scanner<H = LongLineBuffer> {
     /// The state after the lines so far.
-    pub(crate) scan_state: ScanState,
+    scan_state: ScanState,
     /// The last line, masked, if its own bytes weren't borrowed.
-    pub(crate) masked: H,
+    masked: H,
 }
 
 /// Returns the state of a C run without lines.
@@ -283,7 +283,7 @@ fn scan_plain<'a>(line: &Line<'a>) -> ScannedLine<'a>
 
 /// Scans a line in its mode. The masked bytes are appended to `masked`, unless they are borrowed.
 #[inline(always)]
-pub(crate) fn scan_line<'a, H: LineBuffer>(
+fn scan_line<'a, H: LineBuffer>(
     mode: Mode,
     scan_state: ScanState,
     line: &Line<'a>,
@@ -326,7 +326,7 @@ fn scan_with(flags: LineFlags, masked: &[u8]) -> Scan<'_>
 
 /// Returns the scan of a scanned line, whose masked bytes are in `masked` if they aren't borrowed.
 #[inline(always)]
-pub(crate) fn scan_of<'s, 'a: 's>(scanned: ScannedLine<'a>, masked: &'s [u8]) -> Scan<'s>
+fn scan_of<'s, 'a: 's>(scanned: ScannedLine<'a>, masked: &'s [u8]) -> Scan<'s>
     ensures { as_scan result ≡ scan_with (shown_in scanned.entry.borrowed masked.now)
         scanned.entry.flags }
 {
@@ -493,7 +493,7 @@ impl Scanner<()> {
 
 impl<H> Scanner<H> {
     /// Returns a scanner that has read no line, with this buffer.
-    pub(crate) fn over(masked: H) -> Scanner<H>
+    fn over(masked: H) -> Scanner<H>
         ensures { ScannerRepresents result [] }
     {
         Scanner {

@@ -15,6 +15,5 @@ returns-in-TooLong-clause-stay c = λ _ calls h text s.
 
 pub returns-in_ok-stays-in-Fitting-clause-stay : goal.returns-in_ok-stays-in-Fitting-clause-stay
 returns-in_ok-stays-in-Fitting-clause-stay c = λ stays calls h text s.
-    short_stayed calls (as_rules c.args.rules) text c.args.walk.now _ s (as_line c.in-Fitting.line)
-    (λ read w. (c.in-Fitting.ensures.next text read w).1 _ (c.in_ok-stays-in-Fitting.ensures.represents read (c.in-Fitting.ensures.next text read w).0))
-    c.next.new.self.scanner (λ read w. (c.in-Fitting.ensures.next text read w).0) (c.in_ok-stays-in-Fitting.ensures.stays stays calls h)
+    short_stayed calls (as_rules c.args.rules) text c.args.walk.now c.next.new.self s (as_line c.in-Fitting.line) (λ read w. (c.in-Fitting.ensures.next text read w).1) _
+    (λ read w. (c.in-Fitting.ensures.next text read w).0) (c.in_ok-stays-in-Fitting.ensures stays calls h)

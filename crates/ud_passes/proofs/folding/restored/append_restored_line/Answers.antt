@@ -17,6 +17,6 @@ pub returns : goal.returns
 returns c = let l : Line = as_line c.args.line.now in
     let out : List ℕ = c.args.out.now.items in
     c.in_ok-extend_from_slice.ensures.items ∙ ap (λ (x : List ℕ). x ++ l.ending) c.in_ok-append_body.ensures
-    ∙ append_assoc out (restored_body l.ending l.body c.in_ok-scan.scan.masked.now) l.ending
-    ∙ ap (λ (s : Scan). out ++ (restored_body l.ending l.body s.masked ++ l.ending)) (c.in_ok-scan.ensures.value [] c.growing-scanner.ensures)
+    ∙ append_assoc out (restored_body l.ending l.body c.read_into-scan.result.masked.now) l.ending
+    ∙ ap (λ (s : Scan). out ++ (restored_body l.ending l.body s.masked ++ l.ending)) (c.read_into-scan.ensures.value [] c.bare-scanner.ensures)
     ∙ ap (λ (x : List ℕ). out ++ x) (sym (grind (arith, le-leb (length (text_of l)) LINE_BYTES c.requires.fits)))

@@ -15,5 +15,4 @@ pub returns-in_ok-append_restored_line-in-Fitting-clause-restored :
     goal.returns-in_ok-append_restored_line-in-Fitting-clause-restored
 returns-in_ok-append_restored_line-in-Fitting-clause-restored c = λ text start s.
     let n = c.in-Fitting.ensures.next text s.read s.walked in
-    line_more text start c.args.walk.now c.args.out.now.items s _ _ (as_line c.in-Fitting.line)
-    (n.1 c.pass.new.self (c.pass.ensures s.read n.0)) c.in_ok-append_restored_line-in-Fitting.ensures
+    line_more text start c.args.walk.now c.args.out.now.items s c.next_within.new.self _ (as_line c.in-Fitting.line) n.1 c.in_ok-append_restored_line-in-Fitting.ensures

@@ -5,4 +5,4 @@ use Rattle.ud_simplified.specs.FoldedTexts.{is_shown_as}
 use Rattle.ud_passes.proofs.folding.shown.is_shown.Goals as goal
 
 pub returns : goal.returns
-returns c = c.is_shown_as.ensures ∙ ap (λ (s : Scan). is_shown_as s c.args.shown.now) (c.in_ok-scan.ensures.value [] c.growing-scanner.ensures)
+returns c = c.is_shown_as.ensures ∙ ap (λ (s : Scan). is_shown_as s c.args.shown.now) (c.read_into-scan.ensures.value [] c.bare-scanner.ensures)

@@ -16,10 +16,10 @@ alone kind text s e = ap (λ (b : Bool). not b && has_condition kind text (conte
 
 pub returns-then-scan : goal.returns-then-scan
 returns-then-scan c =
-    joined c.args.kind c.args.text.now (as_scan c.in_ok-scan.scan) c.if-scan.true ∙ ap (is_meant c.args.kind c.args.text.now) (c.in_ok-scan.ensures.value [] c.growing-scanner.ensures)
+    joined c.args.kind c.args.text.now (as_scan c.read_into-scan.result) c.if-scan.true ∙ ap (is_meant c.args.kind c.args.text.now) (c.read_into-scan.ensures.value [] c.bare-scanner.ensures)
 
 pub returns : goal.returns
 returns c =
     c.is_condition.ensures ∙ ap (has_condition c.args.kind c.args.text.now) c.directive.ensures.value
-    ∙ alone c.args.kind c.args.text.now (as_scan c.in_ok-scan.scan) c.if-scan.false
-    ∙ ap (is_meant c.args.kind c.args.text.now) (c.in_ok-scan.ensures.value [] c.growing-scanner.ensures)
+    ∙ alone c.args.kind c.args.text.now (as_scan c.read_into-scan.result) c.if-scan.false
+    ∙ ap (is_meant c.args.kind c.args.text.now) (c.read_into-scan.ensures.value [] c.bare-scanner.ensures)

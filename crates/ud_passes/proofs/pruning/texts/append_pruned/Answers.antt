@@ -11,14 +11,14 @@ use Rattle.ud_cond.specs.CondViews.{as_rules}
 use Rattle.ud_passes.proofs.PassLemmas.{first_place}
 use Rattle.ud_passes.proofs.pruning.texts.append_pruned.Goals as goal
 
-pub loop-rules-init : goal.loop-rules-init
-loop-rules-init c = record {
+pub loop-walk-init : goal.loop-walk-init
+loop-walk-init c = record {
   room = let e = ap (λ (x : List ℕ). length x) c.new-walk.ensures.rest in omega (arith, e);
   pruned = λ calls h. first_place calls (as_rules c.args.rules) c.args.text.now c.args.out.now.items c.new-walk.result (c.new-walk.ensures.walked C);
 }
 
-pub loop-rules-preserved : goal.loop-rules-preserved
-loop-rules-preserved c = let i = c.loop-rules.invariant in
+pub loop-walk-preserved : goal.loop-walk-preserved
+loop-walk-preserved c = let i = c.loop-walk.invariant in
     let s = c.in_ok-count.ensures in
     let a = i.room in let b = s.room in
     record {
@@ -28,9 +28,9 @@ loop-rules-preserved c = let i = c.loop-rules.invariant in
 
 pub returns : goal.returns
 returns c = λ calls h.
-    let p = c.loop-rules.invariant.pruned calls h in
-    let all : p.read ≡ read_as C c.args.text.now = walk_ends C c.args.text.now p.read c.loop-rules.walk.rest.now c.loop-rules.walk.scanner p.walked
-    (nothing_left c.loop-rules.walk.rest.now (sym c.is_at_end.ensures ∙ c.loop-rules-test.false)) in (
+    let p = c.loop-walk.invariant.pruned calls h in
+    let all : p.read ≡ read_as C c.args.text.now = walk_ends C c.args.text.now p.read c.loop-walk.walk.rest.now c.loop-walk.walk.scanner p.walked
+    (nothing_left c.loop-walk.walk.rest.now (sym c.is_at_end.ensures ∙ c.loop-walk-test.false)) in (
       p.list_is ∙ ap (λ (rs : List Reading). c.args.out.now.items ++ concat (map (pruned_bytes calls (as_rules c.args.rules)) rs)) all,
       p.count_is ∙ ap (λ (rs : List Reading). edited_among calls (as_rules c.args.rules) rs) all,
     )

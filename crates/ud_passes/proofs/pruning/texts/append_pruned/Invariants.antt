@@ -6,11 +6,11 @@ use Rattle.ud_cond.specs.CondViews.{as_rules}
 use Rattle.ud_passes.specs.pruning.Passing.{Pruned}
 use Rattle.ud_passes.proofs.pruning.texts.append_pruned.Given as goal
 
-abbrev pub invariant-loop-rules : goal.invariant-loop-rules
-invariant-loop-rules l = record {
+abbrev pub invariant-loop-walk : goal.invariant-loop-walk
+invariant-loop-walk l = record {
   room : l.count + length l.walk.rest.now ≤ length l.text;
   pruned : (calls : List Argument) → TableRepresents l.symbols calls → Pruned calls (as_rules l.rules) l.text l.fn.out.items l.count l.walk l.out.items;
 }
 
-abbrev pub decreases-loop-rules : goal.decreases-loop-rules
-decreases-loop-rules l = length l.walk.rest.now
+abbrev pub decreases-loop-walk : goal.decreases-loop-walk
+decreases-loop-walk l = length l.walk.rest.now

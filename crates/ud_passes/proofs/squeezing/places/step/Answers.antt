@@ -16,8 +16,6 @@ returns-in_ok-push-in-TooLong-clause-placed c = λ text ms p.
 pub returns-in_ok-push-in-Fitting-clause-placed : goal.returns-in_ok-push-in-Fitting-clause-placed
 returns-in_ok-push-in-Fitting-clause-placed c = λ text ms p.
     let n = c.in-Fitting.ensures.next text p.read p.walked in
-    let fits = le-leb (length (text_of (as_line c.in-Fitting.line))) LINE_BYTES c.in-Fitting.ensures.readable.1 in
-    let place = c.in_ok-place-in-Fitting.ensures.place p.read n.0 in
-    line_placed text ms c.args.walk.now c.args.marks.now c.args.places.now.items p _ (as_line c.in-Fitting.line)
-    (n.1 c.read_place.new.scanner (c.in_ok-place-in-Fitting.ensures.represents p.read n.0)) _ c.after_stay-in-Fitting.ensures _
-    (grind (arith, fits, place, c.is_gap-gap.ensures, c.in_ok-push-in-Fitting.ensures.items))
+    let fits = le-leb (length (text_of (as_line c.in-Fitting.line))) LINE_BYTES c.in-Fitting.ensures.fitting.1 in
+    line_placed text ms c.args.walk.now c.args.marks.now c.args.places.now.items p c.next_within.new.self (as_line c.in-Fitting.line) n.1 _ c.after_stay-in-Fitting.ensures _
+    (grind (arith, fits, n.0, c.place_of.ensures, c.is_gap-gap.ensures, c.in_ok-push-in-Fitting.ensures.items))

@@ -1,4 +1,4 @@
--- A line that was passed, or that a scanner is to read.
+-- A line that was passed, or that was read.
 use Rattle.std.proofs.Common.{◌<◌, length, length-append, arith}
 use Rattle.std.proofs.lemmas.Bool.{lt-leb}
 use Rattle.ud_model.specs.text.Lines.{Line, text_of}
@@ -20,6 +20,7 @@ returns-then-used-gt-LINE_BYTES-clause-next c = λ text read w.
 pub returns-clause-next : goal.returns-clause-next
 returns-clause-next c = λ text read w.
     let to = c.line_in-line.ensures.bytes in (
-      w.represents,
-      line_next c.args.mode text read c.args.self.now.rest.now c.args.self.now.scanner w c.requires.some (as_line c.line_in-line.result) to.0 to.1 c.line_in-line.ensures.value _ c.split_at.ensures.back,
+      c.read_into-scan.ensures.value read w.represents,
+      line_next c.args.mode text read c.args.self.now.rest.now c.args.self.now.scanner w c.requires.some (as_line c.line_in-line.result) to.0 to.1 c.line_in-line.ensures.value _ c.split_at.ensures.back _
+          (c.read_into-scan.ensures.represents read w.represents),
     )

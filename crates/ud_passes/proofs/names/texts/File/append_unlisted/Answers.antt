@@ -3,8 +3,8 @@ use Rattle.std.proofs.Common.{ℕ, List, [], length, append-nil, sym, ap, arith}
 use Rattle.ud_passes.proofs.UnlistedLemmas.{first_place}
 use Rattle.ud_passes.proofs.names.texts.File.append_unlisted.Goals as goal
 
-pub loop-alloc-init : goal.loop-alloc-init
-loop-alloc-init c = record {
+pub loop-walk-init : goal.loop-walk-init
+loop-walk-init c = record {
   grows = ([], sym (append-nil c.args.out.now.items));
   numbers = let e = ap (λ (x : List ℕ). length x) c.new-walk.ensures.rest in omega (arith, e);
   counts = let e = ap (λ (x : List ℕ). length x) c.new-walk.ensures.rest in omega (arith, e);

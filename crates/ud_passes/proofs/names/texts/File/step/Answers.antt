@@ -1,5 +1,8 @@
 -- Text lines, or one line.
-use Rattle.std.proofs.Common.{sym, ◌∙◌, arith}
+use Rattle.std.proofs.Common.{length, arith}
+use Rattle.std.proofs.lemmas.Bool.{le-leb}
+use Rattle.ud_model.specs.text.Lines.{text_of}
+use Rattle.ud_model.specs.declared.limits.TheConstants.{LINE_BYTES}
 use Rattle.ud_model.specs.aids.LineViews.{as_line}
 use Rattle.ud_passes.proofs.UnlistedLemmas.{texts_more, line_more, line_found}
 use Rattle.ud_passes.proofs.names.texts.File.step.Goals as goal
@@ -15,16 +18,14 @@ returns-in-TooLong-clause-listed c = λ text start l.
     line_more c.args.self text start c.args.found c.args.walk.now c.args.out.now.items l c.next.new.self (as_line c.in-TooLong.line) n.1 _ c.pass.ensures.number
     (grind (arith, n.0)) c.pass.ensures.count
 
-pub returns-else-unlisted-clause-listed : goal.returns-else-unlisted-clause-listed
-returns-else-unlisted-clause-listed c = λ text start l.
+pub returns-else-has_unlisted-clause-listed : goal.returns-else-has_unlisted-clause-listed
+returns-else-has_unlisted-clause-listed c = λ text start l.
     let n = c.in-Fitting.ensures.next text l.read l.walked in
-    line_more c.args.self text start c.args.found c.args.walk.now c.args.out.now.items l _ (as_line c.in-Fitting.line) (n.1 c.read_line.new.scanner (c.in_ok-unlisted-in-Fitting.ensures.represents l.read n.0))
-    _ c.pass-in-Fitting.ensures.number
-    (sym (c.in_ok-unlisted-in-Fitting.ensures.unlisted l.read n.0) ∙ c.if-unlisted.false) c.pass-in-Fitting.ensures.count
+    line_more c.args.self text start c.args.found c.args.walk.now c.args.out.now.items l c.next.new.self (as_line c.in-Fitting.line) n.1 _ c.pass-in-Fitting.ensures.number
+    (grind (arith, n.0, le-leb (length (text_of (as_line c.in-Fitting.line))) LINE_BYTES c.in-Fitting.ensures.fitting.1, c.has_unlisted.ensures, c.if-has_unlisted.false)) c.pass-in-Fitting.ensures.count
 
-pub returns-then-unlisted-clause-listed : goal.returns-then-unlisted-clause-listed
-returns-then-unlisted-clause-listed c = λ text start l.
+pub returns-then-has_unlisted-clause-listed : goal.returns-then-has_unlisted-clause-listed
+returns-then-has_unlisted-clause-listed c = λ text start l.
     let n = c.in-Fitting.ensures.next text l.read l.walked in
-    line_found c.args.self text start c.args.found c.args.walk.now c.args.out.now.items l _ (as_line c.in-Fitting.line) (n.1 c.read_line.new.scanner (c.in_ok-unlisted-in-Fitting.ensures.represents l.read n.0))
-    _ c.in_ok-add-in-Fitting.ensures.number
-    (sym (c.in_ok-unlisted-in-Fitting.ensures.unlisted l.read n.0) ∙ c.if-unlisted.true) c.in_ok-add-in-Fitting.ensures.count _ c.in_ok-add-in-Fitting.ensures.line
+    line_found c.args.self text start c.args.found c.args.walk.now c.args.out.now.items l c.next.new.self (as_line c.in-Fitting.line) n.1 _ c.in_ok-add-in-Fitting.ensures.number
+    (grind (arith, n.0, le-leb (length (text_of (as_line c.in-Fitting.line))) LINE_BYTES c.in-Fitting.ensures.fitting.1, c.has_unlisted.ensures, c.if-has_unlisted.true)) c.in_ok-add-in-Fitting.ensures.count _ c.in_ok-add-in-Fitting.ensures.line

@@ -5,8 +5,8 @@ use Rattle.ud_passes.proofs.LackingLemmas.{appends_nothing}
 use Rattle.ud_passes.proofs.SearchLemmas.{first_place, all_searched}
 use Rattle.ud_passes.proofs.remaining.search.Search.search.Goals as goal
 
-pub loop-mode-init : goal.loop-mode-init
-loop-mode-init c = record {
+pub loop-walk-init : goal.loop-walk-init
+loop-walk-init c = record {
   grows = ([], sym (append-nil c.args.self.now.list.items));
   listing = refl;
   room = let e = ap (λ (x : List ℕ). length x) c.new-walk.ensures.rest in omega (arith, e);
@@ -16,8 +16,8 @@ loop-mode-init c = record {
 
 pub returns-clause-added : goal.returns-clause-added
 returns-clause-added c = λ calls h.
-    all_searched c.args.symbols.now calls c.args.mode c.args.name.now c.args.text.now c.args.self.now c.loop-mode.self c.end.new.self c.loop-mode.place c.loop-mode.walk (c.loop-mode.invariant.searched calls h)
-    (nothing_left c.loop-mode.walk.rest.now (sym c.is_at_end.ensures ∙ c.loop-mode-test.false)) (c.in_ok-end.ensures.appends calls h)
+    all_searched c.args.symbols.now calls c.args.mode c.args.name.now c.args.text.now c.args.self.now c.loop-walk.self c.end.new.self c.loop-walk.place c.loop-walk.walk (c.loop-walk.invariant.searched calls h)
+    (nothing_left c.loop-walk.walk.rest.now (sym c.is_at_end.ensures ∙ c.loop-walk-test.false)) (c.in_ok-end.ensures.appends calls h)
 
 pub returns-then-not-may_name-clause-added : goal.returns-then-not-may_name-clause-added
 returns-then-not-may_name-clause-added c = λ calls h. appends_nothing c.args.symbols.now calls c.args.mode c.args.name.now c.args.text.now c.args.self.now (c.may_name.ensures.lacks calls h c.if-not-may_name.true) (c.may_name.ensures.unsplit c.if-not-may_name.true)
