@@ -1,16 +1,15 @@
 //! Decides each line by the sections open before it: `machine.Machine`.
 //!
-//! `classify_line` finds the line's directive and decides its condition. `check` then returns the
-//! action for a line of that `line_kind`, or its fault, by the innermost open section. The action
-//! is the verdict and the change of the open sections. `open_section` has the record of an open
+//! `classify_line` decides the condition of the line's directive. `check` then returns the action
+//! for a directive of that role, or its fault, by the innermost open section. The action is the
+//! verdict and the change of the open sections. `open_section` has the record of an open
 //! section, and `section_state` tracks its groups. Callers get a `step`.
 //!
-//! A new role of directives needs a case in `LineKind`, and an action in `open_section`.
+//! A new role of directives needs an action in `open_section`.
 
 mod check;
 mod classify_line;
 mod fault;
-mod line_kind;
 mod machine;
 mod open_section;
 mod section_state;

@@ -1,10 +1,13 @@
--- Actions: the action of a line, by the innermost open section.
+-- Actions: the action of a directive, by the innermost open section.
 --
 -- `plain`: text outside all sections is plain. `section` is the innermost open one.
 use Rattle.std.specs.Prelude.{◌≡◌, ℕ, List, [], ◌∷◌, ◌++◌, Bool, true, not, ◌||◌}
 use Rattle.std.specs.Prelude.{if◌then◌else◌, Option, Some, None}
 use Rattle.ud_model.specs.declared.cond.Cond.{Cond}
 use Rattle.ud_model.specs.declared.cond.Cond.TheVariants.{Yes}
+use Rattle.ud_model.specs.declared.kind.Role.{Role}
+use Rattle.ud_model.specs.declared.kind.Role.TheVariants.{IfGroup, ElifGroup, ElseGroup, EndifLine}
+use Rattle.ud_model.specs.declared.verdict.Verdict.{Verdict}
 use Rattle.ud_model.specs.declared.verdict.Verdict.TheVariants.{Keep, Remove}
 use Rattle.ud_model.specs.sections.Pruning as table
 use Rattle.ud_sections.specs.declared.sections.open_section.OpenSection.{OpenSection}
@@ -12,9 +15,6 @@ use Rattle.ud_sections.specs.declared.sections.open_section.StackOp.{StackOp}
 use Rattle.ud_sections.specs.declared.sections.open_section.StackOp.TheVariants.{Stay, Push}
 use Rattle.ud_sections.specs.declared.sections.open_section.StackOp.TheVariants.{Replace, Pop}
 use Rattle.ud_sections.specs.declared.sections.open_section.Action.{Action}
-use Rattle.ud_sections.specs.declared.sections.line_kind.LineKind.{LineKind}
-use Rattle.ud_sections.specs.declared.sections.line_kind.LineKind.TheVariants.{Text, If, Elif, Else}
-use Rattle.ud_sections.specs.declared.sections.line_kind.LineKind.TheVariants.{Endif}
 use Rattle.ud_sections.specs.sections.SectionStates.{opener_verdict_in, endif_verdict_in}
 use Rattle.ud_sections.specs.sections.SectionStates.{is_kept_in, is_in_removed, new_state}
 use Rattle.ud_sections.specs.sections.OpenSections.{new_section, section_with_group}
@@ -29,9 +29,9 @@ abbrev pub plain_at : Bool → Option OpenSection → Bool
 plain_at plain None = plain
 plain_at plain (Some l) = l.ignoring
 
--- `text_action kept`: a text line stays if its place is kept, and changes nothing.
-abbrev pub text_action : Bool → Action
-text_action kept = record { verdict = if kept then Keep else Remove; kept = kept; change = Stay }
+-- `text_verdict_at kept`: a text line stays if its place is kept.
+abbrev pub text_verdict_at : Bool → Verdict
+text_verdict_at kept = if kept then Keep else Remove
 
 -- `if_action kept plain c ignoring n`: a section's first directive, on line `n`, opens it. Its
 -- verdict is that of a section's first opener in this place.
@@ -61,18 +61,17 @@ endif_action l = record {
   change = Pop;
 }
 
--- `act plain section kind n`: the action of a line of this kind and number, or `None` if it is a
--- misplaced directive.
-abbrev pub act : Bool → Option OpenSection → LineKind → ℕ → Option Action
-act plain section Text n = Some (text_action (kept_at section))
-act plain section (If c ignoring) n =
+-- `act plain section role c ignoring n`: the action of a directive of this role and decision on
+-- line `n`, or `None` if it is misplaced.
+abbrev pub act : Bool → Option OpenSection → Role → Cond → Bool → ℕ → Option Action
+act plain section IfGroup c ignoring n =
     Some (if_action (kept_at section) (plain_at plain section) c ignoring n)
-act plain None (Elif c) n = None
-act plain None Else n = None
-act plain None Endif n = None
-act plain (Some l) (Elif c) n = opener_action l table.an_elif c
-act plain (Some l) Else n = opener_action l table.an_else Yes
-act plain (Some l) Endif n = Some (endif_action l)
+act plain None ElifGroup c ignoring n = None
+act plain None ElseGroup c ignoring n = None
+act plain None EndifLine c ignoring n = None
+act plain (Some l) ElifGroup c ignoring n = opener_action l table.an_elif c
+act plain (Some l) ElseGroup c ignoring n = opener_action l table.an_else Yes
+act plain (Some l) EndifLine c ignoring n = Some (endif_action l)
 
 -- `Applies change old new`: the change turns the open sections `old` into `new`.
 abbrev pub Applies : StackOp → List OpenSection → List OpenSection → Type 0

@@ -17,8 +17,8 @@ use Rattle.ud_model.specs.declared.cond.Cond.TheVariants.{Yes, No, Unknown}
 use Rattle.ud_model.specs.declared.verdict.Verdict.{Verdict}
 use Rattle.ud_model.specs.declared.verdict.Verdict.TheVariants.{Keep, Remove, ToEndif}
 use Rattle.ud_model.specs.sections.Pruning as table
-use Rattle.ud_sections.specs.declared.sections.section_state.Part.{Part}
-use Rattle.ud_sections.specs.declared.sections.section_state.Part.TheVariants.{AnIf, AnElif, AnElse}
+use Rattle.ud_model.specs.declared.kind.Role.{Role}
+use Rattle.ud_model.specs.declared.kind.Role.TheVariants.{IfGroup, ElifGroup, ElseGroup, EndifLine}
 use Rattle.ud_sections.specs.declared.sections.section_state.SectionState.{SectionState}
 use Rattle.ud_sections.specs.declared.sections.section_state.SectionState.TheVariants.{InRemoved}
 use Rattle.ud_sections.specs.declared.sections.section_state.SectionState.TheVariants.{NoneKept}
@@ -28,11 +28,13 @@ use Rattle.ud_sections.specs.declared.sections.section_state.SectionState.TheVar
 use Rattle.ud_sections.specs.declared.sections.section_state.SectionState.TheVariants.{LastTrue}
 use Rattle.ud_sections.specs.declared.sections.section_state.SectionState.TheVariants.{AfterTrue}
 
--- `part_of part`: a directive that opens a group, as one of the definitions.
-abbrev pub part_of : Part → table.Part
-part_of AnIf = table.an_if
-part_of AnElif = table.an_elif
-part_of AnElse = table.an_else
+-- `part_of role`: the part of a directive with this role, which opens a group. An `#endif` opens
+-- none, and the value is of no use.
+abbrev pub part_of : Role → table.Part
+part_of IfGroup = table.an_if
+part_of ElifGroup = table.an_elif
+part_of ElseGroup = table.an_else
+part_of EndifLine = table.an_if
 
 -- `new_state kept`: the state before the first group. `kept`: the section is in a kept place.
 abbrev pub new_state : Bool → SectionState

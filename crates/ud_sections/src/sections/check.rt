@@ -1,15 +1,15 @@
 //! The check of a line against the open sections and the line before.
 
-ghost use Rattle.std.specs.Prelude.{◌≡◌};
+ghost use Rattle.std.specs.Prelude.{◌≡◌, ◌==◌, false, IfOk, IsTrue};
+ghost use Rattle.ud_model.specs.declared.limits.TheConstants.{OPEN_SECTIONS};
 ghost use Rattle.ud_model.specs.sections.Faults.{keeps_rest};
-ghost use Rattle.ud_sections.specs.sections.Checking.{checked_by, is_obfuscated_by};
+ghost use Rattle.ud_sections.specs.sections.Checking.{checked_by, is_obfuscated_by, opens_section};
 ghost use Rattle.ud_sections.specs.sections.Checking.{misplaced_fault_by};
 
 use crate::sections::SectionFault;
 use crate::sections::classify_line::ClassifiedLine;
-use crate::sections::line_kind::LineKind;
 use crate::sections::open_section::{Action, Enclosing, StackOp};
-use ud_model::{OPEN_SECTIONS, Verdict};
+use ud_model::{OPEN_SECTIONS, Role, Verdict};
 
 /// The context of a line: what the lines before it decide.
 #[derive(Clone, Copy)]
@@ -22,24 +22,26 @@ pub(crate) struct LineContext {
     pub removed: bool,
 }
 
-/// Checks a line against the open sections, and returns its action.
+/// Checks a directive against the open sections, and returns its action.
 ///
 /// # Errors
-/// If the line is faulty, by the first of these cases:
+/// If the directive is faulty, by the first of these cases:
 ///
-/// - It is a misplaced directive.
+/// - It is misplaced.
 /// - It opens one section too many.
-/// - It is a directive that spans lines and would have to be edited or removed.
+/// - It spans lines and would have to be edited or removed.
 #[inline(always)]
 pub(crate) fn check_line(
     before: LineContext,
     classified: ClassifiedLine,
     number: u32,
 ) -> Result<Action, SectionFault>
-    ensures { result ≡ checked_by before classified number }
+    ensures value { result ≡ checked_by before classified number }
+    ensures has_space { IfOk result (λ action. IsTrue (opens_section action.change) →
+        (before.depth == OPEN_SECTIONS) ≡ false) }
 {
-    let Some(action) = before.enclosing.action_for(classified.kind, number) else {
-        return Err(misplaced_fault(classified.kind, number));
+    let Some(action) = before.enclosing.action_for(classified, number) else {
+        return Err(misplaced_fault(classified.role, number));
     };
     let opens = matches!(action.change, StackOp::Push(_));
     if opens && before.depth == OPEN_SECTIONS {
@@ -51,13 +53,12 @@ pub(crate) fn check_line(
     Ok(action)
 }
 
-/// Returns whether the line is a directive that spans lines and would have to be edited or removed.
-/// `removed`: the line before it was removed.
+/// Returns whether the directive spans lines and would have to be edited or removed. `removed`: the
+/// line before it was removed.
 fn is_obfuscated(removed: bool, classified: ClassifiedLine, action: Action) -> bool
     ensures { result ≡ is_obfuscated_by removed classified action }
 {
-    !matches!(classified.kind, LineKind::Text)
-        && classified.spans
+    classified.spans
         && action.kept
         && (!keeps_rest(action.verdict) || (classified.joins_before && removed))
 }
@@ -73,15 +74,13 @@ fn keeps_rest(verdict: Verdict) -> bool
     }
 }
 
-/// Returns the fault of a misplaced directive. Text and `#if` are never misplaced.
-fn misplaced_fault(kind: LineKind, line: u32) -> SectionFault
-    ensures { result ≡ misplaced_fault_by kind line }
+/// Returns the fault of a misplaced directive. An `#if` never is.
+fn misplaced_fault(role: Role, line: u32) -> SectionFault
+    ensures { result ≡ misplaced_fault_by role line }
 {
-    match kind {
-        LineKind::Elif { .. } => SectionFault::InappropriateElif { line },
-        LineKind::Else => SectionFault::InappropriateElse { line },
-        LineKind::Text | LineKind::If { .. } | LineKind::Endif => SectionFault::InappropriateEndif {
-            line,
-        },
+    match role {
+        Role::ElifGroup => SectionFault::InappropriateElif { line },
+        Role::ElseGroup => SectionFault::InappropriateElse { line },
+        Role::IfGroup | Role::EndifLine => SectionFault::InappropriateEndif { line },
     }
 }

@@ -1,4 +1,4 @@
-//! The classification of a line: what decides it among the sections.
+//! The classification of a directive's line: what decides it among the sections.
 
 ghost use Rattle.std.specs.Prelude.{◌≡◌, ◌≤◌, List, length};
 ghost use Rattle.ud_model.specs.text.Scans.{is_spanning};
@@ -10,39 +10,28 @@ ghost use Rattle.ud_cond.specs.symbols.SymbolTable.{TableRepresents};
 ghost use Rattle.ud_cond.specs.CondViews.{as_decision};
 ghost use Rattle.ud_model.specs.aids.LineViews.{as_scan};
 ghost use Rattle.ud_sections.specs.directives.ParsedDirectives.{as_directive};
-ghost use Rattle.ud_sections.specs.sections.ClassifiedLines.{classified_with, directive_kind};
-ghost use Rattle.ud_sections.specs.sections.StepViews.{as_span};
+ghost use Rattle.ud_sections.specs.sections.ClassifiedLines.{classified};
 
 use crate::directives::Directive;
-use crate::sections::line_kind::LineKind;
 use crate::sections::step::Span;
 use ud_cond::{Answer, Rules, Symbols, condition};
 use ud_model::{Cond, Role, Scan, Settings};
 
-/// A classified line.
+/// A classified line with a directive.
 #[derive(Clone, Copy)]
 pub(crate) struct ClassifiedLine {
-    /// The kind of the line among the sections.
-    pub kind: LineKind,
-    /// The span of its directive's keyword; 0 and 0 for a text line.
+    /// The role of the directive.
+    pub role: Role,
+    /// The symbols' decision on its condition.
+    pub cond: Cond,
+    /// The symbols make its section plain text.
+    pub ignoring: bool,
+    /// The span of its keyword.
     pub keyword: Span,
     /// The line joins a neighbour.
     pub spans: bool,
     /// The line before joins this one.
     pub joins_before: bool,
-}
-
-/// Classifies a line of this kind, whose directive has its keyword at `keyword`.
-#[inline(always)]
-pub(crate) fn classify(scan: &Scan<'_>, keyword: Span, kind: LineKind) -> ClassifiedLine
-    ensures { result ≡ classified_with (as_scan scan.now) (as_span keyword) kind }
-{
-    ClassifiedLine {
-        kind,
-        keyword,
-        spans: scan.joins_before || scan.joins_after,
-        joins_before: scan.joins_before,
-    }
 }
 
 /// Returns the symbols' decision on a line's directive. A broken directive is undecided. One that
@@ -72,33 +61,26 @@ fn condition_on(
     }
 }
 
-/// Returns the kind of a line's directive among the sections, with the symbols' decision on it.
-/// Evaluates the text only if it is a condition.
+/// Classifies a line with this directive. Evaluates the text only if it is a condition.
 #[inline(always)]
-pub(crate) fn line_kind_of(
+pub(crate) fn classify(
     scan: &Scan<'_>,
     found: &Directive<'_>,
     symbols: &Symbols,
     settings: Settings,
-) -> LineKind
+) -> ClassifiedLine
     requires fits { length found.now.after.now ≤ LINE_BYTES }
-    ensures { (calls : List Argument) → TableRepresents symbols.now calls →
-        result ≡ directive_kind (as_scan scan.now) (as_directive found.now) calls
-        (rules_of settings) }
+    ensures value { (calls : List Argument) → TableRepresents symbols.now calls →
+        result ≡ classified (as_scan scan.now) (as_directive found.now) calls (rules_of settings) }
+    ensures keyword { result.keyword ≡ found.now.keyword }
 {
-    match found.kind.role() {
-        Role::IfGroup => {
-            let answer = condition_on(scan, found, symbols, settings);
-            LineKind::If {
-                cond: answer.cond,
-                ignoring: answer.ignoring,
-            }
-        }
-        Role::ElifGroup => {
-            let answer = condition_on(scan, found, symbols, settings);
-            LineKind::Elif { cond: answer.cond }
-        }
-        Role::ElseGroup => LineKind::Else,
-        Role::EndifLine => LineKind::Endif,
+    let answer = condition_on(scan, found, symbols, settings);
+    ClassifiedLine {
+        role: found.kind.role(),
+        cond: answer.cond,
+        ignoring: answer.ignoring,
+        keyword: found.keyword,
+        spans: scan.joins_before || scan.joins_after,
+        joins_before: scan.joins_before,
     }
 }

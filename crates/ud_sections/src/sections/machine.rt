@@ -27,8 +27,7 @@ use crate::directives::parse_directive::directive;
 use crate::directives::{Cut, Directive};
 use crate::sections::SectionFault;
 use crate::sections::check::{LineContext, check_line};
-use crate::sections::classify_line::{ClassifiedLine, classify, line_kind_of};
-use crate::sections::line_kind::LineKind;
+use crate::sections::classify_line::classify;
 use crate::sections::open_section::{Enclosing, OpenSection, StackOp};
 use crate::sections::step::{Span, Step};
 use crate::sections::text_policy::TextPolicy;
@@ -115,7 +114,7 @@ impl Machine {
             } else {
                 Mode::C
             },
-            verdict: enclosing.text_action().verdict,
+            verdict: enclosing.text_verdict(),
         }
     }
 
@@ -185,12 +184,6 @@ impl Machine {
         if let Some(fault) = self.fault {
             return Err(fault);
         }
-        if let Ok(None) = content {
-            return Ok(Step {
-                verdict: self.step_text(line.number),
-                keyword: Span { at: 0, len: 0 },
-            });
-        }
         match self.transition(scan, content, line.number, symbols) {
             Ok(next) => {
                 apply(&mut self.open_sections, next.change);
@@ -227,7 +220,6 @@ impl Machine {
         ensures policy { text_policy_of self.new ≡ text_policy_of self.old }
         ensures fault_unchanged { machine_fault self.new ≡ machine_fault self.old }
         ensures rest { self.new ≡ record self.old { removed = is_removed result; last = last } }
-        ensures fits { array_vec_len self.old.open_sections ≤ OPEN_SECTIONS }
     {
         let verdict = self.text_policy().verdict;
         self.removed = verdict.is_removed();
@@ -270,45 +262,31 @@ impl Machine {
         ensures has_space { IfOk result (λ next. IsTrue (opens_section next.change) →
             array_vec_len self.now.open_sections < OPEN_SECTIONS) }
     {
-        let Ok(content) = content else {
-            // The number of open sections shows that they fit, as the contract says.
-            let _depth = self.open_sections.len();
-            return Err(SectionFault::Obfuscated { line: number });
-        };
-        let (kind, keyword) = match content {
-            Some(found) => (
-                line_kind_of(scan, &found, symbols, self.settings),
-                found.keyword,
-            ),
-            None => (LineKind::Text, Span { at: 0, len: 0 }),
-        };
-        self.check(classify(scan, keyword, kind), number)
-    }
-
-    /// Checks a classified line, and returns its step and its change of the open sections.
-    ///
-    /// # Errors
-    /// As `check_line`.
-    #[inline(always)]
-    fn check(&self, classified: ClassifiedLine, number: u32) -> Result<Transition, SectionFault>
-        ensures value { result ≡ transition_of (context_of self.now) number (Ok classified) }
-        ensures keyword { IfOk result (λ next. next.step.keyword ≡ classified.keyword) }
-        ensures fits { array_vec_len self.now.open_sections ≤ OPEN_SECTIONS }
-        ensures has_space { IfOk result (λ next. IsTrue (opens_section next.change) →
-            array_vec_len self.now.open_sections < OPEN_SECTIONS) }
-    {
         let before = LineContext {
             enclosing: self.enclosing(),
             depth: self.open_sections.len(),
             removed: self.removed,
         };
-        let action = check_line(before, classified, number)?;
-        let step = Step {
-            verdict: action.verdict,
-            keyword: classified.keyword,
+        let found = match content {
+            Ok(Some(found)) => found,
+            Ok(None) => {
+                return Ok(Transition {
+                    step: Step {
+                        verdict: before.enclosing.text_verdict(),
+                        keyword: Span { at: 0, len: 0 },
+                    },
+                    change: StackOp::Stay,
+                });
+            }
+            Err(_) => return Err(SectionFault::Obfuscated { line: number }),
         };
+        let classified = classify(scan, &found, symbols, self.settings);
+        let action = check_line(before, classified, number)?;
         Ok(Transition {
-            step,
+            step: Step {
+                verdict: action.verdict,
+                keyword: classified.keyword,
+            },
             change: action.change,
         })
     }

@@ -3,12 +3,12 @@
 ghost use Rattle.std.specs.Prelude.{◌≡◌};
 ghost use Rattle.ud_sections.specs.sections.SectionStates.{part_of, opener_verdict_in};
 ghost use Rattle.ud_sections.specs.sections.OpenSections.{new_section, section_with_group};
-ghost use Rattle.ud_sections.specs.sections.Actions.{opener_action, endif_action, text_action};
-ghost use Rattle.ud_sections.specs.sections.Actions.{if_action, act, kept_at, plain_at};
+ghost use Rattle.ud_sections.specs.sections.Actions.{opener_action, endif_action, if_action};
+ghost use Rattle.ud_sections.specs.sections.Actions.{text_verdict_at, act, kept_at, plain_at};
 
-use crate::sections::line_kind::LineKind;
-use crate::sections::section_state::{Part, SectionState};
-use ud_model::{Cond, Verdict};
+use crate::sections::classify_line::ClassifiedLine;
+use crate::sections::section_state::SectionState;
+use ud_model::{Cond, Role, Verdict};
 
 /// An open section.
 #[derive(Clone, Copy)]
@@ -82,14 +82,14 @@ impl OpenSection {
 
     /// Returns the verdict of the next group's opener, and the section after that opener.
     #[inline(always)]
-    fn with_group(self, part: Part, cond: Cond) -> (Verdict, OpenSection)
-        ensures verdict { result.0 ≡ opener_verdict_in self.state (part_of part) cond }
-        ensures inner { result.1 ≡ section_with_group self (part_of part) cond }
+    fn with_group(self, role: Role, cond: Cond) -> (Verdict, OpenSection)
+        ensures verdict { result.0 ≡ opener_verdict_in self.state (part_of role) cond }
+        ensures inner { result.1 ≡ section_with_group self (part_of role) cond }
     {
-        let (verdict, state) = self.state.next_group(part, cond);
+        let (verdict, state) = self.state.next_group(role, cond);
         let inner = OpenSection {
             state,
-            else_seen: matches!(part, Part::AnElse),
+            else_seen: matches!(role, Role::ElseGroup),
             ignoring: self.ignoring,
             if_line: self.if_line,
         };
@@ -98,13 +98,13 @@ impl OpenSection {
 
     /// Returns the action of another opener, or `None` after an `#else`.
     #[inline(always)]
-    fn opener_action(self, part: Part, cond: Cond) -> Option<Action>
-        ensures { result ≡ opener_action self (part_of part) cond }
+    fn opener_action(self, role: Role, cond: Cond) -> Option<Action>
+        ensures { result ≡ opener_action self (part_of role) cond }
     {
         if self.else_seen {
             return None;
         }
-        let (verdict, inner) = self.with_group(part, cond);
+        let (verdict, inner) = self.with_group(role, cond);
         Some(Action {
             verdict,
             kept: !self.state.is_in_removed(),
@@ -146,16 +146,15 @@ impl Enclosing {
         }
     }
 
-    /// Returns the action of a text line.
+    /// Returns the verdict of a text line.
     #[inline(always)]
-    pub(crate) fn text_action(self) -> Action
-        ensures { result ≡ text_action (kept_at self.section) }
+    pub(crate) fn text_verdict(self) -> Verdict
+        ensures { result ≡ text_verdict_at (kept_at self.section) }
     {
-        let kept = self.is_kept();
-        Action {
-            verdict: if kept { Verdict::Keep } else { Verdict::Remove },
-            kept,
-            change: StackOp::Stay,
+        if self.is_kept() {
+            Verdict::Keep
+        } else {
+            Verdict::Remove
         }
     }
 
@@ -167,7 +166,7 @@ impl Enclosing {
     {
         let kept = self.is_kept();
         let section = OpenSection::new(kept, self.is_plain() || ignoring, number);
-        let (verdict, inner) = section.with_group(Part::AnIf, cond);
+        let (verdict, inner) = section.with_group(Role::IfGroup, cond);
         Action {
             verdict,
             kept,
@@ -175,18 +174,16 @@ impl Enclosing {
         }
     }
 
-    /// Returns the action of a line of this kind and number, or `None` if it is a misplaced
-    /// directive.
+    /// Returns the action of a directive on the line of this number, or `None` if it is misplaced.
     #[inline(always)]
-    pub(crate) fn action_for(self, kind: LineKind, number: u32) -> Option<Action>
-        ensures { result ≡ act self.plain self.section kind number }
+    pub(crate) fn action_for(self, line: ClassifiedLine, number: u32) -> Option<Action>
+        ensures { result ≡ act self.plain self.section line.role line.cond line.ignoring number }
     {
-        match kind {
-            LineKind::Text => Some(self.text_action()),
-            LineKind::If { cond, ignoring } => Some(self.if_action(cond, ignoring, number)),
-            LineKind::Elif { cond } => self.section?.opener_action(Part::AnElif, cond),
-            LineKind::Else => self.section?.opener_action(Part::AnElse, Cond::Yes),
-            LineKind::Endif => Some(self.section?.endif_action()),
+        match line.role {
+            Role::IfGroup => Some(self.if_action(line.cond, line.ignoring, number)),
+            Role::ElifGroup => self.section?.opener_action(line.role, line.cond),
+            Role::ElseGroup => self.section?.opener_action(line.role, Cond::Yes),
+            Role::EndifLine => Some(self.section?.endif_action()),
         }
     }
 }

@@ -8,18 +8,7 @@ ghost use Rattle.ud_sections.specs.sections.SectionStates.{part_of, new_state, n
 ghost use Rattle.ud_sections.specs.sections.SectionStates.{opener_verdict_in, endif_verdict_in};
 ghost use Rattle.ud_sections.specs.sections.SectionStates.{is_kept_in, is_in_removed};
 
-use ud_model::{Cond, Verdict};
-
-/// A directive that opens a group.
-#[derive(Clone, Copy, PartialEq, Eq)]
-pub(crate) enum Part {
-    /// `#if`, `#ifdef` or `#ifndef`.
-    AnIf,
-    /// `#elif`, `#elifdef` or `#elifndef`.
-    AnElif,
-    /// `#else`.
-    AnElse,
-}
+use ud_model::{Cond, Role, Verdict};
 
 /// The state of a section: what the conditions of its groups so far decide about its last group and
 /// later ones.
@@ -56,21 +45,21 @@ impl SectionState {
 
     /// Returns the verdict of the next group's opener, and the state after it.
     #[inline(always)]
-    pub(crate) fn next_group(self, part: Part, cond: Cond) -> (Verdict, SectionState)
-        ensures verdict { result.0 ≡ opener_verdict_in self (part_of part) cond }
+    pub(crate) fn next_group(self, role: Role, cond: Cond) -> (Verdict, SectionState)
+        ensures verdict { result.0 ≡ opener_verdict_in self (part_of role) cond }
         ensures state { result.1 ≡ next_section_state self cond }
     {
         match self {
             SectionState::InRemoved => (Verdict::Remove, SectionState::InRemoved),
             SectionState::NoneKept => match cond {
                 Cond::No => (Verdict::Remove, SectionState::NoneKept),
-                Cond::Unknown => (first_kept_verdict(part), SectionState::LastUnknown),
+                Cond::Unknown => (first_kept_verdict(role), SectionState::LastUnknown),
                 Cond::Yes => (Verdict::Remove, SectionState::OnlyTrue),
             },
             SectionState::LastUnknown | SectionState::LastFalse => match cond {
                 Cond::No => (Verdict::Remove, SectionState::LastFalse),
                 Cond::Unknown => (Verdict::Keep, SectionState::LastUnknown),
-                Cond::Yes => (first_true_verdict(part), SectionState::LastTrue),
+                Cond::Yes => (first_true_verdict(role), SectionState::LastTrue),
             },
             SectionState::LastTrue => (Verdict::ToEndif, SectionState::AfterTrue),
             SectionState::OnlyTrue | SectionState::AfterTrue => (
@@ -116,21 +105,21 @@ impl SectionState {
 }
 
 /// Returns the verdict of the first kept opener.
-fn first_kept_verdict(part: Part) -> Verdict
-    ensures { result ≡ first_kept_verdict (part_of part) }
+fn first_kept_verdict(role: Role) -> Verdict
+    ensures { result ≡ first_kept_verdict (part_of role) }
 {
-    match part {
-        Part::AnElif => Verdict::ToIf,
-        Part::AnIf | Part::AnElse => Verdict::Keep,
+    match role {
+        Role::ElifGroup => Verdict::ToIf,
+        Role::IfGroup | Role::ElseGroup | Role::EndifLine => Verdict::Keep,
     }
 }
 
 /// Returns the verdict of the opener of the first true group, if a group before it is kept.
-fn first_true_verdict(part: Part) -> Verdict
-    ensures { result ≡ first_true_verdict (part_of part) }
+fn first_true_verdict(role: Role) -> Verdict
+    ensures { result ≡ first_true_verdict (part_of role) }
 {
-    match part {
-        Part::AnElif => Verdict::ToElse,
-        Part::AnIf | Part::AnElse => Verdict::Keep,
+    match role {
+        Role::ElifGroup => Verdict::ToElse,
+        Role::IfGroup | Role::ElseGroup | Role::EndifLine => Verdict::Keep,
     }
 }

@@ -7,7 +7,6 @@ use Rattle.ud_model.specs.sections.Tree.{Item, Opener, Nodes, Head, Tree, text_l
 use Rattle.ud_model.specs.sections.Faults.{Fault, eof_in_comment, premature_eof, end_by}
 use Rattle.ud_model.specs.sections.Pruning.{Part, an_elif, an_else, Mark, marked, is_inside_kept, endif_verdict, conds_of_elifs, conds_of_head, any_true, all_false, gives_way, ends_with_first_true, is_false, is_kept, first_kept_verdict, later_verdict}
 use Rattle.ud_model.specs.aids.SoFar.{verdict_so_far, nodes_so_far, groups_so_far, head_so_far, marks_so_far}
-use Rattle.ud_model.specs.sections.Items.{line_of}
 use Rattle.ud_model.proofs.sections.Growth.{Adds, adds_text, adds_if, elif_after_if, elif_after_elif, else_after_if, else_after_elif, adds_endif, adds_under, complete}
 use Rattle.ud_sections.specs.declared.sections.open_section.OpenSection.{OpenSection}
 use Rattle.ud_sections.specs.declared.sections.open_section.StackOp.{StackOp}
@@ -15,12 +14,12 @@ use Rattle.ud_sections.specs.declared.sections.open_section.StackOp.TheVariants.
 use Rattle.ud_sections.specs.declared.sections.open_section.Action.{Action}
 use Rattle.ud_sections.specs.sections.SectionStates.{new_state, section_state_after, opener_verdict_in, is_kept_in, is_in_removed, next_section_state, endif_verdict_in}
 use Rattle.ud_sections.specs.sections.OpenSections.{section_of, section_with_group, open_sections_of, section_at, last_or, is_else_part}
-use Rattle.ud_sections.specs.sections.Actions.{act, Applies, kept_at, plain_at, text_action, if_action, opener_action, endif_action}
+use Rattle.ud_sections.specs.sections.Actions.{act, Applies, kept_at, plain_at, text_verdict_at, if_action, opener_action, endif_action}
 use Rattle.ud_sections.specs.sections.StackOps.{applied, innermost_of}
 use Rattle.ud_sections.specs.sections.EndFaults.{end_in}
 use Rattle.ud_sections.specs.sections.Checking.{opens_section}
 use Rattle.ud_sections.specs.sections.MachineState.{end_fault_of}
-use Rattle.ud_sections.specs.sections.ClassifiedLines.{item_kind}
+use Rattle.ud_model.specs.declared.kind.Role.TheVariants.{IfGroup, ElifGroup, ElseGroup, EndifLine}
 use Rattle.ud_model.specs.declared.verdict.Verdict.TheVariants.{Keep, Remove, ToEndif}
 use Rattle.ud_sections.specs.declared.sections.section_state.SectionState.{SectionState}
 use Rattle.ud_sections.specs.declared.sections.section_state.SectionState.TheVariants.{InRemoved, NoneKept, LastUnknown, LastFalse, AfterTrue}
@@ -132,10 +131,22 @@ changes_under (Push k) l old new e = ap (λ ls. l ∷ ls) e
 changes_under (Replace k) l old new (outer, last, e, f) = (l ∷ outer, last, ap (λ ls. l ∷ ls) e, ap (λ ls. l ∷ ls) f)
 changes_under Pop l old new (last, e) = (last, ap (λ ls. l ∷ ls) e)
 
+-- the action of a text line
+abbrev pub text_action : Bool → Action
+text_action kept = record { verdict = text_verdict_at kept; kept = kept; change = Stay }
+
+-- the action of an item
+abbrev pub item_act : Bool → Option OpenSection → Item Reading → Option Action
+item_act p d (text_line r) = Some (text_action (kept_at d))
+item_act p d (if_line o) = act p d IfGroup o.cond o.ignoring o.line.line.number
+item_act p d (elif_line o) = act p d ElifGroup o.cond o.ignoring o.line.line.number
+item_act p d (else_line r) = act p d ElseGroup Yes false r.line.number
+item_act p d (endif_line r) = act p d EndifLine Yes false r.line.number
+
 -- a line is added: its action, its mark, and its change of the open sections
 pub record Moved (p kept plain : Bool) (d : Option OpenSection) (t u : Tree Reading) (x : Item Reading) : Type 0 where
   pub action : Action
-  pub is_act : act p (section_at d kept plain t) (item_kind x) (line_of x).number ≡ Some action
+  pub is_act : item_act p (section_at d kept plain t) x ≡ Some action
   pub marks_are : marks_so_far kept u ≡ marks_so_far kept t ++ mark_of action ∷ []
   pub changes : Applies action.change (open_sections_of kept plain t) (open_sections_of kept plain u)
 
@@ -155,7 +166,7 @@ module _ (p : Bool) where
 
   -- an opener that follows another one in its section
   moved_opener : (kept plain : Bool) (d : Option OpenSection) (ns b : Nodes Reading) (h k : Head Reading) (x : Item Reading) (part : Part) (c : Cond) →
-      act p (Some (section_of kept plain h)) (item_kind x) (line_of x).number ≡ opener_action (section_of kept plain h) part c →
+      item_act p (Some (section_of kept plain h)) x ≡ opener_action (section_of kept plain h) part c →
       (section_of kept plain h).else_seen ≡ false → section_of kept plain k ≡ section_with_group (section_of kept plain h) part c →
       head_so_far kept k
       ≡ (head_so_far kept h ++ nodes_so_far (kept && is_inside_kept h) b) ++ marked kept (verdict_so_far (conds_of_head h) part c) ∷ [] →
@@ -206,7 +217,7 @@ module _ (p : Bool) where
 
   -- a line with an action is added
   pub takes : (kept plain : Bool) (t : Tree Reading) (x : Item Reading) (a : Action) →
-      act p (section_at None kept plain t) (item_kind x) (line_of x).number ≡ Some a → (u : Tree Reading) × Adds t x u
+      item_act p (section_at None kept plain t) x ≡ Some a → (u : Tree Reading) × Adds t x u
   takes kept plain (closed ns) (text_line r) a e = (_, adds_text)
   takes kept plain (closed ns) (if_line o) a e = (_, adds_if)
   takes kept plain (closed ns) (elif_line o) a e = cc

@@ -12,14 +12,14 @@ use Rattle.ud_model.specs.declared.verdict.Verdict.{Verdict}
 use Rattle.ud_model.proofs.sections.Soundness.{sound_lines}
 use Rattle.ud_sections.specs.declared.sections.machine.Machine.{Machine}
 use Rattle.ud_sections.specs.declared.sections.machine.Transition.{Transition}
-use Rattle.ud_sections.specs.sections.Actions.{kept_at, plain_at, text_action}
+use Rattle.ud_sections.specs.sections.Actions.{kept_at, plain_at}
 use Rattle.ud_sections.specs.sections.StackOps.{applied, innermost_of}
 use Rattle.ud_sections.specs.sections.EndFaults.{end_in}
 use Rattle.ud_sections.specs.sections.OpenSections.{open_sections_of, section_at}
 use Rattle.ud_sections.specs.sections.Limits.{IsWithinLimits}
 use Rattle.ud_sections.specs.sections.MachineState.{MachineRepresents, StepsLine, AreTextLines, StepsText, end_fault_of}
 use Rattle.ud_sections.proofs.lemmas.sections.LineFaults.{clear_line}
-use Rattle.ud_sections.proofs.lemmas.sections.ActionLemmas.{mark_of, innermost_level, depth_levels, plain_inside, end_is, changed_is}
+use Rattle.ud_sections.proofs.lemmas.sections.ActionLemmas.{text_action, mark_of, innermost_level, depth_levels, plain_inside, end_is, changed_is}
 use Rattle.ud_sections.proofs.lemmas.sections.CheckLemmas.{Taken, taken}
 use Rattle.ud_sections.proofs.lemmas.sections.TransitionLemmas.{TurnsWell, shallow_by, last_number_last}
 use Rattle.ud_model.proofs.output.RereadMore.{last_removed}

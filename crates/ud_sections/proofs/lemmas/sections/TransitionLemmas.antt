@@ -1,28 +1,30 @@
 -- TransitionLemmas: the machine's transition for the line that comes next.
-use Rattle.std.proofs.Common.{◌≡◌, ◌≤◌, List, [], ◌∷◌, ◌++◌, length, true, false, Result, Ok, Err, refl, sym, ◌∙◌, ap, subst, arith, rules}
+use Rattle.std.proofs.Common.{◌≡◌, ◌≤◌, List, [], ◌∷◌, ◌++◌, length, Bool, true, false, Option, Some, None, Result, Ok, Err, refl, sym, ◌∙◌, ap, subst, arith}
 use Rattle.ud_model.specs.text.Lines.{Line}
 use Rattle.ud_model.specs.text.Scans.{Scan, Reading}
-use Rattle.ud_model.specs.sections.Directives.{Content, text, content_of}
+use Rattle.ud_model.specs.sections.Directives.{Content, Directive, cut_keyword, directive, text, content_of, role_of}
+use Rattle.ud_model.specs.conditions.Conditions.{Decision, decision_on}
 use Rattle.ud_model.specs.conditions.Table.{Argument}
-use Rattle.ud_model.specs.sections.Tree.{Item, Tree, lines, depth}
+use Rattle.ud_model.specs.sections.Tree.{Item, Tree, text_line, lines, depth}
 use Rattle.ud_model.specs.sections.Pruning.{Mark, marks}
-use Rattle.ud_model.specs.sections.Items.{Options, reading_of, line_of, item_by, rules_of, mode_after, read_after, next_item}
-use Rattle.ud_model.specs.sections.Faults.{FaultOf, NoneHolds, cases, is_cut, last_number, obfuscated}
+use Rattle.ud_model.specs.sections.Items.{Options, reading_of, line_of, item_by, directive_item, rules_of, mode_after, read_after, next_item}
+use Rattle.ud_model.specs.sections.Faults.{FaultOf, is_directive, NoneHolds, cases, is_cut, last_number, obfuscated}
 use Rattle.ud_model.specs.answer.Printing.{keyword_in, judged_line}
+use Rattle.ud_model.specs.declared.kind.Role.{Role}
+use Rattle.ud_model.specs.declared.kind.Role.TheVariants.{IfGroup, ElifGroup, ElseGroup, EndifLine}
 use Rattle.ud_model.specs.declared.limits.TheConstants.{OPEN_SECTIONS}
 use Rattle.ud_model.proofs.sections.Soundness.{reading_of-item_of, sound_lines}
 use Rattle.ud_sections.specs.declared.sections.fault.SectionFault.{SectionFault}
 use Rattle.ud_sections.specs.declared.sections.fault.SectionFault.TheVariants.{Obfuscated}
-use Rattle.ud_sections.specs.declared.directives.Cut.{Cut}
 use Rattle.ud_sections.specs.declared.sections.open_section.Action.{Action}
 use Rattle.ud_sections.specs.declared.sections.machine.Machine.{Machine}
 use Rattle.ud_sections.specs.declared.sections.machine.Transition.{Transition}
 use Rattle.ud_sections.specs.declared.sections.classify_line.ClassifiedLine.{ClassifiedLine}
-use Rattle.ud_sections.specs.declared.sections.open_section.StackOp.TheVariants.{Stay}
-use Rattle.ud_sections.specs.sections.Actions.{Applies, kept_at, text_action}
-use Rattle.ud_sections.specs.sections.StackOps.{innermost_of}
+use Rattle.ud_sections.specs.declared.sections.open_section.OpenSection.{OpenSection}
+use Rattle.ud_sections.specs.declared.sections.step.Span.{Span}
+use Rattle.ud_sections.specs.sections.Actions.{act, Applies, kept_at}
 use Rattle.ud_sections.specs.sections.Checking.{checked_by}
-use Rattle.ud_sections.specs.sections.OpenSections.{open_sections_of}
+use Rattle.ud_sections.specs.sections.OpenSections.{open_sections_of, section_at}
 use Rattle.ud_sections.specs.sections.Limits.{IsWithinLimits}
 use Rattle.ud_sections.specs.sections.MachineState.{MachineRepresents, ComesNext}
 use Rattle.ud_sections.specs.sections.SectionFaults.{fault_of}
@@ -30,22 +32,30 @@ use Rattle.ud_sections.specs.sections.ClassifiedLines.{classified}
 use Rattle.ud_sections.specs.sections.StepViews.{as_span}
 use Rattle.ud_sections.specs.sections.Transitions.{context_of, transition_with, transition_of}
 use Rattle.ud_sections.proofs.lemmas.sections.LineFaults.{cut_fault}
-use Rattle.ud_sections.proofs.lemmas.sections.ActionLemmas.{mark_of, innermost_level, depth_levels}
-use Rattle.ud_sections.proofs.lemmas.sections.CheckLemmas.{before_next, IsSeen, Follows, judged_well, judged_ill}
+use Rattle.ud_sections.proofs.lemmas.sections.ActionLemmas.{item_act, text_action, mark_of, innermost_level, depth_levels}
+use Rattle.ud_sections.proofs.lemmas.sections.CheckLemmas.{before_next, IsSeen, Follows, text_follows, judged_well, judged_ill}
 use Rattle.ud_model.proofs.sections.FaultStays.{line_of-next_item}
 
--- the classified line of a line that carries this
-pub record SeenOn (o : Options) (r : Reading) (c : Content) (s : ClassifiedLine) : Type 0 where
-  pub scanned : IsSeen (item_by o r c) s
-  pub whole : is_cut c ≡ false
-  pub keyword : as_span s.keyword ≡ keyword_in c
+-- a directive of this role acts by its decision
+acts_so : (r : Reading) (role : Role) (d : Decision) (p : Bool) (section : Option OpenSection) →
+    act p section role d.cond d.ignoring r.line.number ≡ item_act p section (directive_item r role d)
+acts_so r IfGroup d p section = refl
+acts_so r ElifGroup d p section = refl
+acts_so r ElseGroup d p None = refl
+acts_so r ElseGroup d p (Some l) = refl
+acts_so r EndifLine d p None = refl
+acts_so r EndifLine d p (Some l) = refl
 
-module _ (o : Options) (r : Reading) where
-  pub seen_well : (c : Content) (s : ClassifiedLine) → classified r.scan o.table (rules_of o.settings) c ≡ Ok s → SeenOn o r c s
-  seen_well c s h = grind arith
-
-  pub seen_ill : (c : Content) (f : Cut) → classified r.scan o.table (rules_of o.settings) c ≡ Err f → is_cut c ≡ true
-  seen_ill c f h = grind arith
+-- the classified line of a line with this directive
+directive_seen : (o : Options) (r : Reading) (d : Directive) → IsSeen (item_by o r (directive d)) (classified r.scan d o.table (rules_of o.settings))
+directive_seen o r d = by (decision_on r.scan d o.table (rules_of o.settings)) (role_of d.kind)
+  where
+    by : (on : Decision) (role : Role) →
+        IsSeen (directive_item r role on) (record (classified r.scan d o.table (rules_of o.settings)) { role = role; cond = on.cond; ignoring = on.ignoring })
+    by on IfGroup = record { directive = refl; role = refl; acts = acts_so r IfGroup on; spans = refl; joins = refl }
+    by on ElifGroup = record { directive = refl; role = refl; acts = acts_so r ElifGroup on; spans = refl; joins = refl }
+    by on ElseGroup = record { directive = refl; role = refl; acts = acts_so r ElseGroup on; spans = refl; joins = refl }
+    by on EndifLine = record { directive = refl; role = refl; acts = acts_so r EndifLine on; spans = refl; joins = refl }
 
 -- the line is sound, and this is its transition
 pub record TurnsWell (o : Options) (xs : List (Item Reading)) (t : Tree Reading) (l : Line) (turn : Transition) : Type 0 where
@@ -76,54 +86,65 @@ module _ (o : Options) (xs : List (Item Reading)) (t : Tree Reading) (l : Line) 
   number_is : l.number ≡ (line_of (next_item o xs t l)).number
   number_is = ap (λ (k : Line). k.number) (sym (line_of-next_item o xs t l))
 
-  well_seen : (s : ClassifiedLine) → SeenOn o (read_after xs (mode_after o t) l) carried s → (a : Action) →
-      checked_by (before_next o.settings.plain t) s l.number ≡ Ok a →
-      TurnsWell o xs t l (record { step = record { verdict = a.verdict; keyword = s.keyword }; change = a.change })
-  well_seen s scanned a j = let f : Follows o.settings.plain t (next_item o xs t l) a =
-      judged_well o.settings.plain t (next_item o xs t l) s scanned.scanned within_item (ap is_cut carried_item ∙ scanned.whole) shallow a
-      (ap (λ n. checked_by (before_next o.settings.plain t) s n) (sym number_is) ∙ j) in
-      record {
-        tree = f.tree;
-        lines_are = f.lines_are ∙ ap (λ ys. ys ++ next_item o xs t l ∷ []) e;
-        clear = subst (λ ys. NoneHolds ys (next_item o xs t l) cases) e f.clear;
-        mark = mark_of a;
-        marks_are = f.marks_are;
-        changes = f.changes;
-        decided = grind (arith, line_of-next_item, carried_item);
-      }
+  abbrev r : Reading
+  r = read_after xs (mode_after o t) l
 
-  well_by : (s : ClassifiedLine) → SeenOn o (read_after xs (mode_after o t) l) carried s → (a : Result Action SectionFault) →
-      checked_by (before_next o.settings.plain t) s l.number ≡ a → (turn : Transition) → transition_with s.keyword a ≡ Ok turn → TurnsWell o xs t l turn
-  well_by s h a k turn m = grind (arith, Ok, well_seen, Err)
+  abbrev p : Bool
+  p = o.settings.plain
 
-  ill_by : (s : ClassifiedLine) → SeenOn o (read_after xs (mode_after o t) l) carried s → (a : Result Action SectionFault) →
-      checked_by (before_next o.settings.plain t) s l.number ≡ a → (f : SectionFault) → transition_with s.keyword a ≡ Err f →
-      FaultOf xs (next_item o xs t l) (fault_of f)
-  ill_by s scanned (Ok a) j f q = cc
-  ill_by s scanned (Err g) j f q = grind (arith, judged_ill, within_item, carried_item, number_is)
+  turned : (a : Action) (keyword : Span) → as_span keyword ≡ keyword_in carried → Follows p t (next_item o xs t l) a →
+      TurnsWell o xs t l (record { step = record { verdict = a.verdict; keyword = keyword }; change = a.change })
+  turned a keyword k f = record {
+    tree = f.tree;
+    lines_are = f.lines_are ∙ ap (λ ys. ys ++ next_item o xs t l ∷ []) e;
+    clear = subst (λ ys. NoneHolds ys (next_item o xs t l) cases) e f.clear;
+    mark = mark_of a;
+    marks_are = f.marks_are;
+    changes = f.changes;
+    decided = grind (arith, line_of-next_item, carried_item);
+  }
 
-  well_at : (s : Result ClassifiedLine Cut) → classified (read_after xs (mode_after o t) l).scan o.table (rules_of o.settings) carried ≡ s →
-      (turn : Transition) → transition_of (before_next o.settings.plain t) l.number s ≡ Ok turn → TurnsWell o xs t l turn
-  well_at (Ok s) scanned turn q = search (rules, well_by, seen_well)
-  well_at (Err cut) scanned turn q = cc
+  well_by : (s : ClassifiedLine) → IsSeen (next_item o xs t l) s → is_cut carried ≡ false → as_span s.keyword ≡ keyword_in carried → (a : Result Action SectionFault) →
+      checked_by (before_next p t) s l.number ≡ a → (turn : Transition) → transition_with s.keyword a ≡ Ok turn → TurnsWell o xs t l turn
+  well_by s seen whole k (Ok a) j turn m = let same : record { step = record { verdict = a.verdict; keyword = s.keyword }; change = a.change } ≡ turn = cc in
+      subst (λ (q : Transition). TurnsWell o xs t l q) same (turned a s.keyword k
+      (judged_well p t (next_item o xs t l) s seen within_item (ap is_cut carried_item ∙ whole) shallow a (ap (λ n. checked_by (before_next p t) s n) (sym number_is) ∙ j)))
+  well_by s seen whole k (Err f) j turn m = cc
 
-  ill_at : (s : Result ClassifiedLine Cut) → classified (read_after xs (mode_after o t) l).scan o.table (rules_of o.settings) carried ≡ s →
-      (f : SectionFault) → transition_of (before_next o.settings.plain t) l.number s ≡ Err f → FaultOf xs (next_item o xs t l) (fault_of f)
-  ill_at (Ok s) scanned f q = search (rules, ill_by, seen_well)
-  ill_at (Err cut) scanned f q = let same : Obfuscated l.number ≡ f = cc in
+  ill_by : (s : ClassifiedLine) → IsSeen (next_item o xs t l) s → is_cut carried ≡ false → (a : Result Action SectionFault) →
+      checked_by (before_next p t) s l.number ≡ a → (f : SectionFault) → transition_with s.keyword a ≡ Err f → FaultOf xs (next_item o xs t l) (fault_of f)
+  ill_by s seen whole (Ok a) j f q = cc
+  ill_by s seen whole (Err g) j f q = grind (arith, judged_ill, within_item, carried_item, number_is)
+
+  abbrev turn_by : Content → Result Transition SectionFault
+  turn_by c = transition_of (before_next p t) l.number r.scan o.table (rules_of o.settings) c
+
+  well_at : (c : Content) → carried ≡ c → (turn : Transition) → turn_by c ≡ Ok turn → TurnsWell o xs t l turn
+  well_at cut_keyword k turn q = cc
+  well_at text k turn q = let a : Action = text_action (kept_at (section_at None true p t)) in
+      let same : record { step = record { verdict = a.verdict; keyword = record { at = 0; len = 0 } }; change = a.change } ≡ turn = cc in
+      let item : next_item o xs t l ≡ text_line r = ap (item_by o r) k in
+      subst (λ (m : Transition). TurnsWell o xs t l m) same (turned a _ (sym (ap keyword_in k))
+      (text_follows p t (next_item o xs t l) (ap is_directive item) (ap (item_act p (section_at None true p t)) item) within_item (ap is_cut (carried_item ∙ k)) shallow))
+  well_at (directive d) k turn q =
+      well_by _ (subst (λ (x : Item Reading). IsSeen x (classified r.scan d o.table (rules_of o.settings))) (sym (ap (item_by o r) k)) (directive_seen o r d)) (ap is_cut k) (sym (ap keyword_in k)) _ refl turn q
+
+  ill_at : (c : Content) → carried ≡ c → (f : SectionFault) → turn_by c ≡ Err f → FaultOf xs (next_item o xs t l) (fault_of f)
+  ill_at cut_keyword k f q = let same : Obfuscated l.number ≡ f = cc in
       subst (λ h. FaultOf xs (next_item o xs t l) (fault_of h)) same
-      (subst (λ n. FaultOf xs (next_item o xs t l) (obfuscated n)) (sym number_is)
-      (cut_fault xs (next_item o xs t l) within_item (ap is_cut carried_item ∙ seen_ill o (read_after xs (mode_after o t) l) carried cut scanned)))
+      (subst (λ n. FaultOf xs (next_item o xs t l) (obfuscated n)) (sym number_is) (cut_fault xs (next_item o xs t l) within_item (ap is_cut (carried_item ∙ k))))
+  ill_at text k f q = cc
+  ill_at (directive d) k f q =
+      ill_by _ (subst (λ (x : Item Reading). IsSeen x (classified r.scan d o.table (rules_of o.settings))) (sym (ap (item_by o r) k)) (directive_seen o r d)) (ap is_cut k) _ refl f q
 
 -- the transition of the machine for the line that comes next
 abbrev pub asked : Machine → Options → Scan → Line → Result Transition SectionFault
-asked m o scan l = transition_of (context_of m) l.number (classified scan o.table (rules_of m.settings) (content_of scan))
+asked m o scan l = transition_of (context_of m) l.number scan o.table (rules_of m.settings) (content_of scan)
 
 asked_is : (m : Machine) (o : Options) (xs : List (Item Reading)) (t : Tree Reading) (scan : Scan) (l : Line) (table : List Argument) →
     MachineRepresents m o xs t → ComesNext o xs t scan l table →
-    transition_of (before_next o.settings.plain t) l.number
-    (classified (read_after xs (mode_after o t) l).scan o.table (rules_of o.settings) (content_of (read_after xs (mode_after o t) l).scan))
-    ≡ asked m o scan l
+    transition_of (before_next o.settings.plain t) l.number (read_after xs (mode_after o t) l).scan o.table (rules_of o.settings)
+    (content_of (read_after xs (mode_after o t) l).scan) ≡ asked m o scan l
 asked_is m o xs t scan l table h next = rw (before_is m o xs t h, h.settings, next.scanned) refl
 
 pub shallow_by : (m : Machine) (o : Options) (xs : List (Item Reading)) (t : Tree Reading) → MachineRepresents m o xs t →
@@ -141,14 +162,6 @@ module _ (m : Machine) (o : Options) (xs : List (Item Reading)) (t : Tree Readin
   pub turns_ill : (f : SectionFault) → asked m o scan l ≡ Err f → FaultOf xs (next_item o xs t l) (fault_of f)
   turns_ill f e =
       ill_at o xs t l (sound_lines h.sound) w (shallow_by m o xs t h fits) _ refl f (asked_is m o xs t scan l table h next ∙ e)
-
--- the transition of a text line has the verdict of its place
-pub text_turn : (m : Machine) (o : Options) (scan : Scan) (l : Line) → content_of scan ≡ text →
-    asked m o scan l ≡ Ok (record {
-      step = record { verdict = (text_action (kept_at (innermost_of m.open_sections.items))).verdict; keyword = record { at = 0; len = 0 } };
-      change = Stay;
-    })
-text_turn m o scan l e = rw e refl
 
 pub last_number_last : (xs : List (Item Reading)) (x : Item Reading) → last_number (xs ++ x ∷ []) ≡ (line_of x).number
 last_number_last [] x = refl
