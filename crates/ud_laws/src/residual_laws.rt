@@ -1,6 +1,6 @@
 //! Laws of residuals: conditions and texts without the operands that the table decides.
 
-ghost use Rattle.std.specs.Prelude.{◌≡◌, ◌↔◌, ℕ, List, ◌∷◌, ◌++◌, map, Bool};
+ghost use Rattle.std.specs.Prelude.{◌≡◌, ◌↔◌, ℕ, List, ◌∷◌, ◌++◌, map, Bool, None, false};
 ghost use Rattle.ud_model.specs.text.Lines.{lines_of};
 ghost use Rattle.ud_model.specs.text.Scans.{Reading};
 ghost use Rattle.ud_model.specs.conditions.Table.{Argument};
@@ -25,6 +25,7 @@ ghost use Rattle.ud_laws.specs.output.LogicalProcessing.{RewrittenTree};
 ghost use Rattle.ud_laws.specs.output.DecidedByNumbers.{MayDecide};
 ghost use Rattle.ud_model.specs.answer.CommandLine.{options_of};
 ghost use Rattle.ud_model.specs.answer.Answer.{Answer, IsAnswer};
+ghost use Rattle.ud_model.specs.answer.Outcomes.{Outcome, HasOutcome};
 ghost use Rattle.ud_laws.specs.answer.Successes.{Succeeds, copy_answer};
 ghost use Rattle.ud_model.specs.declared.cond.Cond.{Cond};
 ghost use Rattle.ud_model.specs.declared.kind.Mode.{Mode};
@@ -84,9 +85,13 @@ pub fn law_operands_left()
 ///
 /// The arguments only decide conditions, without `-t`, and the input has no fault. No line of the
 /// output is too long. The run over the simplified output then has no fault and no message, and its
-/// status is that of a copy (unifdef(1)).
+/// status is that of a copy (unifdef(1)). So is the outcome of such a run under any options.
 pub fn law_answer_simplified()
-    ensures { (args : List (List ℕ)) (input : List ℕ) (a : Answer) → Succeeds args input a →
+    ensures outcome { (o : Options) (input : List ℕ) (r : Outcome) → HasOutcome o input r →
+        r.fault ≡ None → IsPlainC o → LinesFit (lines_of r.output) →
+        let text = simplified_under o r.output in
+        HasOutcome o text (record { output = text; fault = None; differs = false }) }
+    ensures answer { (args : List (List ℕ)) (input : List ℕ) (a : Answer) → Succeeds args input a →
         IsPlainC (options_of args) → LinesFit (lines_of a.output) →
         let text = simplified_under (options_of args) a.output in
         IsAnswer args text (copy_answer args text) }
