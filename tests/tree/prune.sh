@@ -64,6 +64,25 @@ test_pruned_files() {
   after '1 -p -w -UVMS src' is src/b.c "$pruned"
 }
 
+# An #elif that becomes an #if. Only without -p do two spaces replace its lost bytes.
+test_pruned_openers() {
+  local text='#ifdef A\n1\n#elif X\n2\n#endif\n'
+  fresh
+  prunes 1 "$text" -UA '#if X\n2\n#endif\n'
+  after '0 -p -UA src' is src/a.c '#if X\n2\n#endif\n'
+  put src/a.c "$text"
+  after '1 -UA src' is src/a.c '#if   X\n2\n#endif\n'
+  after '0 -p -UA src' is src/a.c '#if   X\n2\n#endif\n'
+  prunes 1 '# ifdef A\n1\n# elif  defined(X)\n2\n# endif\n' -UA '# if  defined(X)\n2\n# endif\n'
+  prunes 1 '#ifdef A\n#elifdef X // x\n1\n#elifndef Y\n2\n#endif\n' -UA \
+    '#ifdef X // x\n1\n#elifndef Y\n2\n#endif\n'
+  prunes 1 '#ifdef A\n#elifndef/**/X\n#endif\n' -UA '#ifndef/**/X\n#endif\n'
+  prunes 1 '#ifdef A\n#elif!X\n#elif Y\n#endif' -UA '#if!X\n#elif Y\n#endif'
+  prunes 1 '#ifdef A\n#elif X || \\\n  Y\n#endif\n' -UA '#if X || \\\n  Y\n#endif\n'
+  prunes 1 '#ifdef A\n#elif X || A || Y\n#endif\n' -UA '#if X || Y\n#endif\n'
+  prunes 1 '#ifdef A\n1\n#elif X\n#endif\n' '-b -UA' '\n\n#if X\n#endif\n'
+}
+
 # Options that say how conditions are decided, and those that -p refuses.
 test_pruned_by_options() {
   local words

@@ -82,6 +82,7 @@ with_flag s c = record {
   blank = has_letter (codes "bl") c || s.blank;
   complement = has_letter (codes "c") c || s.complement;
   renumber = has_letter (codes "n") c || s.renumber;
+  unpadded = s.unpadded;
   listing = listing_with s.listing c;
   exit_mode = s.exit_mode;
 }

@@ -1,5 +1,5 @@
 -- Plans: the plan of a run, as set by the arguments of a command line.
-use Rattle.std.specs.Prelude.{◌≡◌, ℕ, List, Option, None}
+use Rattle.std.specs.Prelude.{◌≡◌, ℕ, List, Bool, Option, None}
 use Rattle.std.specs.List.{filter_map}
 use Rattle.ud_model.specs.declared.settings.Settings.{Settings}
 use Rattle.ud_model.specs.conditions.Table.{Argument}
@@ -32,6 +32,11 @@ pub record PlanRepresents (plan : PlanState) (gs : List ParsedArg) : Type 0 wher
   pub said : plan.settings ≡ settings_in gs
   pub represents : TableRepresents plan.symbols (filter_map argument_in gs)
   pub index : plan.operand ≡ operand_index (operand_in gs)
+
+-- `with_unpadded unpadded plan`: the plan, without spaces for lost bytes if `unpadded`
+abbrev pub with_unpadded : Bool → PlanState → PlanState
+with_unpadded unpadded plan =
+    record plan { settings = record plan.settings { unpadded = unpadded } }
 
 -- `ForOptionsOf plan P`: `P` is true of the options that the plan represents
 abbrev pub ForOptionsOf : PlanState → (Options → Type 0) → Type 0

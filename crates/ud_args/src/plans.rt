@@ -48,6 +48,8 @@ impl Model for Plan {
 }
 
 impl Plan {
+    ghost use Rattle.ud_args.specs.Plans.{with_unpadded};
+
     /// Returns the settings as given: `renumber` stays true with `blank`, and both with a listing.
     pub fn settings(&self) -> Settings
         ensures { result ≡ self.now.settings }
@@ -68,6 +70,17 @@ impl Plan {
         ensures { result ≡ self.now.operand }
     {
         self.operand
+    }
+
+    /// Returns the plan under which, if `unpadded`, no spaces replace the lost bytes of a keyword.
+    pub fn with_unpadded(self, unpadded: bool) -> Plan
+        ensures { result ≡ with_unpadded unpadded self }
+    {
+        let settings = Settings {
+            unpadded,
+            ..self.settings
+        };
+        Plan { settings, ..self }
     }
 }
 

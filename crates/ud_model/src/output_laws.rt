@@ -31,7 +31,8 @@ pub fn law_reread()
         (ns : Nodes Reading) → IsTreeOf o input (closed ns) →
         (us : Nodes Reading) × IsTreeOf o r.output (closed us) }
     ensures left { (k : CleanRun) (ps : Nodes (Edited Reading)) → IsPruned k.before ps →
-        with_lines line_bytes k.after ≡ with_lines edited_bytes ps }
+        with_lines line_bytes k.after ≡
+        with_lines (edited_bytes k.options.settings.unpadded) ps }
     ensures undecided { (k : CleanRun) → IsUndecided k.after }
     ensures again { (o : Options) (input : List ℕ) (r : Outcome) → IsClean o input r →
         LinesFit (lines_of r.output) → HasOutcome o r.output

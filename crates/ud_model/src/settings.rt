@@ -39,6 +39,9 @@ pub struct Settings {
     pub complement: bool,
     /// A `#line` directive follows deleted lines (`-n`).
     pub renumber: bool,
+    /// No spaces replace the bytes that are lost if an `#elif` becomes an `#if` (`-p` of
+    /// unifdef-tree).
+    pub unpadded: bool,
     /// The list that is printed in place of the text (`-s`, `-S`).
     pub listing: Listing,
     /// The meaning of the exit status (`-x`).

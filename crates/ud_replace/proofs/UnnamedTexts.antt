@@ -20,7 +20,7 @@ use Rattle.ud_model.specs.declared.kind.Role.{Role}
 use Rattle.ud_model.specs.declared.kind.Role.TheVariants.{IfGroup, ElifGroup, ElseGroup, EndifLine}
 use Rattle.ud_model.specs.sections.Directives.{Directive, Content, directive, text, cut_keyword, content_of, is_outside, role_of}
 use Rattle.ud_model.specs.sections.Tree.{Item, Nodes, Tree, closed, open_section, innermost}
-use Rattle.ud_model.specs.sections.Pruning.{Mark, marks}
+use Rattle.ud_model.specs.sections.Pruning.{marks}
 use Rattle.ud_model.specs.sections.Items.{Options, rules_of, directive_item, item_by, item_of, reading_of, line_of, mode_by, mode_after, read_after, next_item}
 use Rattle.ud_model.specs.sections.Faults.{AreFaultless, no_lines, one_more, ends_in_comment, last_number}
 use Rattle.ud_model.specs.conditions.Table.{Argument, entry_in}
@@ -43,7 +43,8 @@ use Rattle.ud_model.proofs.output.Each.{Each, each_parts, each_both}
 use Rattle.ud_model.proofs.output.EachLines.{IsOf, from_items}
 use Rattle.ud_model.proofs.output.Heeding.{Heeds, tree_heeds}
 use Rattle.ud_model.proofs.output.Sizes.{whole}
-use Rattle.ud_model.proofs.output.Undecided.{Stays, undecided_stay}
+use Rattle.ud_model.proofs.output.RereadLaws.{whole_pieces}
+use Rattle.ud_model.proofs.output.Undecided.{undecided_stay}
 use Rattle.ud_simplified.specs.FoldedTexts.{has_tab, folded_line, is_foldable, shown_break, shown_lines, logical_lines, folded_lines, folded_text, folded_readings, unnumbered}
 use Rattle.ud_simplified.specs.SimplifiedTexts.{keyword_end, left_line, may_change, line_by, simplified_line}
 use Rattle.ud_simplified.proofs.FoldedLines.{folded_shown}
@@ -271,10 +272,6 @@ module _ (o : Options) (off : o.settings.constants ≡ false) where
           open_all = each_both IsOpen xs (next_item o xs t l ∷ []) i.open_all (subst IsOpen (sym x) (item_open q p.1.0.read), tt);
         }
 
-    whole_pieces : (ys : List (Item Reading)) (ms : List Mark) → Each Stays ms → map (lone false false) (judged_lines ys ms) ≡ map whole (judged_lines ys ms)
-    whole_pieces (y ∷ ys) (m ∷ ms) h = grind (arith, whole_pieces ys ms h.1)
-    whole_pieces _ _ _ = refl
-
     module _ (unlisted : o.settings.listing ≡ Off) (unnumbered_run : o.settings.renumber ≡ false) (unblanked : o.settings.blank ≡ false) (uncomplemented : o.settings.complement ≡ false)
         (text : List ℕ) (quiet : Each (IsQuiet o.table) (read_as C text)) where
       nodes_copied : (xs : List (Item Reading)) (ns : Nodes Reading) → HasNoFault o (lines_of text) xs (closed ns) → output_by o.settings.listing o.settings xs (closed ns) ≡ text
@@ -284,8 +281,8 @@ module _ (o : Options) (off : o.settings.constants ≡ false) where
           let js : List Judged = judged_lines xs (marks (closed ns)) in
           let many : length xs ≡ length (marks (closed ns)) = cc (sound_lines g.sound, length_marks true (closed ns)) in
           let pieces : pieces_by (piece_after (style_of o.settings)) [] js ≡ map whole js =
-          pieces_lone o.settings.blank o.settings.complement o.settings.renumber [] js unnumbered_run
-          ∙ ap₂ (λ (b c : Bool). map (lone b c) js) unblanked uncomplemented ∙ whole_pieces xs (marks (closed ns)) (undecided_stay ns undecided) in
+          pieces_lone o.settings.unpadded o.settings.blank o.settings.complement o.settings.renumber [] js unnumbered_run
+          ∙ ap₂ (λ (b c : Bool). map (lone o.settings.unpadded b c) js) unblanked uncomplemented ∙ whole_pieces o.settings.unpadded xs (marks (closed ns)) (undecided_stay ns undecided) in
           ap (λ (q : Listing). output_by q o.settings xs (closed ns)) unlisted
           ∙ ap concat (pieces ∙ whole_lines_are xs (marks (closed ns)) many ∙ ap (map text_of) (sym g.are)) ∙ lines_join text
 

@@ -17,7 +17,7 @@
 -- Example: of a kept line `x` and a removed line `y`, the pieces are `x` and `y` after a byte 0,
 -- and the marks are `=` and 0.
 use Rattle.std.specs.Prelude.{◌≡◌, ℕ, List, [], ◌∷◌, Bool, bytes_eq, if◌then◌else◌, not, map}
-use Rattle.std.specs.Prelude.{◌&&◌, None, slice_index}
+use Rattle.std.specs.Prelude.{◌&&◌, None, slice_index, false}
 use Rattle.ud_model.specs.text.Lines.{text_of, texts_of}
 use Rattle.ud_model.specs.text.Scans.{Reading}
 use Rattle.ud_model.specs.sections.Items.{Options}
@@ -34,7 +34,7 @@ use Rattle.ud_replace.specs.declared.marked.TheConstants.{REMOVED}
 -- `plain_piece blank j`: what is printed for `j`. A removed line leaves its ending if `blank`.
 abbrev pub plain_piece : Bool → Judged → List ℕ
 plain_piece blank j = if is_removed j.verdict then (if blank then j.line.ending else [])
-    else piece_by j.verdict j.keyword j.line
+    else piece_by false j.verdict j.keyword j.line
 
 -- `mark_of blank j`: the mark of a removed line, or of one that another line replaces.
 abbrev pub mark_of : Bool → Judged → ℕ

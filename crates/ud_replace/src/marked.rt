@@ -63,7 +63,7 @@ impl Show for Marked {
         } else {
             &[]
         };
-        let pieces = Pieces::for_line(line, step, blank);
+        let pieces = Pieces::for_line(line, step, blank, false);
         if pieces.same() {
             return pieces;
         }
@@ -76,7 +76,7 @@ impl Show for Marked {
             verdict: Verdict::Keep,
             keyword: step.keyword,
         };
-        Pieces::for_line(line, whole, &[]).prepend(mark, line)
+        Pieces::for_line(line, whole, &[], false).prepend(mark, line)
     }
 
     fn line_output(&self, verdict: Verdict) -> LineOutput {

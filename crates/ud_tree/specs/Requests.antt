@@ -17,7 +17,7 @@ use Rattle.std.specs.List.{list_any}
 use Rattle.ud_model.specs.answer.CommandLine.{UsageFault, unknown_option, missing_argument}
 use Rattle.ud_model.specs.answer.CommandLine.{bad_symbol_in, bad_mode_in, too_many_files}
 use Rattle.ud_model.specs.answer.CommandLine as args
-use Rattle.ud_args.specs.Plans.{PlanRepresents}
+use Rattle.ud_args.specs.Plans.{PlanRepresents, with_unpadded}
 use Rattle.ud_args.specs.CommandLines.{Parsed, unknown, lacking, late}
 use Rattle.ud_args.specs.TreeWords.{first_fault, has_flag, has_symbols, unifdef_args, word_at}
 use Rattle.ud_args.specs.TreeWords.{patterns_in, paths_in, symbol_names}
@@ -85,12 +85,14 @@ shows_diffs gs = has_flag (codes "n") gs || has_flag (codes "d") gs
 
 -- `IsArgumentsOf gs args`: `args` has what is given: the options of unifdef(1), each other option,
 -- the patterns and the paths. `-r` asks for the conditions that still name a symbol or, with `-s`,
--- for those whose names can't all be listed. The options are compatible, and ask for something. No
--- pattern has a fault. Either paths are given, or `-0`.
+-- for those whose names can't all be listed. With `-p`, no spaces replace the lost bytes of a
+-- keyword. The options are compatible, and ask for something. No pattern has a fault. Either paths
+-- are given, or `-0`.
 pub record IsArgumentsOf (gs : List Parsed) (args : Arguments) : Type 0 where
   pub fitting : AreFitting gs
-  pub plan : PlanRepresents args.plan.run (unifdef_args gs)
+  pub plan : PlanRepresents (with_unpadded false args.plan.run) (unifdef_args gs)
   pub prunes : args.plan.prunes ≡ has_flag (codes "p") gs
+  pub unpadded : args.plan.run.settings.unpadded ≡ has_flag (codes "p") gs
   pub squeezes : args.plan.squeezes ≡ has_flag (codes "B") gs
   pub marks : args.plan.marks ≡ shows_diffs gs
   pub patterns : map string_bytes args.patterns.items ≡ patterns_in gs

@@ -4,6 +4,7 @@ ghost use Rattle.std.specs.Prelude.{◌≡◌, None, IfOk, IfErr, IfSome, IfNone
 ghost use Rattle.std.specs.Prelude.{◌∷◌, [], codes, true};
 ghost use Rattle.ud_args.specs.ParsedArgs.{parsed};
 ghost use Rattle.ud_args.specs.ParsedSettings.{IsUsageOf};
+ghost use Rattle.ud_args.specs.Plans.{with_unpadded};
 ghost use Rattle.ud_args.specs.TreeWords.{given_in, first_fault, has_flag, patterns_in};
 ghost use Rattle.ud_args.specs.TreeWords.{unifdef_args};
 ghost use Rattle.ud_tree.specs.PatternFaults.{first_bad};
@@ -318,13 +319,13 @@ fn run_of(alloc: Global, given: &[ParsedArg<'_>]) -> Result<Arguments, ArgumentF
 /// Returns the plan for each text: the run over it, the passes over its output, and whether diffs
 /// are shown.
 fn text_plan(run: Plan, given: &[ParsedArg<'_>]) -> TextPlan
-    ensures run { result.run ≡ run }
+    ensures run { result.run ≡ with_unpadded (has_flag (codes "p") (parsed given.now)) run }
     ensures prunes { result.prunes ≡ has_flag (codes "p") (parsed given.now) }
     ensures squeezes { result.squeezes ≡ has_flag (codes "B") (parsed given.now) }
     ensures marks { result.marks ≡ shows_diffs (parsed given.now) }
 {
     TextPlan {
-        run,
+        run: run.with_unpadded(has_flag(given, 'p')),
         prunes: has_flag(given, 'p'),
         squeezes: has_flag(given, 'B'),
         marks: has_flag(given, 'n') || has_flag(given, 'd'),

@@ -1,5 +1,5 @@
 -- Under `-b` each line of the output has the position of the line that it is the output for.
-use Rattle.std.proofs.Common.{◌≡◌, ◌≢◌, None, append-nil, ℕ, suc, List, [], ◌∷◌, ◌++◌, map, Bool, true, ◌⊎◌, inl, inr, Option, refl, sym, ◌∙◌, ap, ap₂, subst, arith, rules}
+use Rattle.std.proofs.Common.{◌≡◌, ◌≢◌, None, append-nil, ℕ, suc, List, [], ◌∷◌, ◌++◌, map, Bool, true, false, ◌⊎◌, inl, inr, Option, refl, sym, ◌∙◌, ap, ap₂, subst, arith, rules}
 use Rattle.std.specs.List.{concat}
 use Rattle.ud_model.specs.text.Lines.{Line, line_at, lines_of, texts_of, numbered_from, ending_of, IsWhole, IsUnterminated, AreWhole, AreFormed, whole_lines, partial_line, last_line}
 use Rattle.ud_model.specs.text.Scans.{Reading}
@@ -26,18 +26,18 @@ use Rattle.ud_model.proofs.sections.Soundness.{one_run}
 
 -- 1. The pieces.
 
-blank_piece : (c n : Bool) (before : List Judged) (j : Judged) → piece_after (record { blank = true; complement = c; renumber = n }) before j ≡ blanked c j
+blank_piece : (c n : Bool) (before : List Judged) (j : Judged) → piece_after (record { blank = true; complement = c; renumber = n; unpadded = false }) before j ≡ blanked c j
 blank_piece c n before j = grind arith
 
 -- Under `-b` each line is printed by itself.
-pub blank_pieces : (c n : Bool) (before js : List Judged) → pieces_by (piece_after (record { blank = true; complement = c; renumber = n })) before js ≡ map (blanked c) js
+pub blank_pieces : (c n : Bool) (before js : List Judged) → pieces_by (piece_after (record { blank = true; complement = c; renumber = n; unpadded = false })) before js ≡ map (blanked c) js
 blank_pieces c n before [] = refl
 blank_pieces c n before (j ∷ js) = ap₂ (λ (p : List ℕ) (ps : List (List ℕ)). p ∷ ps) (blank_piece c n before j) (blank_pieces c n (before ++ j ∷ []) js)
 
 -- 2. The lines that they are.
 
 -- A line that is left is printed by its verdict.
-left_alone : (v : Verdict) (k : Span) (l : Line) → IsLeft v → piece_alone true (record { line = l; verdict = v; keyword = k }) ≡ piece_by v k l
+left_alone : (v : Verdict) (k : Span) (l : Line) → IsLeft v → piece_alone false true (record { line = l; verdict = v; keyword = k }) ≡ piece_by false v k l
 left_alone v k l h = grind arith
 
 ending_alone : (m : ℕ) (e : List ℕ) → IsEnd e → line_at m e ≡ record { body = []; ending = e; number = m }
@@ -49,15 +49,15 @@ ending_whole e (inr h) = ([], tt, h)
 
 -- The output for one line: a line with the same number and ending.
 record Placed (j : Judged) (n : ℕ) (t : List ℕ) : Type 0 where
-  pub ending : (line_at n (piece_alone true j)).ending ≡ ending_of t
-  pub formed : IsWhole t → IsWhole (piece_alone true j)
+  pub ending : (line_at n (piece_alone false true j)).ending ≡ ending_of t
+  pub formed : IsWhole t → IsWhole (piece_alone false true j)
 
 placed_by : (v : Verdict) (k : Span) (n : ℕ) (t : List ℕ) → (v ≡ Remove) ⊎ IsLeft v → IsWhole t → Placed (record { line = line_at n t; verdict = v; keyword = k }) n t
 placed_by v k n t (inl e) w = subst (λ (u : Verdict). Placed (record { line = line_at n t; verdict = u; keyword = k }) n t) (sym e)
     (record { ending = ap (λ (l : Line). l.ending) (ending_alone n (ending_of t) (whole_ending t w)); formed = λ _. ending_whole (ending_of t) (whole_ending t w) })
 placed_by v k n t (inr h) w = record {
-  ending = ap (λ (p : List ℕ). (line_at n p).ending) (left_alone v k (line_at n t) h) ∙ ap (λ (l : Line). l.ending) (left_line v k n n t h (inl w));
-  formed = λ _. subst IsWhole (sym (left_alone v k (line_at n t) h)) (whole_piece v k n t h w);
+  ending = ap (λ (p : List ℕ). (line_at n p).ending) (left_alone v k (line_at n t) h) ∙ ap (λ (l : Line). l.ending) (left_line false v k n n t h (inl w));
+  formed = λ _. subst IsWhole (sym (left_alone v k (line_at n t) h)) (whole_piece false v k n t h w);
 }
 
 placed : (j : Judged) (n : ℕ) (t : List ℕ) → j.line ≡ line_at n t → IsWhole t → Placed j n t
@@ -100,8 +100,8 @@ unended_placed c j n t e w = by_verdict (goes_or_left (complemented_if c j).verd
     none : j.line.ending ≡ []
     none = ap (λ (l : Line). l.ending) e ∙ ending_none t w.1
 
-    gone_piece : (i : Judged) → i.verdict ≡ Remove → piece_alone true i ≡ i.line.ending
-    gone_piece i v = ap (λ (u : Verdict). piece_alone true (record { line = i.line; verdict = u; keyword = i.keyword })) v
+    gone_piece : (i : Judged) → i.verdict ≡ Remove → piece_alone false true i ≡ i.line.ending
+    gone_piece i v = ap (λ (u : Verdict). piece_alone false true (record { line = i.line; verdict = u; keyword = i.keyword })) v
 
     by_verdict : ((complemented_if c j).verdict ≡ Remove) ⊎ IsLeft (complemented_if c j).verdict → Places c (j ∷ []) n
     by_verdict (inl v) =
@@ -109,12 +109,12 @@ unended_placed c j n t e w = by_verdict (goes_or_left (complemented_if c j).verd
         record { pieces = []; formed = tt; same = sym (ap (λ (x : List ℕ). x ++ []) empty); places = lost_line j none empty }
     by_verdict (inr h) = let v : Verdict = (complemented_if c j).verdict in
         let k : Span = (complemented_if c j).keyword in
-        let is = left_alone v k (complemented_if c j).line h ∙ ap (λ (l : Line). piece_by v k l) line in
+        let is = left_alone v k (complemented_if c j).line h ∙ ap (λ (l : Line). piece_by false v k l) line in
         let d : (line_at n (blanked c j)).ending ≡ ending_of t =
-        ap (λ (p : List ℕ). (line_at n p).ending) is ∙ ap (λ (l : Line). l.ending) (left_line v k n n t h (inr w)) in
+        ap (λ (p : List ℕ). (line_at n p).ending) is ∙ ap (λ (l : Line). l.ending) (left_line false v k n n t h (inr w)) in
         record {
           pieces = blanked c j ∷ [];
-          formed = inr (subst IsUnterminated (sym is) (unended_piece v k n t h w));
+          formed = inr (subst IsUnterminated (sym is) (unended_piece false v k n t h w));
           same = refl;
           places = one_line j (line_at n (blanked c j)) [] [] (in_place c j n t e d) no_line;
         }
@@ -154,13 +154,13 @@ pub judged_read : {o : Options} {input : List ℕ} {xs : List (Item Reading)} {t
 judged_read {xs = xs} {t = t} a = grind (arith, judged_all, length_marks, read_lines)
 
 pub blanked_places : (o : Options) (input : List ℕ) {xs : List (Item Reading)} {t : Tree Reading} {f : Option Fault} {r : Outcome} → o.settings.blank ≡ true → o.settings.listing ≡ Off →
-    ReadsAs o input xs t f → HasOutcome o input r → AreBlankedLines o.settings.complement (judged_lines xs (marks t)) (lines_of r.output)
-blanked_places o input {xs = xs} {t = t} {f = f} {r = r} b off a run =
+    o.settings.unpadded ≡ false → ReadsAs o input xs t f → HasOutcome o input r → AreBlankedLines o.settings.complement (judged_lines xs (marks t)) (lines_of r.output)
+blanked_places o input {xs = xs} {t = t} {f = f} {r = r} b off u a run =
     let c : Bool = o.settings.complement in
     let js : List Judged = judged_lines xs (marks t) in
     let ls = lines_read a in
     let p : Places c js 1 = all_placed c js 1 ls.0 (judged_read a ∙ ls.2) ls.1 in
-    let out : r.output ≡ concat p.pieces = cc (one_run run (ran_as a), off, b, blank_pieces c o.settings.renumber [] js, p.same) in
+    let out : r.output ≡ concat p.pieces = cc (one_run run (ran_as a), off, b, u, blank_pieces c o.settings.renumber [] js, p.same) in
     subst (AreBlankedLines c js) (sym (ap (λ (q : List ℕ). lines_of q) out ∙ output_lines p.pieces p.formed)) p.places
 
 -- 4. As many lines.
@@ -186,13 +186,13 @@ endings_of [] = refl
 endings_of (j ∷ js) = ap (λ (es : List (List ℕ)). j.line.ending ∷ es) (endings_of js)
 
 -- An input whose last line has an ending has an output with as many lines.
-pub as_many : (o : Options) (input : List ℕ) {r : Outcome} → o.settings.blank ≡ true → o.settings.listing ≡ Off → partial_line input ≡ [] → HasOutcome o input r → r.fault ≡ None →
+pub as_many : (o : Options) (input : List ℕ) {r : Outcome} → o.settings.blank ≡ true → o.settings.listing ≡ Off → o.settings.unpadded ≡ false → partial_line input ≡ [] → HasOutcome o input r → r.fault ≡ None →
     map (λ (k : Line). k.ending) (lines_of r.output) ≡ map (λ (l : Line). l.ending) (lines_of input)
-as_many o input b off e (ran_as (stops xs t f s)) h = cc
-as_many o input b off e (ran_as (ends xs t g)) h =
+as_many o input b off u e (ran_as (stops xs t f s)) h = cc
+as_many o input b off u e (ran_as (ends xs t g)) h =
     let js : List Judged = judged_lines xs (marks t) in
     let are : map (λ (j : Judged). j.line) js ≡ lines_of input = judged_read (ends xs t g) ∙ sym g.are in
     let whole = ap (λ (q : List ℕ). whole_lines input ++ last_line q) e ∙ append-nil (whole_lines input) in
-    same_endings (blanked_places o input b off (ends xs t g) (ran_as (ends xs t g)))
+    same_endings (blanked_places o input b off u (ends xs t g) (ran_as (ends xs t g)))
     (all_ended 1 (whole_lines input) js (are_whole input) (are ∙ ap (λ (ts : List (List ℕ)). numbered_from 1 ts) whole))
     ∙ endings_of js ∙ ap (λ (ls : List Line). map (λ (l : Line). l.ending) ls) are

@@ -58,16 +58,16 @@ bytes_of ys = map (λ y. line_bytes (reading_of y)) ys
 
 module _ (o : Options) (m : Mode) (xs : List (Item Reading)) (x : Item Reading) (t u : Tree Reading) (ys zs : List (Item Reading)) (mark : Mark)
     (more : marks u ≡ marks t ++ mark ∷ []) (long : length xs ≡ length (marks t)) (a : Again o m xs t ys) (b : Again o m (xs ++ x ∷ []) u zs) where
-  bytes_next : bytes_of zs ≡ bytes_of ys ++ map left_piece (kept_line mark.verdict x)
+  bytes_next : bytes_of zs ≡ bytes_of ys ++ map (left_piece o.settings.unpadded) (kept_line mark.verdict x)
   unfolding bytes_of
-  bytes_next = item_bytes zs (printed (xs ++ x ∷ []) (marks u)) b.same
-      ∙ ap (λ (ms : List Mark). map left_piece (printed (xs ++ x ∷ []) ms)) more
-      ∙ ap (λ (ws : List (Item (Edited Reading))). map left_piece ws) (printed-append xs (x ∷ []) (marks t) (mark ∷ []) long)
-      ∙ ap (λ (ws : List (Item (Edited Reading))). map left_piece (printed xs (marks t) ++ ws)) (append-nil (kept_line mark.verdict x))
-      ∙ map-append left_piece (printed xs (marks t)) (kept_line mark.verdict x)
-      ∙ ap (λ (bs : List (List ℕ)). bs ++ map left_piece (kept_line mark.verdict x)) (sym (item_bytes ys (printed xs (marks t)) a.same))
+  bytes_next = item_bytes o.settings.unpadded zs (printed (xs ++ x ∷ []) (marks u)) b.same
+      ∙ ap (λ (ms : List Mark). map (left_piece o.settings.unpadded) (printed (xs ++ x ∷ []) ms)) more
+      ∙ ap (λ (ws : List (Item (Edited Reading))). map (left_piece o.settings.unpadded) ws) (printed-append xs (x ∷ []) (marks t) (mark ∷ []) long)
+      ∙ ap (λ (ws : List (Item (Edited Reading))). map (left_piece o.settings.unpadded) (printed xs (marks t) ++ ws)) (append-nil (kept_line mark.verdict x))
+      ∙ map-append (left_piece o.settings.unpadded) (printed xs (marks t)) (kept_line mark.verdict x)
+      ∙ ap (λ (bs : List (List ℕ)). bs ++ map (left_piece o.settings.unpadded) (kept_line mark.verdict x)) (sym (item_bytes o.settings.unpadded ys (printed xs (marks t)) a.same))
 
-  lines_next : map line_of zs ≡ numbered_from 1 (bytes_of ys ++ map left_piece (kept_line mark.verdict x))
+  lines_next : map line_of zs ≡ numbered_from 1 (bytes_of ys ++ map (left_piece o.settings.unpadded) (kept_line mark.verdict x))
   unfolding bytes_of
   lines_next = b.numbered ∙ ap (λ (bs : List (List ℕ)). numbered_from 1 bs) bytes_next
 
@@ -77,21 +77,21 @@ module _ (o : Options) (m : Mode) (xs : List (Item Reading)) (x : Item Reading) 
   same_items e = grind (arith, read_once, lines_next, append-nil)
 
   -- Its piece is added.
-  one_more_item : IsLeft mark.verdict → zs ≡ with_line o m ys (line_behind (bytes_of ys) (piece_by mark.verdict (keyword_in (content_of (reading_of x).scan)) (line_of x)))
+  one_more_item : IsLeft mark.verdict → zs ≡ with_line o m ys (line_behind (bytes_of ys) (piece_by o.settings.unpadded mark.verdict (keyword_in (content_of (reading_of x).scan)) (line_of x)))
   unfolding bytes_of LeftOne
-  one_more_item h = by_one (left_one mark.verdict x)
+  one_more_item h = by_one (left_one o.settings.unpadded mark.verdict x)
     where
       p : List ℕ
-      p = piece_by mark.verdict (keyword_in (content_of (reading_of x).scan)) (line_of x)
+      p = piece_by o.settings.unpadded mark.verdict (keyword_in (content_of (reading_of x).scan)) (line_of x)
 
       no_left : (v : Verdict) → v ≡ Remove → IsLeft v → ⊥
       no_left v e h = subst IsLeft e h
 
-      by_one : (mark.verdict ≡ Remove) ⊎ LeftOne mark.verdict x → zs ≡ with_line o m ys (line_behind (bytes_of ys) p)
+      by_one : (mark.verdict ≡ Remove) ⊎ LeftOne o.settings.unpadded mark.verdict x → zs ≡ with_line o m ys (line_behind (bytes_of ys) p)
       by_one (inl e) = absurd (no_left mark.verdict e h)
       by_one (inr (y, is, bytes, left)) =
           read_once o m zs (with_line o m ys (line_behind (bytes_of ys) p)) b.read (one_read ys a.read (line_behind (bytes_of ys) p))
-          (lines_next ∙ ap (λ (ws : List (Item (Edited Reading))). numbered_from 1 (bytes_of ys ++ map left_piece ws)) is
+          (lines_next ∙ ap (λ (ws : List (Item (Edited Reading))). numbered_from 1 (bytes_of ys ++ map (left_piece o.settings.unpadded) ws)) is
           ∙ ap (λ (q : List ℕ). numbered_from 1 (bytes_of ys ++ q ∷ [])) bytes
           ∙ numbered_from-next (bytes_of ys) p [] ∙ ap (λ (ls : List Line). ls ++ line_behind (bytes_of ys) p ∷ []) (sym a.numbered)
           ∙ sym (lines_last o ys m (line_behind (bytes_of ys) p)))
@@ -118,19 +118,19 @@ feed_end e h = grind arith
 ends_or_not : (l : Line) → IsLine l → IsEnd l.ending ⊎ (l.ending ≡ [])
 ends_or_not l h = grind arith
 
-piece_whole : (v : Verdict) (k : Span) (l : Line) → IsLine l → HasEnd l → IsLeft v → IsWhole (piece_by v k l)
-piece_whole v k l (n, t, e, inl w) h left = subst (λ (j : Line). IsWhole (piece_by v k j)) (sym e) (whole_piece v k n t left w)
+piece_whole : (v : Verdict) (k : Span) (l : Line) → IsLine l → HasEnd l → IsLeft v → IsWhole (piece_by false v k l)
+piece_whole v k l (n, t, e, inl w) h left = subst (λ (j : Line). IsWhole (piece_by false v k j)) (sym e) (whole_piece false v k n t left w)
 piece_whole v k l (n, t, e, inr w) h left = absurd (h (ap (λ (k : Line). k.ending) e ∙ ending_none t w.1))
 
 some_ending : (t : List ℕ) → IsWhole t → ending_of t ≢ []
 some_ending t w = end_is_some (ending_of t) (whole_ending t w)
 
-piece_unended : (v : Verdict) (k : Span) (l : Line) → IsLine l → l.ending ≡ [] → IsLeft v → IsUnterminated (piece_by v k l)
+piece_unended : (v : Verdict) (k : Span) (l : Line) → IsLine l → l.ending ≡ [] → IsLeft v → IsUnterminated (piece_by false v k l)
 piece_unended v k l h g left = grind (arith, some_ending, unended_piece)
 
 -- 4. The lines, one at a time.
 
-module _ (o : Options) (m : Mode) (b n : Bool) (some : (b || n) ≡ true) where
+module _ (o : Options) (m : Mode) (b n : Bool) (some : (b || n) ≡ true) (padded : o.settings.unpadded ≡ false) where
   abbrev pub so_far : List (Item Reading) → Tree Reading → List Judged
   so_far xs t = judged_lines xs (marks t)
 
@@ -231,11 +231,11 @@ module _ (o : Options) (m : Mode) (b n : Bool) (some : (b || n) ≡ true) where
       pub qs : List (List ℕ)
       pub weave : Weave o m s.ys zs qs
       pub whole : AreWhole qs
-      pub same : concat qs ++ piece_by j.verdict j.keyword j.line ≡ shown (so_far (xs ++ x ∷ []) u)
+      pub same : concat qs ++ piece_by false j.verdict j.keyword j.line ≡ shown (so_far (xs ++ x ∷ []) u)
       pub count : (r p : Reading) → IsPrinted j r p → Counted (so_far (xs ++ x ∷ []) u) (map reading_of s.ys ++ r ∷ []) (map reading_of zs ++ p ∷ []) (suc j.line.number)
 
     -- Nothing is inserted.
-    ready_plain : s.next ≡ suc (length xs) → piece_of b n (so_far xs t) j ≡ piece_by j.verdict j.keyword j.line → Ready
+    ready_plain : s.next ≡ suc (length xs) → piece_of b n (so_far xs t) j ≡ piece_by false j.verdict j.keyword j.line → Ready
     ready_plain f g = record {
       zs = s.zs;
       qs = s.qs;
@@ -247,7 +247,7 @@ module _ (o : Options) (m : Mode) (b n : Bool) (some : (b || n) ≡ true) where
     }
 
     -- A number is inserted.
-    ready_number : ends_removed (marks t) ≡ true → piece_of b n (so_far xs t) j ≡ number_line j.line ++ piece_by j.verdict j.keyword j.line → Ready
+    ready_number : ends_removed (marks t) ≡ true → piece_of b n (so_far xs t) j ≡ number_line j.line ++ piece_by false j.verdict j.keyword j.line → Ready
     ready_number f g =
         let rest : LeavesOff s.ys in_text true false = rests_after o xs t s.ys m s.between f in
         let d : List ℕ = number_line j.line in
@@ -263,7 +263,7 @@ module _ (o : Options) (m : Mode) (b n : Bool) (some : (b || n) ≡ true) where
           qs = s.qs ++ d ∷ [];
           weave = w;
           whole = whole_more s.qs d s.whole (quiet_whole (says_number j.line.number) (ending_or_newline j.line.ending) (says_quiet j.line.number few) end);
-          same = cc (concat_more s.qs d, append_assoc (concat s.qs) d (piece_by j.verdict j.keyword j.line), s.same, g, shown_u);
+          same = cc (concat_more s.qs d, append_assoc (concat s.qs) d (piece_by false j.verdict j.keyword j.line), s.same, g, shown_u);
           count = λ r p h. subst
               (λ (js : List Judged). Counted js (map reading_of s.ys ++ r ∷ [])
               (map reading_of (with_line o m s.zs (line_behind s.qs d)) ++ p ∷ []) (suc j.line.number)) (sym js_u)
@@ -278,11 +278,11 @@ module _ (o : Options) (m : Mode) (b n : Bool) (some : (b || n) ≡ true) where
     ready : IsLeft v → Ready
     ready h = by_style b refl
       where
-        blank_piece : b ≡ true → piece_of b n (so_far xs t) j ≡ piece_by j.verdict j.keyword j.line
+        blank_piece : b ≡ true → piece_of b n (so_far xs t) j ≡ piece_by false j.verdict j.keyword j.line
         blank_piece f = ap (λ (c : Bool). piece_of c n (so_far xs t) j) f ∙ left_blank j.verdict n (so_far xs t) j.line j.keyword h
 
         number_piece : b ≡ false → (r : Bool) → last_removed (so_far xs t) ≡ r →
-            piece_of b n (so_far xs t) j ≡ (if r then number_line j.line else []) ++ piece_by j.verdict j.keyword j.line
+            piece_of b n (so_far xs t) j ≡ (if r then number_line j.line else []) ++ piece_by false j.verdict j.keyword j.line
         number_piece f r g = grind arith
 
         by_removed : b ≡ false → (r : Bool) → ends_removed (marks t) ≡ r → Ready
@@ -295,7 +295,7 @@ module _ (o : Options) (m : Mode) (b n : Bool) (some : (b || n) ≡ true) where
 
     -- The line in both outputs.
     abbrev p : List ℕ
-    p = piece_by j.verdict j.keyword j.line
+    p = piece_by false j.verdict j.keyword j.line
 
     printed_here : (h : IsLeft v) (r : Ready) → IsPrinted j (read_after s.ys m (line_behind (bytes_of s.ys) p)) (read_after r.zs m (line_behind r.qs p))
     printed_here h r = search (rules, left_stays, text_of-line_at, left_seen)
@@ -306,6 +306,7 @@ module _ (o : Options) (m : Mode) (b n : Bool) (some : (b || n) ≡ true) where
 
     items_left : IsLeft v → stepped.0 ≡ with_line o m s.ys (line_behind (bytes_of s.ys) p)
     items_left h = one_more_item o m xs x t u s.ys stepped.0 k.grown.mark k.more k.long s.between.again stepped.1 h
+        ∙ ap (λ (c : Bool). with_line o m s.ys (line_behind (bytes_of s.ys) (piece_by c j.verdict j.keyword j.line))) padded
 
     items_gone : v ≡ Remove → stepped.0 ≡ s.ys
     items_gone f = same_items o m xs x t u s.ys stepped.0 k.grown.mark k.more k.long s.between.again stepped.1 f

@@ -1,5 +1,5 @@
 -- The lines of a text under `-n` and `-b`, counted from the first to the last.
-use Rattle.std.proofs.Common.{◌≡◌, ℕ, suc, ◌+◌, ◌^◌, ◌<◌, ◌≤◌, List, [], ◌∷◌, ◌++◌, length, map, Bool, true, ◌||◌, Option, refl, sym, ◌∙◌, ap, subst, arith}
+use Rattle.std.proofs.Common.{◌≡◌, ℕ, suc, ◌+◌, ◌^◌, ◌<◌, ◌≤◌, List, [], ◌∷◌, ◌++◌, length, map, Bool, true, false, ◌||◌, Option, refl, sym, ◌∙◌, ap, subst, arith}
 use Rattle.std.specs.List.{concat}
 use Rattle.std.proofs.lemmas.List.{map-append}
 use Rattle.ud_model.specs.text.Lines.{Line, lines_of, numbered_from, AreFormed}
@@ -52,34 +52,34 @@ order_map : (xs : List (Item Reading)) → length (map line_of xs) ≡ length xs
 order_map [] = refl
 order_map (x ∷ xs) = ap (λ (k : ℕ). suc k) (order_map xs)
 
-module _ (o : Options) (p : IsPlain o) (b n : Bool) (some : (b || n) ≡ true) where
+module _ (o : Options) (p : IsPlain o) (b n : Bool) (some : (b || n) ≡ true) (padded : o.settings.unpadded ≡ false) where
   abbrev The : List (Item Reading) → Tree Reading → Type 0
-  The xs t = State o (the_mode o) b n some xs t
+  The xs t = State o (the_mode o) b n some padded xs t
 
   abbrev End : List (Item Reading) → Tree Reading → Type 0
-  End xs t = Done o (the_mode o) b n some xs t
+  End xs t = Done o (the_mode o) b n some padded xs t
 
   few : (xs : List (Item Reading)) (t : Tree Reading) (l : Line) → NoneHolds xs (next_item o xs t l) cases → l.number < 2 ^ 64
   few xs t l h = grind (arith, line_of-next_item)
 
   inside : {xs : List (Item Reading)} {t : Tree Reading} → AreFaultless o xs t → Each IsInner (map line_of xs) → InOrder 1 (map line_of xs) → The xs t
-  inside no_lines h i = first_state o (the_mode o) b n some
+  inside no_lines h i = first_state o (the_mode o) b n some padded
   inside (one_more xs t s l u e w) h i =
       let k = each_parts IsInner (map line_of xs) (l ∷ []) (subst (Each IsInner) (lines_with_next o xs t l) h) in
       let c = order_last 1 (map line_of xs) l (subst (InOrder 1) (lines_with_next o xs t l) i) in
       let same : next_item o xs t l ≡ item_of o (read_after xs (the_mode o) l) = next_is o p xs t l s in
       subst (λ (x : Item Reading). The (xs ++ x ∷ []) u) (sym same)
-      (next_state o (the_mode o) b n some xs t (sound_lines s) (inside s k.0 c.0) l u (c.1 ∙ ap (λ (d : ℕ). 1 + d) (order_map xs) ∙ omega arith) (few xs t l w)
+      (next_state o (the_mode o) b n some padded xs t (sound_lines s) (inside s k.0 c.0) l u (c.1 ∙ ap (λ (d : ℕ). 1 + d) (order_map xs) ∙ omega arith) (few xs t l w)
       (subst (λ (x : Item Reading). lines u ≡ xs ++ x ∷ []) same e) (subst (λ (x : Item Reading). NoneHolds xs x cases) same w) k.1.0.1 k.1.0.0)
 
   to_the_end : {xs : List (Item Reading)} {t : Tree Reading} → AreFaultless o xs t → AllButLast (map line_of xs) → InOrder 1 (map line_of xs) → End xs t
-  to_the_end no_lines h i = done o (the_mode o) b n some [] _ (first_state o (the_mode o) b n some)
+  to_the_end no_lines h i = done o (the_mode o) b n some padded [] _ (first_state o (the_mode o) b n some padded)
   to_the_end (one_more xs t s l u e w) h i =
       let k = ends_before (map line_of xs) l (subst AllButLast (lines_with_next o xs t l) h) in
       let c = order_last 1 (map line_of xs) l (subst (InOrder 1) (lines_with_next o xs t l) i) in
       let same : next_item o xs t l ≡ item_of o (read_after xs (the_mode o) l) = next_is o p xs t l s in
       subst (λ (x : Item Reading). End (xs ++ x ∷ []) u) (sym same)
-      (next_done o (the_mode o) b n some xs t (sound_lines s) (inside s k.0 c.0) l u (c.1 ∙ ap (λ (d : ℕ). 1 + d) (order_map xs) ∙ omega arith) (few xs t l w)
+      (next_done o (the_mode o) b n some padded xs t (sound_lines s) (inside s k.0 c.0) l u (c.1 ∙ ap (λ (d : ℕ). 1 + d) (order_map xs) ∙ omega arith) (few xs t l w)
       (subst (λ (x : Item Reading). lines u ≡ xs ++ x ∷ []) same e) (subst (λ (x : Item Reading). NoneHolds xs x cases) same w) k.1)
 
 -- Readings in one mode are those of their lines.
@@ -90,26 +90,26 @@ read_lines_in o m _ (one_read ys r l) = grind (arith, readings_last, read_lines_
 reads_sound : {o : Options} {input : List ℕ} {xs : List (Item Reading)} {t : Tree Reading} {f : Option Fault} → ReadsAs o input xs t f → AreFaultless o xs t
 reads_sound h = grind arith
 
-formed_pieces : (xs : List (Item Reading)) (t : Tree Reading) (ts : List (List ℕ)) → map line_of xs ≡ numbered_from 1 ts → AreFormed ts → AreFormed (map left_piece (printed xs (marks t)))
+formed_pieces : (u : Bool) (xs : List (Item Reading)) (t : Tree Reading) (ts : List (List ℕ)) → map line_of xs ≡ numbered_from 1 ts → AreFormed ts → AreFormed (map (left_piece u) (printed xs (marks t)))
 unfolding all_pieces
-formed_pieces xs t ts e f = all_formed xs (marks t) 1 ts e f
+formed_pieces u xs t ts e f = all_formed u xs (marks t) 1 ts e f
 
 -- Each line that is left has its own number.
-pub counted_text : (o : Options) → IsPlain o → (b n : Bool) → (b || n) ≡ true → (input : List ℕ) → {xs : List (Item Reading)} {t : Tree Reading} {f : Option Fault} {r s : Outcome} →
+pub counted_text : (o : Options) → IsPlain o → (b n : Bool) → (b || n) ≡ true → o.settings.unpadded ≡ false → (input : List ℕ) → {xs : List (Item Reading)} {t : Tree Reading} {f : Option Fault} {r s : Outcome} →
     ReadsAs o input xs t f → HasOutcome o input r → HasOutcome (with_blank_renumber b n o) input s →
     (k : ℕ) × Counted (judged_lines xs (marks t)) (read_as (the_mode o) r.output) (read_as (the_mode o) s.output) k
-counted_text o p b n some input {xs = xs} {t = t} {r = r} {s = s} a run other =
+counted_text o p b n some padded input {xs = xs} {t = t} {r = r} {s = s} a run other =
     let js : List Judged = judged_lines xs (marks t) in
     let m : Mode = the_mode o in
     let ls = lines_read a in
-    let d : Done o m b n some xs t =
-    to_the_end o p b n some (reads_sound a) (subst AllButLast (sym ls.2) (lines_end 1 ls.0 ls.1)) (subst (InOrder 1) (sym ls.2) (numbered_in_order 1 ls.0)) in
-    let plain : r.output ≡ concat (map left_piece (printed xs (marks t))) = cc (one_run run (ran_as a), p.unlisted, plain_output o p xs (marks t)) in
+    let d : Done o m b n some padded xs t =
+    to_the_end o p b n some padded (reads_sound a) (subst AllButLast (sym ls.2) (lines_end 1 ls.0 ls.1)) (subst (InOrder 1) (sym ls.2) (numbered_in_order 1 ls.0)) in
+    let plain : r.output ≡ concat (map (left_piece o.settings.unpadded) (printed xs (marks t))) = cc (one_run run (ran_as a), p.unlisted, plain_output o p xs (marks t)) in
     let first : lines_of r.output ≡ map line_of d.ys =
-    ap (λ (q : List ℕ). lines_of q) plain ∙ output_lines (map left_piece (printed xs (marks t))) (formed_pieces xs t ls.0 ls.2 ls.1)
-    ∙ ap (λ (ps : List (List ℕ)). numbered_from 1 ps) (sym (item_bytes d.ys (printed xs (marks t)) d.again.same)) ∙ sym d.again.numbered in
+    ap (λ (q : List ℕ). lines_of q) plain ∙ output_lines (map (left_piece o.settings.unpadded) (printed xs (marks t))) (formed_pieces o.settings.unpadded xs t ls.0 ls.2 ls.1)
+    ∙ ap (λ (ps : List (List ℕ)). numbered_from 1 ps) (sym (item_bytes o.settings.unpadded d.ys (printed xs (marks t)) d.again.same)) ∙ sym d.again.numbered in
     let e = reads_too o (with_blank_renumber b n o) refl refl refl a in
-    let out : s.output ≡ concat d.qs = cc (one_run other (ran_as e), p.unlisted, p.uncomplemented, d.same) in
+    let out : s.output ≡ concat d.qs = cc (one_run other (ran_as e), p.unlisted, p.uncomplemented, padded, d.same) in
     let second = ap (λ (q : List ℕ). lines_of q) out ∙ output_lines d.qs d.formed ∙ sym d.are in (
       d.next,
       subst (λ (rs : List Reading). Counted js rs (read_as m s.output) d.next) (read_lines_in o m d.ys d.again.read ∙ ap (λ (ks : List Line). read_in m ks) (sym first))
@@ -119,7 +119,7 @@ counted_text o p b n some input {xs = xs} {t = t} {r = r} {s = s} a run other =
 -- Each line of an outcome with `-b` or `-n` is counted.
 pub counted_lines : (o : Options) (input : List ℕ) {js : List Judged} {r s : Outcome} → AddsNumbers o input r s → JudgedAs o input js →
     CountsLines o js r.output s.output
-counted_lines o input k (judged_as reads) = counted_text o k.plain k.blank k.renumber k.some input reads k.runs k.numbered
+counted_lines o input k (judged_as reads) = counted_text o k.plain k.blank k.renumber k.some k.padded input reads k.runs k.numbered
 
 module _ (o : Options) where
   few_items : {xs : List (Item Reading)} {t : Tree Reading} → AreFaultless o xs t → Each (λ (l : Line). l.number ≤ TEXT_LINES) (map line_of xs)

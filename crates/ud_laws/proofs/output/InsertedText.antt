@@ -1,6 +1,6 @@
 -- The tree of an output under `-n` or `-b` is that of the output without them, with the inserted
 -- lines.
-use Rattle.std.proofs.Common.{◌≡◌, ℕ, List, [], ◌∷◌, ◌++◌, map, Bool, true, ◌||◌, refl, sym, ◌∙◌, ap, ap₂, subst, arith}
+use Rattle.std.proofs.Common.{◌≡◌, ℕ, List, [], ◌∷◌, ◌++◌, map, Bool, true, false, ◌||◌, refl, sym, ◌∙◌, ap, ap₂, subst, arith}
 use Rattle.std.proofs.lemmas.List.{map-append}
 use Rattle.ud_model.specs.text.Lines.{Line, lines_of}
 use Rattle.ud_model.specs.text.Scans.{Reading}
@@ -55,12 +55,12 @@ module _ (o : Options) (n : NoneIgnores o.table) where
       grind (arith, one_mode, read_lines, all_heed, items_more, lines_with_next, items_are a)
 
 -- The output's tree.
-pub inserted_in_text : (o : Options) → IsPlain o → (b n : Bool) → (b || n) ≡ true → (input : List ℕ) → {r s : Outcome} →
+pub inserted_in_text : (o : Options) → IsPlain o → (b n : Bool) → (b || n) ≡ true → o.settings.unpadded ≡ false → (input : List ℕ) → {r s : Outcome} →
     HasOutcome o input r → HasOutcome (with_blank_renumber b n o) input s → (us : Nodes Reading) →
     IsTreeOf o r.output (closed us) → (vs : Nodes Reading) × IsTreeOf o s.output (closed vs) × NodesWithInserted IsInserted us vs
-inserted_in_text o p b n some input {r = r} {s = s} run other us a = let m : Mode = the_mode o in
+inserted_in_text o p b n some padded input {r = r} {s = s} run other us a = let m : Mode = the_mode o in
     let z = reading_exists o input in
-    let c = counted_text o p b n some input z.3 run other in
+    let c = counted_text o p b n some padded input z.3 run other in
     let zs : List (Item Reading) = items o (read_as m s.output) in
     let first : lines_of_nodes us ≡ items o (read_as m r.output) = cc (read_lines a.read, items_are o p.none_ignores a.read, a.are) in
     let w = weave_inserted us zs (subst (λ (ys : List (Item Reading)). Inserted ys zs) (sym first) (strewn_counted o c.1)) in (

@@ -143,7 +143,7 @@ module _ (o : Options) (m : Mode) (ys zs : List (Item Reading)) (qs : List (List
 
 -- Lines are blanked, or numbered.
 abbrev pub style : Bool → Bool → Style
-style b n = record { blank = b; complement = false; renumber = n }
+style b n = record { blank = b; complement = false; renumber = n; unpadded = false }
 
 abbrev pub piece_of : Bool → Bool → List Judged → Judged → List ℕ
 piece_of b n = piece_after (style b n)
@@ -152,7 +152,7 @@ pub gone_blank : (n : Bool) (before : List Judged) (j : Judged) → j.verdict �
 gone_blank n before j e = grind arith
 
 pub left_blank : (v : Verdict) (n : Bool) (before : List Judged) (l : Line) (k : Span) → IsLeft v →
-    piece_of true n before (record { line = l; verdict = v; keyword = k }) ≡ piece_by v k l
+    piece_of true n before (record { line = l; verdict = v; keyword = k }) ≡ piece_by false v k l
 left_blank v n before l k h = grind arith
 
 -- The last judged line is removed if the last mark means so.

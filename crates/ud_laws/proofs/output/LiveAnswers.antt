@@ -61,9 +61,9 @@ module _ (k : CleanRun) where
   -- The text lines of the output have the bytes of these.
   left_bytes : map line_bytes (text_lines_in (lines_of_nodes k.after)) ≡ map line_bytes left_lines
   left_bytes =
-      sym (text_bytes line_bytes k.after) ∙ ap (λ (us : Nodes (List ℕ)). text_lines_in (lines_of_nodes us)) (what_is_left k) ∙ text_bytes edited_bytes (folded k.before)
-      ∙ ap (λ (xs : List (Item (Edited Reading))). map edited_bytes (text_lines_in xs)) (sym (printed-pruned k.before))
-      ∙ ap (λ (es : List (Edited Reading)). map edited_bytes es) (sym (texts_stay k.before 1 run_rise)) ∙ kept_bytes left_lines
+      sym (text_bytes line_bytes k.after) ∙ ap (λ (us : Nodes (List ℕ)). text_lines_in (lines_of_nodes us)) (what_is_left k) ∙ text_bytes (edited_bytes k.options.settings.unpadded) (folded k.before)
+      ∙ ap (λ (xs : List (Item (Edited Reading))). map (edited_bytes k.options.settings.unpadded) (text_lines_in xs)) (sym (printed-pruned k.before))
+      ∙ ap (λ (es : List (Edited Reading)). map (edited_bytes k.options.settings.unpadded) es) (sym (texts_stay k.before 1 run_rise)) ∙ kept_bytes k.options.settings.unpadded left_lines
 
 -- The run of an answer, with the trees of its input and its output.
 abbrev run_of : (o : Options) (input : List ℕ) (r : Outcome) → HasOutcome o input r → r.fault ≡ None → IsPlain o → (ns us : Nodes Reading) → IsTreeOf o input (closed ns) →

@@ -53,9 +53,9 @@ answered_with_added {name = name} {input = input} (added before after w adds) ne
 
 -- under `-b` there are as many lines
 pub answered_as_many : {args : List (List ℕ)} {input : List ℕ} {a : Answer} → (options_of args).settings.blank ≡ true →
-    (options_of args).settings.listing ≡ Off → partial_line input ≡ [] → IsAnswer args input a → a.status ≢ 2 →
+    (options_of args).settings.listing ≡ Off → (options_of args).settings.unpadded ≡ false → partial_line input ≡ [] → IsAnswer args input a → a.status ≢ 2 →
     map (λ (k : Line). k.ending) (lines_of a.output) ≡ map (λ (l : Line). l.ending) (lines_of input)
-answered_as_many h g k m q = grind (arith, absurd, as_many)
+answered_as_many h g u k m q = grind (arith, absurd, as_many)
 
 -- and each is at its place
 pub answered_places : {args : List (List ℕ)} {input : List ℕ} {js : List Judged} {a : Answer} → Blanks (options_of args) → usage_fault args ≡ None →
@@ -128,7 +128,7 @@ answered_selects_numbered {args = args} {more = more} {input = input} {a = a} {c
     by_runs (ran r e d) m (refused f q) ns us i j w v t = absurd (none-some f (sym k.keeps.no_fault ∙ q))
     by_runs (ran r e d) m (ran s q h) ns us i j w v t =
         let x : AddsNumbers (options_of args) input r s = numbered_run k.plain k.keeps d h in
-        let z = inserted_in_text (options_of args) x.plain x.blank x.renumber x.some input x.runs x.numbered us j in
+        let z = inserted_in_text (options_of args) x.plain x.blank x.renumber x.some x.padded input x.runs x.numbered us j in
         record {
           nodes = z.0;
           is_tree = z.1;

@@ -104,7 +104,7 @@ module _ {S F L M : Type 0} (p : Preprocessor S F L) (q : Preprocessor S F M) wh
 
 -- 3. Lines that were read alike.
 
-module _ {S F : Type 0} (takes : S → List ℕ → Scan → S → Type 0) (enters : S → List ℕ → Scan → F → S → Type 0) (leaves : S → S → Type 0) (decides : S → Condition → Bool → S → Type 0) where
+module _ (u : Bool) {S F : Type 0} (takes : S → List ℕ → Scan → S → Type 0) (enters : S → List ℕ → Scan → F → S → Type 0) (leaves : S → S → Type 0) (decides : S → Condition → Bool → S → Type 0) where
   abbrev p : Preprocessor S F Reading
   p = over_readings takes enters leaves decides
 
@@ -121,19 +121,19 @@ module _ {S F : Type 0} (takes : S → List ℕ → Scan → S → Type 0) (ente
   text_is v l h = grind arith
 
   -- The line has the bytes and the scan of the one from which it comes.
-  text_same : (e : Edited Reading) (l : Reading) → left_seen e ≡ scanned l → TextStays e → (line_bytes e.line ≡ line_bytes l) × (e.line.scan ≡ l.scan)
+  text_same : (e : Edited Reading) (l : Reading) → left_seen u e ≡ scanned l → TextStays e → (line_bytes e.line ≡ line_bytes l) × (e.line.scan ≡ l.scan)
   text_same e l q h = grind (arith, text_is, scan_of, text_stays)
 
-  text_by : (e : Edited Reading) (l : Reading) → left_seen e ≡ scanned l → TextStays e → TextAlike out p e l
+  text_by : (e : Edited Reading) (l : Reading) → left_seen u e ≡ scanned l → TextStays e → TextAlike out p e l
   text_by e l q h = let i = text_same e l q h in record {
     takes = λ s t g. subst (λ (c : Scan). takes s (line_bytes l) c t) i.1 (subst (λ (b : List ℕ). takes s b e.line.scan t) i.0 g);
     enters = λ s f t g. subst (λ (c : Scan). enters s (line_bytes l) c f t) i.1 (subst (λ (b : List ℕ). enters s b e.line.scan f t) i.0 g);
   }
 
-  opener_same : (e : Edited Reading) (l : Reading) → left_seen e ≡ scanned l → KeepsCondition e.verdict → condition_on e.line ≡ condition_on l
+  opener_same : (e : Edited Reading) (l : Reading) → left_seen u e ≡ scanned l → KeepsCondition e.verdict → condition_on e.line ≡ condition_on l
   opener_same e l q h = grind (arith, q)
 
-  opener_by : (o : Opener (Edited Reading)) (k : Opener Reading) → left_seen o.line ≡ scanned k.line → KeepsCondition o.line.verdict → OpenerAlike out p o k
+  opener_by : (o : Opener (Edited Reading)) (k : Opener Reading) → left_seen u o.line ≡ scanned k.line → KeepsCondition o.line.verdict → OpenerAlike out p o k
   opener_by o k q h = λ s b t d. subst (λ (c : Condition). decides s c b t) (opener_same o.line k.line q h) d
 
   abbrev Alike : Nodes (Edited Reading) → Nodes Reading → Type 0
@@ -141,38 +141,38 @@ module _ {S F : Type 0} (takes : S → List ℕ → Scan → S → Type 0) (ente
 
   mutual
     -- Nodes whose lines have the parts of others are so, if those lines stay.
-    pub nodes_alike : (ms : Nodes (Edited Reading)) (us : Nodes Reading) → with_lines left_seen ms ≡ with_lines scanned us → Stay ms → Alike ms us
+    pub nodes_alike : (ms : Nodes (Edited Reading)) (us : Nodes Reading) → with_lines (left_seen u) ms ≡ with_lines scanned us → Stay ms → Alike ms us
     nodes_alike nothing nothing q h = nothing_alike
     nodes_alike (text ms e) (text us l) q h =
-        let a : with_lines left_seen ms ≡ with_lines scanned us = cc in
-        let b : left_seen e ≡ scanned l = cc in
+        let a : with_lines (left_seen u) ms ≡ with_lines scanned us = cc in
+        let b : left_seen u e ≡ scanned l = cc in
         text_alike (nodes_alike ms us a h.0) (text_by e l b h.1)
     nodes_alike (section ms gs e) (section us hs l) q h =
-        let a : with_lines left_seen ms ≡ with_lines scanned us = cc in
-        let b : groups_with_lines left_seen gs ≡ groups_with_lines scanned hs = cc in
+        let a : with_lines (left_seen u) ms ≡ with_lines scanned us = cc in
+        let b : groups_with_lines (left_seen u) gs ≡ groups_with_lines scanned hs = cc in
         section_alike (nodes_alike ms us a h.0) (groups_alike gs hs b h.1)
     nodes_alike _ _ q h = cc
 
     groups_alike : (gs : Groups (Edited Reading)) (hs : Groups Reading) →
-        groups_with_lines left_seen gs ≡ groups_with_lines scanned hs → GroupLines TextStays OpenerStays gs → GroupsDone out p gs hs
+        groups_with_lines (left_seen u) gs ≡ groups_with_lines scanned hs → GroupLines TextStays OpenerStays gs → GroupsDone out p gs hs
     groups_alike (conditional es) (conditional fs) q h =
-        let a : elifs_with_lines left_seen es ≡ elifs_with_lines scanned fs = cc in conditional_alike (elifs_alike es fs a h)
+        let a : elifs_with_lines (left_seen u) es ≡ elifs_with_lines scanned fs = cc in conditional_alike (elifs_alike es fs a h)
     groups_alike (otherwise es e ms) (otherwise fs l us) q h =
-        let a : elifs_with_lines left_seen es ≡ elifs_with_lines scanned fs = cc in
-        let b : with_lines left_seen ms ≡ with_lines scanned us = cc in
+        let a : elifs_with_lines (left_seen u) es ≡ elifs_with_lines scanned fs = cc in
+        let b : with_lines (left_seen u) ms ≡ with_lines scanned us = cc in
         otherwise_alike (elifs_alike es fs a h.0) (nodes_alike ms us b h.1)
     groups_alike _ _ q h = cc
 
-    elifs_alike : (es : Elifs (Edited Reading)) (fs : Elifs Reading) → elifs_with_lines left_seen es ≡ elifs_with_lines scanned fs → ElifLines TextStays OpenerStays es → ElifsDone out p es fs
+    elifs_alike : (es : Elifs (Edited Reading)) (fs : Elifs Reading) → elifs_with_lines (left_seen u) es ≡ elifs_with_lines scanned fs → ElifLines TextStays OpenerStays es → ElifsDone out p es fs
     elifs_alike (first o ms) (first k us) q h =
-        let a : with_lines left_seen ms ≡ with_lines scanned us = cc in
-        let c : opener_with_line left_seen o ≡ opener_with_line scanned k = cc in
-        let b : left_seen o.line ≡ scanned k.line = ap (λ (x : Opener Seen). x.line) c in
+        let a : with_lines (left_seen u) ms ≡ with_lines scanned us = cc in
+        let c : opener_with_line (left_seen u) o ≡ opener_with_line scanned k = cc in
+        let b : left_seen u o.line ≡ scanned k.line = ap (λ (x : Opener Seen). x.line) c in
         first_alike (opener_by o k b h.0) (nodes_alike ms us a h.1)
     elifs_alike (elif es o ms) (elif fs k us) q h =
-        let a : with_lines left_seen ms ≡ with_lines scanned us = cc in
-        let c : opener_with_line left_seen o ≡ opener_with_line scanned k = cc in
-        let b : left_seen o.line ≡ scanned k.line = ap (λ (x : Opener Seen). x.line) c in
-        let d : elifs_with_lines left_seen es ≡ elifs_with_lines scanned fs = cc in
+        let a : with_lines (left_seen u) ms ≡ with_lines scanned us = cc in
+        let c : opener_with_line (left_seen u) o ≡ opener_with_line scanned k = cc in
+        let b : left_seen u o.line ≡ scanned k.line = ap (λ (x : Opener Seen). x.line) c in
+        let d : elifs_with_lines (left_seen u) es ≡ elifs_with_lines scanned fs = cc in
         elif_alike (elifs_alike es fs d h.0) (opener_by o k b h.1) (nodes_alike ms us a h.2)
     elifs_alike _ _ q h = cc

@@ -53,8 +53,8 @@ lines_text o input ns i = grind (arith, common_steps, from_items, IsText, AnyOpe
 
 -- 2. The nodes that pruning leaves of each file.
 
-kept_seen : (ns : Nodes Reading) → with_lines left_seen (with_lines (edited Keep) ns) ≡ with_lines scanned ns
-kept_seen ns = with_lines-twice (edited Keep) left_seen ns
+kept_seen : (u : Bool) (ns : Nodes Reading) → with_lines (left_seen u) (with_lines (edited Keep) ns) ≡ with_lines scanned ns
+kept_seen u ns = with_lines-twice (edited Keep) (left_seen u) ns
 
 -- The answer without a fault is the output of a run.
 pub answer_output : {args : List (List ℕ)} {input : List ℕ} {a : Answer} → IsAnswer args input a → a.status ≢ 2 → IsPrinted (options_of args) input a.output
@@ -94,14 +94,14 @@ module _ (o : Options) (plain : IsPlainC o) {S F : Type 0} (takes : S → List �
         nodes = folded ns;
         output = is_pruned (nodes_right o takes enters leaves decides as_c ns
             (subst (λ (ms : List Mark). Pairwise (Clear o) (lines_of_nodes ns) ms) (marks_so_far_same true (closed ns)) (clear_run d e ns b)));
-        alike = nodes_alike takes enters leaves decides (folded ns) us (sym (seen_alike k)) (pruned_stay ns (lines_text o input ns b));
+        alike = nodes_alike o.settings.unpadded takes enters leaves decides (folded ns) us (sym (seen_alike k)) (pruned_stay ns (lines_text o input ns b));
       }
   left input _ unedited ns us b c =
       let q : ns ≡ us = closed_same ns us (one_tree_of o input (closed ns) (closed us) b c) in
       record {
         nodes = with_lines (edited Keep) ns;
         output = is_kept;
-        alike = nodes_alike takes enters leaves decides (with_lines (edited Keep) ns) us (kept_seen ns ∙ ap (λ (ms : Nodes Reading). with_lines scanned ms) q) (whole_stay ns (lines_text o input ns b));
+        alike = nodes_alike o.settings.unpadded takes enters leaves decides (with_lines (edited Keep) ns) us (kept_seen o.settings.unpadded ns ∙ ap (λ (ms : Nodes Reading). with_lines scanned ms) q) (whole_stay ns (lines_text o input ns b));
       }
 
   module _ (prunes : Bool) (numbers : prunes ≡ true → KeepsNumbers o.table (rules_of o.settings) decides) where

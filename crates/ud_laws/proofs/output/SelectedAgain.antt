@@ -106,9 +106,9 @@ module _ (k : CleanRun) (w : World Reading) (a : Agrees w k.before) (R : Option 
   pub reached_again : (v : World Reading) → KeepsTruths w k.before v k.after → EachReached w (λ o. R (condition_in o.line) (w o.line)) k.before →
       EachReached v (λ o. R (condition_in o.line) (v o.line)) k.after
   reached_again v t g =
-      reached_alike scanned left_seen v (λ (e : Edited Reading). w e.line) (λ (s : Seen) (b : Bool). R s.condition b) k.after (folded k.before)
+      reached_alike scanned (left_seen k.options.settings.unpadded) v (λ (e : Edited Reading). w e.line) (λ (s : Seen) (b : Bool). R s.condition b) k.after (folded k.before)
       (seen_alike k) (truths_folded w k.before v k.after t)
-      (pruned_reached w (λ (l : Reading). R (condition_in l) (w l)) (λ (e : Edited Reading). R (left_seen e).condition (w e.line)) still k.before a g)
+      (pruned_reached w (λ (l : Reading). R (condition_in l) (w l)) (λ (e : Edited Reading). R (left_seen k.options.settings.unpadded e).condition (w e.line)) still k.before a g)
     where
       still : (part : Part) (l : Reading) → R (condition_in l) (w l) → R (left_condition (first_kept_verdict part) l) (w l)
       still part l h = grind arith

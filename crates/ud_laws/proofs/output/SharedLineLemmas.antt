@@ -51,25 +51,25 @@ reads_too o p plain rules table a = read_alike o p plain rules (λ n. subst (λ 
 
 -- The case of one more line, by whether it is removed.
 share_one : (v : Verdict) (j : Judged) (js : List Judged) (a b : List ℕ) → j.verdict ≡ v → ShareLines js a b →
-    ShareLines (j ∷ js) (piece_alone false j ++ a) (piece_alone false (complemented j) ++ b)
+    ShareLines (j ∷ js) (piece_alone false false j ++ a) (piece_alone false false (complemented j) ++ b)
 share_one Remove j js a b h s =
     let q : (u : Verdict) → Judged = λ u. record { line = j.line; verdict = u; keyword = j.keyword } in
-    subst (λ (u : Verdict). ShareLines (q u ∷ js) (piece_alone false (q u) ++ a) (piece_alone false (complemented (q u)) ++ b)) (sym h) (goes refl s)
+    subst (λ (u : Verdict). ShareLines (q u ∷ js) (piece_alone false false (q u) ++ a) (piece_alone false false (complemented (q u)) ++ b)) (sym h) (goes refl s)
 share_one _ j js a b h s =
     let q : (u : Verdict) → Judged = λ u. record { line = j.line; verdict = u; keyword = j.keyword } in
-    subst (λ (u : Verdict). ShareLines (q u ∷ js) (piece_alone false (q u) ++ a) (piece_alone false (complemented (q u)) ++ b)) (sym h) (stays refl s)
+    subst (λ (u : Verdict). ShareLines (q u ∷ js) (piece_alone false false (q u) ++ a) (piece_alone false false (complemented (q u)) ++ b)) (sym h) (stays refl s)
 
-share_all : (js : List Judged) → ShareLines js (concat (map (lone false false) js)) (concat (map (lone false true) js))
+share_all : (js : List Judged) → ShareLines js (concat (map (lone false false false) js)) (concat (map (lone false false true) js))
 share_all [] = no_line
-share_all (j ∷ js) = share_one j.verdict j js (concat (map (lone false false) js)) (concat (map (lone false true) js)) refl (share_all js)
+share_all (j ∷ js) = share_one j.verdict j js (concat (map (lone false false false) js)) (concat (map (lone false false true) js)) refl (share_all js)
 
 -- The output if lines are neither blanked nor numbered.
 pub printed_lone : (o : Options) {input : List ℕ} {xs : List (Item Reading)} {t : Tree Reading} {f : Option Fault} {r : Outcome} (c : Bool) → o.settings.listing ≡ Off →
-    o.settings.blank ≡ false → o.settings.renumber ≡ false → o.settings.complement ≡ c → ReadsAs o input xs t f → HasOutcome o input r →
-    r.output ≡ concat (map (lone false c) (judged_lines xs (marks t)))
-printed_lone o {xs = xs} {t = t} c off b n k a run =
+    o.settings.blank ≡ false → o.settings.renumber ≡ false → o.settings.unpadded ≡ false → o.settings.complement ≡ c → ReadsAs o input xs t f → HasOutcome o input r →
+    r.output ≡ concat (map (lone false false c) (judged_lines xs (marks t)))
+printed_lone o {xs = xs} {t = t} c off b n u k a run =
     let js : List Judged = judged_lines xs (marks t) in
-    cc (one_run run (ran_as a), off, pieces_lone o.settings.blank o.settings.complement o.settings.renumber [] js n, b, k)
+    cc (one_run run (ran_as a), off, pieces_lone o.settings.unpadded o.settings.blank o.settings.complement o.settings.renumber [] js n, b, k, u)
 
 pub shared : (o : Options) (input : List ℕ) {xs : List (Item Reading)} {t : Tree Reading} {f : Option Fault} {r s : Outcome} → OnlyDecides o →
     ReadsAs o input xs t f → HasOutcome o input r → HasOutcome (with_complement o) input s →
@@ -77,10 +77,10 @@ pub shared : (o : Options) (input : List ℕ) {xs : List (Item Reading)} {t : Tr
 shared o input {xs = xs} {t = t} {r = r} {s = s} p a run turned =
     let js : List Judged = judged_lines xs (marks t) in
     let d = reads_too o (with_complement o) refl refl refl a in
-    let here = printed_lone o false p.unlisted p.unblanked p.unnumbered p.uncomplemented a run in
-    let there = printed_lone (with_complement o) true p.unlisted p.unblanked p.unnumbered refl d turned in (
+    let here = printed_lone o false p.unlisted p.unblanked p.unnumbered p.padded p.uncomplemented a run in
+    let there = printed_lone (with_complement o) true p.unlisted p.unblanked p.unnumbered p.padded refl d turned in (
       ap (λ (z : Outcome). z.fault) (one_run turned (ran_as d)) ∙ ap (λ (z : Outcome). z.fault) (one_run (ran_as a) run),
-      subst (λ (q : List ℕ). ShareLines js r.output q) (sym there) (subst (λ (q : List ℕ). ShareLines js q (concat (map (lone false true) js))) (sym here) (share_all js)),
+      subst (λ (q : List ℕ). ShareLines js r.output q) (sym there) (subst (λ (q : List ℕ). ShareLines js q (concat (map (lone false false true) js))) (sym here) (share_all js)),
     )
 
 -- A text has an outcome under options that only decide, and another one with `-c`.

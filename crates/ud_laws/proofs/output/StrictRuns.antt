@@ -299,4 +299,4 @@ judged_are_all o input {r = r} (judged_as a) run e = by_reading a (ap (λ (s : O
 -- The output is the pieces of the judged lines.
 pub judged_output : (o : Options) (input : List ℕ) {js : List Judged} {r : Outcome} → OnlyDecides o → JudgedAs o input js → HasOutcome o input r →
     r.output ≡ pieces_of js
-judged_output o input d (judged_as a) run = printed_lone o false d.unlisted d.unblanked d.unnumbered d.uncomplemented a run
+judged_output o input d (judged_as a) run = printed_lone o false d.unlisted d.unblanked d.unnumbered d.padded d.uncomplemented a run

@@ -3,16 +3,17 @@
 --
 -- Example: under `-b -UA` the output for `#ifdef A`, `x`, `#endif`, `y` is three blank lines and
 -- `y`, which is line 4 of both.
-use Rattle.std.specs.Prelude.{◌≡◌, ℕ, List, [], ◌∷◌, map, Bool, true, if◌then◌else◌}
+use Rattle.std.specs.Prelude.{◌≡◌, ℕ, List, [], ◌∷◌, map, Bool, true, false, if◌then◌else◌}
 use Rattle.ud_model.specs.text.Lines.{Line, text_of, lines_of}
 use Rattle.ud_model.specs.sections.Items.{Options}
 use Rattle.ud_model.specs.answer.Printing.{Judged, complemented, piece_alone}
 use Rattle.ud_model.specs.declared.settings.Listing.TheVariants.{Off}
 
--- `Blanks o`: `o` has `-b` or `-l`, and neither `-s` nor `-S`.
+-- `Blanks o`: `o` has `-b` or `-l`, and neither `-s` nor `-S`. Spaces replace lost bytes.
 pub record Blanks (o : Options) : Type 0 where
   pub blank : o.settings.blank ≡ true
   pub unlisted : o.settings.listing ≡ Off
+  pub padded : o.settings.unpadded ≡ false
 
 -- `endings_of text`: the endings of the lines of `text`, in order.
 abbrev pub endings_of : List ℕ → List (List ℕ)
@@ -24,7 +25,7 @@ complemented_if c j = if c then complemented j else j
 
 -- `blanked c j`: the output under `-b` for the line `j`, with `-c` if `c`.
 abbrev pub blanked : Bool → Judged → List ℕ
-blanked c j = piece_alone true (complemented_if c j)
+blanked c j = piece_alone false true (complemented_if c j)
 
 -- `IsBlankedLine c j k`: the line `k` is the output for `j`, and has its number and its ending.
 pub record IsBlankedLine (c : Bool) (j : Judged) (k : Line) : Type 0 where

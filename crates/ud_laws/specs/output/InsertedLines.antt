@@ -51,9 +51,10 @@ pub record KeepsNumbers (args more : List (List ℕ)) : Type 0 where
   pub no_fault : usage_fault more ≡ None
 
 -- `AddsNumbers o input r s`: under plain options the text has the outcome `r`, and with `-b`, `-n`
--- or both the outcome `s`.
+-- or both the outcome `s`. Spaces replace lost bytes.
 pub record AddsNumbers (o : Options) (input : List ℕ) (r s : Outcome) : Type 0 where
   pub plain : IsPlain o
+  pub padded : o.settings.unpadded ≡ false
   pub blank : Bool
   pub renumber : Bool
   pub some : (blank || renumber) ≡ true
@@ -86,7 +87,7 @@ IsNumberLine n s = (s.line.body ≡ codes "#line " ++ decimal n) × IsLone s
 -- the same scan.
 pub record IsPrinted (j : Judged) (r s : Reading) : Type 0 where
   pub stays : is_removed j.verdict ≡ false
-  pub bytes : text_of r.line ≡ piece_by j.verdict j.keyword j.line
+  pub bytes : text_of r.line ≡ piece_by false j.verdict j.keyword j.line
   pub same : text_of s.line ≡ text_of r.line
   pub scanned : s.scan ≡ r.scan
 

@@ -120,7 +120,7 @@ pub record IsLineFor (js : List Judged) (r : Reading) (n : ℕ) : Type 0 where
   pub among : js ≡ before ++ judged ∷ later
   pub number : judged.line.number ≡ n
   pub stays : is_removed judged.verdict ≡ false
-  pub bytes : text_of r.line ≡ piece_by judged.verdict judged.keyword judged.line
+  pub bytes : text_of r.line ≡ piece_by false judged.verdict judged.keyword judged.line
 
 -- `HasInputNumber js p`: if `p` is sure, it is inserted, or is printed for the line of `js` that
 -- has its presumed number.

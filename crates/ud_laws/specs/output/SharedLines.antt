@@ -12,12 +12,14 @@ use Rattle.ud_model.specs.answer.Printing.{Judged, piece_by}
 use Rattle.ud_model.specs.answer.Answer.{Answer, IsAnswer}
 use Rattle.ud_model.specs.declared.settings.Listing.TheVariants.{Off}
 
--- `OnlyDecides o`: `o` has none of `-s`, `-S`, `-b`, `-l`, `-c` and `-n`.
+-- `OnlyDecides o`: `o` has none of `-s`, `-S`, `-b`, `-l`, `-c` and `-n`, and spaces replace lost
+-- bytes, as always in unifdef(1).
 pub record OnlyDecides (o : Options) : Type 0 where
   pub unlisted : o.settings.listing ≡ Off
   pub unblanked : o.settings.blank ≡ false
   pub uncomplemented : o.settings.complement ≡ false
   pub unnumbered : o.settings.renumber ≡ false
+  pub padded : o.settings.unpadded ≡ false
 
 -- `with_complement o`: the options `o` with `-c`.
 abbrev pub with_complement : Options → Options
@@ -41,7 +43,7 @@ pub data ShareLines : List Judged → List ℕ → List ℕ → Type 0 where
   -- A line that isn't removed, perhaps edited.
   stays : {j : Judged} {js : List Judged} {a b : List ℕ} → is_removed j.verdict ≡ false →
       ShareLines js a b →
-      ShareLines (j ∷ js) (piece_by j.verdict j.keyword j.line ++ a) b
+      ShareLines (j ∷ js) (piece_by false j.verdict j.keyword j.line ++ a) b
   -- A removed line.
   goes : {j : Judged} {js : List Judged} {a b : List ℕ} → is_removed j.verdict ≡ true →
       ShareLines js a b → ShareLines (j ∷ js) a (text_of j.line ++ b)

@@ -6,7 +6,7 @@
 --
 -- Example: under `-DA` the line `x` in `#if X || A`, `#else`, `x`, `#endif` is removed only without
 -- `-K`. In `#if X && 0`, `#elif A`, `#else`, `x`, `#endif` it is removed in both.
-use Rattle.std.specs.Prelude.{◌≡◌, ℕ, List, [], ◌∷◌, map, true}
+use Rattle.std.specs.Prelude.{◌≡◌, ℕ, List, [], ◌∷◌, map, true, false}
 use Rattle.std.specs.List.{concat}
 use Rattle.ud_model.specs.sections.Pruning.{is_removed}
 use Rattle.ud_model.specs.sections.Items.{Options}
@@ -36,4 +36,4 @@ KeepAsMuch (j ∷ js) (k ∷ ks) = KeepsAsMuch j k × KeepAsMuch js ks
 
 -- `pieces_of js`: the pieces of the lines `js`, each by its verdict alone, joined in order.
 abbrev pub pieces_of : List Judged → List ℕ
-pieces_of js = concat (map (λ (j : Judged). piece_by j.verdict j.keyword j.line) js)
+pieces_of js = concat (map (λ (j : Judged). piece_by false j.verdict j.keyword j.line) js)

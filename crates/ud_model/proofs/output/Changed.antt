@@ -50,9 +50,9 @@ module _ {L : Type 0} where
     as_many_elifs kept (elif es o ns) =
         let a = as_many_elifs kept es in let b = as_many_nodes (kept && is_kept (conds_of_elifs es) o.cond) ns in simp length-append (omega (arith, a, b))
 
-module _ (blank : Bool) where
+module _ (u blank : Bool) where
   abbrev f : Judged → List ℕ
-  f j = piece_alone blank j
+  f j = piece_alone u blank j
 
   -- Lines with their marks fit.
   abbrev pub ItemsFit : List (Item Reading) → List Mark → Type 0
@@ -79,7 +79,7 @@ module _ (blank : Bool) where
   -- The case of a line whose keyword has four bytes at least.
   word_size : (x : Item Reading) → HasWord (reading_of x) 4 → (v : Verdict) →
       AtMost v (length (f (judged_line x (record { kept = true; verdict = v })))) (length (text_of (line_of x)))
-  word_size x w v = edited_size blank v (keyword_in (content_of (reading_of x).scan)) (line_of x) w.size w.within
+  word_size x w v = edited_size u blank v (keyword_in (content_of (reading_of x).scan)) (line_of x) w.size w.within
 
   fits_to_loose : (js : List Judged) → Fits f js → Loose f js
   fits_to_loose js a = subst (Loose f) (append-nil js) (fits_loose f js [] a (record { bound = omega arith }))
@@ -105,7 +105,7 @@ module _ (blank : Bool) where
   opener_any false xs ms x was now v e w m a = items_then xs (x ∷ []) ms (marked false Remove ∷ []) e a (one_fits x false Remove tt)
 
   closing_size : (x : Item Reading) → HasWord (reading_of x) 5 → length (f (judged_line x (marked true Remove))) + 2 ≤ length (whole (judged_line x (marked true Remove)))
-  closing_size x w = omega (arith, removed_size blank (keyword_in (content_of (reading_of x).scan)) (line_of x), w.size, w.within)
+  closing_size x w = omega (arith, removed_size u blank (keyword_in (content_of (reading_of x).scan)) (line_of x), w.size, w.within)
 
   endif_step : (kept past : Bool) (xs : List (Item Reading)) (ms : List Mark) (x : Item Reading) (v : Verdict) → length xs ≡ length ms → HasWord (reading_of x) 5 →
       KeepsOrGoes v → (past ≡ true → v ≡ Remove) → Held (kept && past) xs ms → ItemsFit (xs ++ x ∷ []) (ms ++ marked kept v ∷ [])
@@ -169,19 +169,20 @@ module _ (blank : Bool) where
         (nodes_fit (kept && is_kept (conds_of_elifs es) o.cond) ns p.1)
 
 -- The output for a line by itself, kept and removed lines exchanged or not.
-abbrev pub lone : Bool → Bool → Judged → List ℕ
-lone blank true j = piece_alone blank (complemented j)
-lone blank false j = piece_alone blank j
+abbrev pub lone : Bool → Bool → Bool → Judged → List ℕ
+lone u blank true j = piece_alone u blank (complemented j)
+lone u blank false j = piece_alone u blank j
 
 -- If lines aren't numbered, each is printed by itself.
-pub pieces_lone : (b c n : Bool) (before js : List Judged) → n ≡ false → pieces_by (piece_after (record { blank = b; complement = c; renumber = n })) before js ≡ map (lone b c) js
-pieces_lone b c n before [] e = refl
-pieces_lone b c n before (j ∷ js) e = grind (arith, pieces_lone b c n (before ++ j ∷ []) js e)
+pub pieces_lone : (u b c n : Bool) (before js : List Judged) → n ≡ false →
+    pieces_by (piece_after (record { blank = b; complement = c; renumber = n; unpadded = u })) before js ≡ map (lone u b c) js
+pieces_lone u b c n before [] e = refl
+pieces_lone u b c n before (j ∷ js) e = grind (arith, pieces_lone u b c n (before ++ j ∷ []) js e)
 
-nodes_lone : (b c : Bool) (ns : Nodes Reading) → Each HasKeyword (lines_of_nodes ns) → Fits (lone b c) (judged_lines (lines_of_nodes ns) (marks (closed ns)))
-nodes_lone b true ns h = fits_all (lone b true) (judged_lines (lines_of_nodes ns) (marks (closed ns))) (λ j. (grind (arith, keeps_size)))
-nodes_lone b false ns h =
-    subst (λ (ms : List Mark). Fits (lone b false) (judged_lines (lines_of_nodes ns) ms)) (sym (marks_so_far_same true (closed ns))) (nodes_fit b true ns h)
+nodes_lone : (u b c : Bool) (ns : Nodes Reading) → Each HasKeyword (lines_of_nodes ns) → Fits (lone u b c) (judged_lines (lines_of_nodes ns) (marks (closed ns)))
+nodes_lone u b true ns h = fits_all (lone u b true) (judged_lines (lines_of_nodes ns) (marks (closed ns))) (λ j. (grind (arith, keeps_size)))
+nodes_lone u b false ns h =
+    subst (λ (ms : List Mark). Fits (lone u b false) (judged_lines (lines_of_nodes ns) ms)) (sym (marks_so_far_same true (closed ns))) (nodes_fit u b true ns h)
 
 masked_size : (xs : List Reading) (m : Mode) (l : Line) → length (scan_after xs m l).masked ≤ length l.body
 masked_size xs m l = search (rules, length-masked, content-prefix, length-append)
@@ -207,11 +208,11 @@ module _ (s : Settings) (n : s.renumber ≡ false) where
       some_differ_by s (lines_of_nodes ns) (marks (closed ns)) ≡ not (bytes_eq (printed_by s (lines_of_nodes ns) (marks (closed ns))) input)
   closed_differs input ns h e =
       let js : List Judged = judged_lines (lines_of_nodes ns) (marks (closed ns)) in
-      let ps = pieces_lone s.blank s.complement s.renumber [] js n in
+      let ps = pieces_lone s.unpadded s.blank s.complement s.renumber [] js n in
       let many : length (lines_of_nodes ns) ≡ length (marks (closed ns)) = cc (as_many_nodes true ns, marks_so_far_same true (closed ns)) in
       let back : out whole js ≡ input = cc (whole_lines_are (lines_of_nodes ns) (marks (closed ns)) many, e, lines_join input) in
       ap (λ (qs : List (List ℕ)). some_other qs js) ps
-      ∙ fits_differs (lone s.blank s.complement) js (nodes_lone s.blank s.complement ns h)
+      ∙ fits_differs (lone s.unpadded s.blank s.complement) js (nodes_lone s.unpadded s.blank s.complement ns h)
       ∙ ap₂ (λ (a b : List ℕ). not (bytes_eq a b)) (ap (λ (qs : List (List ℕ)). concat qs) (sym ps)) back
 
 -- If some section is open, the innermost one has a first directive.

@@ -51,13 +51,13 @@ pub if_keeps : (c : Cond) → KeepsOrGoes (verdict_so_far [] an_if c)
 if_keeps c = grind arith
 
 -- A removed line leaves its ending at most.
-pub removed_size : (blank : Bool) (k : Span) (l : Line) → length (piece_alone blank (record { line = l; verdict = Remove; keyword = k })) + length l.body ≤ length (text_of l)
-removed_size blank k l = grind (arith, length-append)
+pub removed_size : (u blank : Bool) (k : Span) (l : Line) → length (piece_alone u blank (record { line = l; verdict = Remove; keyword = k })) + length l.body ≤ length (text_of l)
+removed_size u blank k l = grind (arith, length-append)
 
-pub keeps_size : (blank : Bool) (v : Verdict) (k : Span) (l : Line) → KeepsOrGoes v → length (piece_alone blank (record { line = l; verdict = v; keyword = k })) ≤ length (text_of l)
-keeps_size blank Keep k l h = grind arith
-keeps_size blank Remove k l h = let e = removed_size blank k l in omega (arith, e)
-keeps_size _ _ _ _ h = absurd h
+pub keeps_size : (u blank : Bool) (v : Verdict) (k : Span) (l : Line) → KeepsOrGoes v → length (piece_alone u blank (record { line = l; verdict = v; keyword = k })) ≤ length (text_of l)
+keeps_size u blank Keep k l h = grind arith
+keeps_size u blank Remove k l h = let e = removed_size u blank k l in omega (arith, e)
+keeps_size _ _ _ _ _ h = absurd h
 
 -- The output is at most so long.
 abbrev pub AtMost : Verdict → ℕ → ℕ → Type 0
@@ -65,6 +65,6 @@ AtMost ToEndif n m = n ≤ suc m
 AtMost _ n m = n ≤ m
 
 -- The case of a directive whose keyword has four bytes at least.
-pub edited_size : (blank : Bool) (v : Verdict) (k : Span) (l : Line) → 4 ≤ k.len → k.at + k.len ≤ length l.body →
-    AtMost v (length (piece_alone blank (record { line = l; verdict = v; keyword = k }))) (length (text_of l))
-edited_size blank v k l e h = grind (arith, length-append, length-take, length-drop)
+pub edited_size : (u blank : Bool) (v : Verdict) (k : Span) (l : Line) → 4 ≤ k.len → k.at + k.len ≤ length l.body →
+    AtMost v (length (piece_alone u blank (record { line = l; verdict = v; keyword = k }))) (length (text_of l))
+edited_size u blank v k l e h = grind (arith, length-append, length-take, length-drop)

@@ -11,7 +11,7 @@ use Rattle.ud_model.specs.sections.Directives.{Span}
 use Rattle.ud_model.specs.answer.Printing.{opener_keyword, piece_by}
 use Rattle.ud_model.specs.declared.verdict.Verdict.{Verdict}
 use Rattle.ud_model.specs.declared.verdict.Verdict.TheVariants.{Keep, Remove, ToIf, ToElse, ToEndif}
-use Rattle.ud_model.proofs.output.ByLength.{each_length}
+use Rattle.ud_model.proofs.output.ByLength.{each_opener}
 use Rattle.ud_model.proofs.text.Pushes.{ByPush, none, push, by_push}
 use Rattle.ud_model.proofs.text.LinesLemmas.{no_newline-append, body-ending, some_front}
 
@@ -58,20 +58,20 @@ whole_body t (prefix, n, e) = go (whole_ending t (prefix, n, e))
         subst NoNewline (sym (same_from_push (body_of t) prefix 10 10 p).0) n
 
 -- The output for a body.
-unfoldable pub edited_body : Verdict → Span → List ℕ → List ℕ
-edited_body ToIf k b = (take k.at b ++ opener_keyword k.len) ++ drop (k.at + k.len) b
-edited_body ToElse k b = take k.at b ++ codes "else"
-edited_body ToEndif k b = take k.at b ++ codes "endif"
-edited_body _ _ b = b
+unfoldable pub edited_body : Bool → Verdict → Span → List ℕ → List ℕ
+edited_body u ToIf k b = (take k.at b ++ opener_keyword u k.len) ++ drop (k.at + k.len) b
+edited_body u ToElse k b = take k.at b ++ codes "else"
+edited_body u ToEndif k b = take k.at b ++ codes "endif"
+edited_body u _ _ b = b
 
 -- The line isn't removed.
 abbrev pub IsLeft : Verdict → Type 0
 IsLeft Remove = ⊥
 IsLeft _ = Unit {0}
 
-piece_parts : (v : Verdict) (k : Span) (l : Line) → IsLeft v → piece_by v k l ≡ edited_body v k l.body ++ l.ending
+piece_parts : (u : Bool) (v : Verdict) (k : Span) (l : Line) → IsLeft v → piece_by u v k l ≡ edited_body u v k l.body ++ l.ending
 unfolding edited_body
-piece_parts v k l h = grind arith
+piece_parts u v k l h = grind arith
 
 abbrev has_feed : List ℕ → Bool
 has_feed [] = false
@@ -83,47 +83,48 @@ word_no_feed (b ∷ w) e =
     let p : ((b == 10) ≡ false) × (has_feed w ≡ false) = or_parts (b == 10) (has_feed w) e in
     (λ h. let f : true ≡ false = sym (ap (λ (x : ℕ). x == 10) h) ∙ p.0 in cc, word_no_feed w p.1)
 
-edited_no_feed : (v : Verdict) (k : Span) (b : List ℕ) → NoNewline b → NoNewline (edited_body v k b)
+edited_no_feed : (u : Bool) (v : Verdict) (k : Span) (b : List ℕ) → NoNewline b → NoNewline (edited_body u v k b)
 unfolding edited_body
-edited_no_feed ToIf k b n =
-    no_newline-append (take k.at b ++ opener_keyword k.len) (drop (k.at + k.len) b)
-    (no_newline-append (take k.at b) (opener_keyword k.len) (no_feed_cut k.at b n).0 (word_no_feed (opener_keyword k.len) (each_length (λ w. has_feed w ≡ false) refl refl refl k.len)))
+edited_no_feed u ToIf k b n =
+    no_newline-append (take k.at b ++ opener_keyword u k.len) (drop (k.at + k.len) b)
+    (no_newline-append (take k.at b) (opener_keyword u k.len) (no_feed_cut k.at b n).0 (word_no_feed (opener_keyword u k.len) (each_opener (λ w. has_feed w ≡ false) refl refl refl refl refl refl u k.len)))
     (no_feed_cut (k.at + k.len) b n).1
-edited_no_feed ToElse k b n = no_newline-append (take k.at b) (codes "else") (no_feed_cut k.at b n).0 (word_no_feed (codes "else") refl)
-edited_no_feed ToEndif k b n = no_newline-append (take k.at b) (codes "endif") (no_feed_cut k.at b n).0 (word_no_feed (codes "endif") refl)
-edited_no_feed _ _ _ n = n
+edited_no_feed u ToElse k b n = no_newline-append (take k.at b) (codes "else") (no_feed_cut k.at b n).0 (word_no_feed (codes "else") refl)
+edited_no_feed u ToEndif k b n = no_newline-append (take k.at b) (codes "endif") (no_feed_cut k.at b n).0 (word_no_feed (codes "endif") refl)
+edited_no_feed _ _ _ _ n = n
 
 -- The piece of a whole line that is left is a whole line.
-pub whole_piece : (v : Verdict) (k : Span) (n : ℕ) (t : List ℕ) → IsLeft v → IsWhole t → IsWhole (piece_by v k (line_at n t))
-whole_piece v k n t h w =
-    subst IsWhole (sym (piece_parts v k (line_at n t) h)) (ended (edited_body v k (body_of t)) (ending_of t) (edited_no_feed v k (body_of t) (whole_body t w)) (whole_ending t w))
+pub whole_piece : (u : Bool) (v : Verdict) (k : Span) (n : ℕ) (t : List ℕ) → IsLeft v → IsWhole t → IsWhole (piece_by u v k (line_at n t))
+whole_piece u v k n t h w =
+    subst IsWhole (sym (piece_parts u v k (line_at n t) h)) (ended (edited_body u v k (body_of t)) (ending_of t) (edited_no_feed u v k (body_of t) (whole_body t w)) (whole_ending t w))
 
 not_nil : (a w : List ℕ) (c : ℕ) → a ++ (c ∷ w) ≢ []
 not_nil [] w c e = cc
 not_nil (x ∷ a) w c e = cc
 
 -- The piece of an unended line that is left is an unended line.
-pub unended_piece : (v : Verdict) (k : Span) (n : ℕ) (t : List ℕ) → IsLeft v → IsUnterminated t → IsUnterminated (piece_by v k (line_at n t))
+pub unended_piece : (u : Bool) (v : Verdict) (k : Span) (n : ℕ) (t : List ℕ) → IsLeft v → IsUnterminated t → IsUnterminated (piece_by u v k (line_at n t))
 unfolding edited_body
-unended_piece Keep k n t h (s, w) = (subst (λ (x : List ℕ). x ≢ []) (sym (body-ending t)) s, subst NoNewline (sym (body-ending t)) w)
-unended_piece Remove k n t h w = absurd h
-unended_piece ToIf k n t h (s, w) =
+unended_piece u Keep k n t h (s, w) = (subst (λ (x : List ℕ). x ≢ []) (sym (body-ending t)) s, subst NoNewline (sym (body-ending t)) w)
+unended_piece u Remove k n t h w = absurd h
+unended_piece u ToIf k n t h (s, w) =
     let p = no_feed_parts (body_of t) (ending_of t) (subst NoNewline (sym (body-ending t)) w) in (
-      some_front ((take k.at (body_of t) ++ opener_keyword k.len) ++ drop (k.at + k.len) (body_of t)) (ending_of t)
-          (some_front (take k.at (body_of t) ++ opener_keyword k.len) (drop (k.at + k.len) (body_of t))
-          (each_length (λ w. take k.at (body_of t) ++ w ≢ []) (not_nil (take k.at (body_of t)) (codes "fdef  ") 105) (not_nil (take k.at (body_of t)) (codes "fndef  ") 105)
-          (not_nil (take k.at (body_of t)) (codes "f  ") 105) k.len)),
-      no_newline-append ((take k.at (body_of t) ++ opener_keyword k.len) ++ drop (k.at + k.len) (body_of t)) (ending_of t) (edited_no_feed ToIf k (body_of t) p.0) p.1,
+      some_front ((take k.at (body_of t) ++ opener_keyword u k.len) ++ drop (k.at + k.len) (body_of t)) (ending_of t)
+          (some_front (take k.at (body_of t) ++ opener_keyword u k.len) (drop (k.at + k.len) (body_of t))
+          (each_opener (λ w. take k.at (body_of t) ++ w ≢ []) (not_nil (take k.at (body_of t)) (codes "fdef") 105) (not_nil (take k.at (body_of t)) (codes "fndef") 105)
+          (not_nil (take k.at (body_of t)) (codes "f") 105) (not_nil (take k.at (body_of t)) (codes "fdef  ") 105) (not_nil (take k.at (body_of t)) (codes "fndef  ") 105)
+          (not_nil (take k.at (body_of t)) (codes "f  ") 105) u k.len)),
+      no_newline-append ((take k.at (body_of t) ++ opener_keyword u k.len) ++ drop (k.at + k.len) (body_of t)) (ending_of t) (edited_no_feed u ToIf k (body_of t) p.0) p.1,
     )
-unended_piece ToElse k n t h (s, w) =
+unended_piece u ToElse k n t h (s, w) =
     let p = no_feed_parts (body_of t) (ending_of t) (subst NoNewline (sym (body-ending t)) w) in (
       some_front (take k.at (body_of t) ++ codes "else") (ending_of t) (not_nil (take k.at (body_of t)) (codes "lse") 101),
-      no_newline-append (take k.at (body_of t) ++ codes "else") (ending_of t) (edited_no_feed ToElse k (body_of t) p.0) p.1,
+      no_newline-append (take k.at (body_of t) ++ codes "else") (ending_of t) (edited_no_feed u ToElse k (body_of t) p.0) p.1,
     )
-unended_piece ToEndif k n t h (s, w) =
+unended_piece u ToEndif k n t h (s, w) =
     let p = no_feed_parts (body_of t) (ending_of t) (subst NoNewline (sym (body-ending t)) w) in (
       some_front (take k.at (body_of t) ++ codes "endif") (ending_of t) (not_nil (take k.at (body_of t)) (codes "ndif") 101),
-      no_newline-append (take k.at (body_of t) ++ codes "endif") (ending_of t) (edited_no_feed ToEndif k (body_of t) p.0) p.1,
+      no_newline-append (take k.at (body_of t) ++ codes "endif") (ending_of t) (edited_no_feed u ToEndif k (body_of t) p.0) p.1,
     )
 
 -- A whole line before lines.
@@ -160,15 +161,16 @@ pub record IsOther (q : ℕ) : Type 0 where
   pub no_endif : (102 == q) ≡ false
 
 -- An edited body ends in such a byte only if the body does.
-pub edited_end : (q : ℕ) → IsOther q → (v : Verdict) (k : Span) (b : List ℕ) → EndsIn q (edited_body v k b) → EndsIn q b
+pub edited_end : (q : ℕ) → IsOther q → (u : Bool) (v : Verdict) (k : Span) (b : List ℕ) → EndsIn q (edited_body u v k b) → EndsIn q b
 unfolding edited_body
-edited_end q o ToIf k b h = end_drop q (k.at + k.len) b
-    (end_front q (take k.at b ++ opener_keyword k.len) (drop (k.at + k.len) b) (by_push (drop (k.at + k.len) b)) refl
-    (λ r. each_length (λ w. EndsIn q (take k.at b ++ w) → ⊥) (not_end q (take k.at b) (codes "ifdef ") 32 o.no_space) (not_end q (take k.at b) (codes "ifndef ") 32 o.no_space)
-    (not_end q (take k.at b) (codes "if ") 32 o.no_space) k.len) h)
-edited_end q o ToElse k b h = absurd (not_end q (take k.at b) (codes "els") 101 o.no_else h)
-edited_end q o ToEndif k b h = absurd (not_end q (take k.at b) (codes "endi") 102 o.no_endif h)
-edited_end _ _ _ _ _ h = h
+edited_end q o u ToIf k b h = end_drop q (k.at + k.len) b
+    (end_front q (take k.at b ++ opener_keyword u k.len) (drop (k.at + k.len) b) (by_push (drop (k.at + k.len) b)) refl
+    (λ r. each_opener (λ w. EndsIn q (take k.at b ++ w) → ⊥) (not_end q (take k.at b) (codes "ifde") 102 o.no_endif) (not_end q (take k.at b) (codes "ifnde") 102 o.no_endif)
+    (not_end q (take k.at b) (codes "i") 102 o.no_endif) (not_end q (take k.at b) (codes "ifdef ") 32 o.no_space) (not_end q (take k.at b) (codes "ifndef ") 32 o.no_space)
+    (not_end q (take k.at b) (codes "if ") 32 o.no_space) u k.len) h)
+edited_end q o u ToElse k b h = absurd (not_end q (take k.at b) (codes "els") 101 o.no_else h)
+edited_end q o u ToEndif k b h = absurd (not_end q (take k.at b) (codes "endi") 102 o.no_endif h)
+edited_end _ _ _ _ _ _ h = h
 
 test_false : (l s : List ℕ) → ((f : List ℕ) → l ≡ f ++ s → ⊥) → ends_with nat_eq l s ≡ false
 test_false l s n = go (ends_with nat_eq l s) (ends_is Decides-eqb l s (ends_with nat_eq l s) refl).0
@@ -211,18 +213,18 @@ cr_or_not t e (c, h) = let whole : t ≡ c ++ 13 ∷ 10 ∷ [] =
     let g : 13 ∷ 10 ∷ [] ≡ 10 ∷ [] = sym f ∙ e in cc
 
 -- The output for a whole line keeps its ending.
-pub whole_keeps : (v : Verdict) (k : Span) (t : List ℕ) → IsWhole t → ending_of (edited_body v k (body_of t) ++ ending_of t) ≡ ending_of t
-whole_keeps v k t w = go (whole_ending t w)
+pub whole_keeps : (u : Bool) (v : Verdict) (k : Span) (t : List ℕ) → IsWhole t → ending_of (edited_body u v k (body_of t) ++ ending_of t) ≡ ending_of t
+whole_keeps u v k t w = go (whole_ending t w)
   where
-    go : IsEnd (ending_of t) → ending_of (edited_body v k (body_of t) ++ ending_of t) ≡ ending_of t
+    go : IsEnd (ending_of t) → ending_of (edited_body u v k (body_of t) ++ ending_of t) ≡ ending_of t
     go h = grind (arith, ending_both, ending_feed, cr_or_not, edited_end)
 
-unended_keeps : (v : Verdict) (k : Span) (t : List ℕ) → IsUnterminated t → ending_of (edited_body v k (body_of t) ++ ending_of t) ≡ ending_of t
-unended_keeps v k t (s, w) = let none : ending_of t ≡ [] = ending_none t w in
+unended_keeps : (u : Bool) (v : Verdict) (k : Span) (t : List ℕ) → IsUnterminated t → ending_of (edited_body u v k (body_of t) ++ ending_of t) ≡ ending_of t
+unended_keeps u v k t (s, w) = let none : ending_of t ≡ [] = ending_none t w in
     let b : NoNewline (body_of t) = (no_feed_parts (body_of t) (ending_of t) (subst NoNewline (sym (body-ending t)) w)).0 in
-    cc (none, append-nil (edited_body v k (body_of t)), ending_none (edited_body v k (body_of t)) (edited_no_feed v k (body_of t) b))
+    cc (none, append-nil (edited_body u v k (body_of t)), ending_none (edited_body u v k (body_of t)) (edited_no_feed u v k (body_of t) b))
 
 -- The output for a line, split again into body and ending.
-pub left_line : (v : Verdict) (k : Span) (n m : ℕ) (t : List ℕ) → IsLeft v → IsWhole t ⊎ IsUnterminated t →
-    line_at m (piece_by v k (line_at n t)) ≡ record { body = edited_body v k (body_of t); ending = ending_of t; number = m }
-left_line v k n m t h w = grind (arith, piece_parts, whole_keeps, unended_keeps, take_at, length-append)
+pub left_line : (u : Bool) (v : Verdict) (k : Span) (n m : ℕ) (t : List ℕ) → IsLeft v → IsWhole t ⊎ IsUnterminated t →
+    line_at m (piece_by u v k (line_at n t)) ≡ record { body = edited_body u v k (body_of t); ending = ending_of t; number = m }
+left_line u v k n m t h w = grind (arith, piece_parts, whole_keeps, unended_keeps, take_at, length-append)

@@ -16,17 +16,17 @@ use Rattle.ud_model.proofs.output.Formed.{EndsIn, edited_end, edited_body, IsLef
 use Rattle.ud_model.proofs.text.ScanBytes.{content-prefix}
 
 -- The second line is the output for the first one.
-pub record LeftLine (v : Verdict) (keyword : Span) (l k : Line) : Type 0 where
-  pub body : k.body ≡ edited_body v keyword l.body
+pub record LeftLine (u : Bool) (v : Verdict) (keyword : Span) (l k : Line) : Type 0 where
+  pub body : k.body ≡ edited_body u v keyword l.body
   pub ending : k.ending ≡ l.ending
 
 -- The piece of a line, split again.
-pub piece_line : (v : Verdict) (keyword : Span) (n m : ℕ) (t : List ℕ) (l : Line) → l ≡ line_at n t → IsLeft v → IsWhole t ⊎ IsUnterminated t →
-    LeftLine v keyword l (line_at m (piece_by v keyword l))
-piece_line v keyword n m t l e h w =
-    let q = ap (λ (j : Line). line_at m (piece_by v keyword j)) e ∙ left_line v keyword n m t h w in
+pub piece_line : (u : Bool) (v : Verdict) (keyword : Span) (n m : ℕ) (t : List ℕ) (l : Line) → l ≡ line_at n t → IsLeft v → IsWhole t ⊎ IsUnterminated t →
+    LeftLine u v keyword l (line_at m (piece_by u v keyword l))
+piece_line u v keyword n m t l e h w =
+    let q = ap (λ (j : Line). line_at m (piece_by u v keyword j)) e ∙ left_line u v keyword n m t h w in
     record {
-      body = ap (λ (j : Line). j.body) q ∙ sym (ap (λ (j : Line). edited_body v keyword j.body) e);
+      body = ap (λ (j : Line). j.body) q ∙ sym (ap (λ (j : Line). edited_body u v keyword j.body) e);
       ending = ap (λ (j : Line). j.ending) q ∙ sym (ap (λ (j : Line). j.ending) e);
     }
 
@@ -55,31 +55,31 @@ same_open l k s e = ap₂ (λ (t : Bool) (x : List ℕ). t || is_empty x) s e
 front_within : (l : Line) (n : ℕ) → n ≤ length (content l) → take n l.body ≡ take n (content l)
 front_within l n h = let f : (rest : List ℕ) × (l.body ≡ content l ++ rest) = content-prefix l in cc (f.1, take-append-le n (content l) f.0 h)
 
-module _ (keyword : Span) (l k : Line) (within : keyword.at + keyword.len ≤ length (content l)) where
-  if_spliced : l.body ≡ content l ++ backslash ∷ [] → k.body ≡ edited_body ToIf keyword l.body →
-      k.body ≡ (take keyword.at (content l) ++ (opener_keyword keyword.len ++ drop (keyword.at + keyword.len) (content l))) ++ backslash ∷ []
+module _ (u : Bool) (keyword : Span) (l k : Line) (within : keyword.at + keyword.len ≤ length (content l)) where
+  if_spliced : l.body ≡ content l ++ backslash ∷ [] → k.body ≡ edited_body u ToIf keyword l.body →
+      k.body ≡ (take keyword.at (content l) ++ (opener_keyword u keyword.len ++ drop (keyword.at + keyword.len) (content l))) ++ backslash ∷ []
   unfolding edited_body
   if_spliced s b = grind (arith, front_within, drop-append-le, append_assoc)
 
   -- A line that becomes an `#if` is spliced as it was.
-  pub if_splice : LeftLine ToIf keyword l k → is_spliced k ≡ is_spliced l
+  pub if_splice : LeftLine u ToIf keyword l k → is_spliced k ≡ is_spliced l
   unfolding EndsIn
   if_splice h =
       ap (λ (x : List ℕ). ends_with nat_eq k.body (backslash ∷ []) && not (is_empty x)) h.ending
       ∙ same_and (ends_with nat_eq l.body (backslash ∷ [])) (ends_with nat_eq k.body (backslash ∷ [])) (not (is_empty l.ending))
-      (λ e. does_end l.body (edited_end backslash (record { no_space = refl; no_else = refl; no_endif = refl }) ToIf keyword l.body
+      (λ e. does_end l.body (edited_end backslash (record { no_space = refl; no_else = refl; no_endif = refl }) u ToIf keyword l.body
       (let f : EndsIn backslash k.body = ends_in k.body e in (f.0, sym h.body ∙ f.1))))
-      (λ e. does_end k.body (take keyword.at (content l) ++ (opener_keyword keyword.len ++ drop (keyword.at + keyword.len) (content l)), if_spliced (spliced_body l e) h.body))
+      (λ e. does_end k.body (take keyword.at (content l) ++ (opener_keyword u keyword.len ++ drop (keyword.at + keyword.len) (content l)), if_spliced (spliced_body l e) h.body))
 
-  if_by : (s : Bool) → is_spliced l ≡ s → LeftLine ToIf keyword l k → content k ≡ take keyword.at (content l) ++ (opener_keyword keyword.len ++ drop (keyword.at + keyword.len) (content l))
+  if_by : (s : Bool) → is_spliced l ≡ s → LeftLine u ToIf keyword l k → content k ≡ take keyword.at (content l) ++ (opener_keyword u keyword.len ++ drop (keyword.at + keyword.len) (content l))
   unfolding edited_body
   if_by true s h =
-      (same_from_push (content k) (take keyword.at (content l) ++ (opener_keyword keyword.len ++ drop (keyword.at + keyword.len) (content l))) backslash backslash
+      (same_from_push (content k) (take keyword.at (content l) ++ (opener_keyword u keyword.len ++ drop (keyword.at + keyword.len) (content l))) backslash backslash
       (sym (spliced_body k (if_splice h ∙ s)) ∙ if_spliced (spliced_body l s) h.body)).0
   if_by false s h = grind (arith, if_splice, append_assoc)
 
   -- The content of a line that becomes an `#if` has its keyword exchanged.
-  pub if_line_content : LeftLine ToIf keyword l k → content k ≡ take keyword.at (content l) ++ (opener_keyword keyword.len ++ drop (keyword.at + keyword.len) (content l))
+  pub if_line_content : LeftLine u ToIf keyword l k → content k ≡ take keyword.at (content l) ++ (opener_keyword u keyword.len ++ drop (keyword.at + keyword.len) (content l))
   if_line_content h = if_by (is_spliced l) refl h
 
   module _ (word : List ℕ) (ends : EndsIn backslash (take keyword.at l.body ++ word) → ⊥) (b : k.body ≡ take keyword.at l.body ++ word) where
@@ -97,14 +97,14 @@ module _ (keyword : Span) (l k : Line) (within : keyword.at + keyword.len ≤ le
     cut_line_content = grind (arith, cut_splice, front_within)
 
 -- The bodies of lines that are left, by verdict.
-pub else_body : (keyword : Span) (b : List ℕ) → edited_body ToElse keyword b ≡ take keyword.at b ++ codes "else"
+pub else_body : (u : Bool) (keyword : Span) (b : List ℕ) → edited_body u ToElse keyword b ≡ take keyword.at b ++ codes "else"
 unfolding edited_body
-else_body keyword b = refl
+else_body u keyword b = refl
 
-pub endif_body : (keyword : Span) (b : List ℕ) → edited_body ToEndif keyword b ≡ take keyword.at b ++ codes "endif"
+pub endif_body : (u : Bool) (keyword : Span) (b : List ℕ) → edited_body u ToEndif keyword b ≡ take keyword.at b ++ codes "endif"
 unfolding edited_body
-endif_body keyword b = refl
+endif_body u keyword b = refl
 
-pub kept_body : (keyword : Span) (b : List ℕ) → edited_body Keep keyword b ≡ b
+pub kept_body : (u : Bool) (keyword : Span) (b : List ℕ) → edited_body u Keep keyword b ≡ b
 unfolding edited_body
-kept_body keyword b = refl
+kept_body u keyword b = refl

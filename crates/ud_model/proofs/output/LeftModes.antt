@@ -30,20 +30,22 @@ use Rattle.ud_model.proofs.output.RereadMore.{Carry, alike, Rests, last_comment}
 use Rattle.ud_model.proofs.text.ScanLaws.{place_after, white_after, scan_from, scan_after_run-from}
 use Rattle.ud_model.proofs.text.ScanLemmas.{joins_last}
 
-module _ (o : Options) (xs ys : List (Item Reading)) (l k : Line) where
+module _ (o : Options) (u : Bool) (xs ys : List (Item Reading)) (l k : Line) where
   -- By the line's verdict.
   pub left_plain : (v : Verdict) → IsLeft v → Suits v (item_of o (read_after xs Plain l)) → is_cut (content_of (plain_scan l)) ≡ false →
-      LeftLine v (keyword_in (content_of (plain_scan l))) l k → text_of k ≡ piece_by v (keyword_in (content_of (plain_scan l))) l →
-      Left o v (read_after xs Plain l) (read_after ys Plain k)
-  left_plain Remove h s u b e = absurd h
-  left_plain Keep h s u b e = grind (arith, kept_body)
-  left_plain ToIf h s u b e = let d = becomes_if o (read_after xs Plain l) s in
-      left_if o (read_after xs Plain l) (read_after ys Plain k) d.0 d.1 d.2 d.3
-      (plain_if l k d.0 d.1 (subst (λ (p : Span). LeftLine ToIf p l k) (ap keyword_in d.1) b)) e
-  left_plain ToElse h s u b e = grind (arith, becomes_else, left_else, plain_cut, else_body)
-  left_plain ToEndif h s u b e = let d = becomes_endif o (read_after xs Plain l) s in
-      left_endif o (read_after xs Plain l) (read_after ys Plain k) d.0 d.1 d.2
-      (plain_cut l k d.0 (codes "endif") (b.body ∙ endif_body (keyword_in (content_of (plain_scan l))) l.body ∙ ap (λ (c : Content). take (keyword_in c).at l.body ++ codes "endif") d.1)) e
+      LeftLine u v (keyword_in (content_of (plain_scan l))) l k → text_of k ≡ piece_by u v (keyword_in (content_of (plain_scan l))) l →
+      Left o u v (read_after xs Plain l) (read_after ys Plain k)
+  left_plain Remove h s c b e = absurd h
+  left_plain Keep h s c b e = grind (arith, kept_body)
+  left_plain ToIf h s c b e = let d = becomes_if o (read_after xs Plain l) s in
+      left_if o u (read_after xs Plain l) (read_after ys Plain k) d.0 d.1 d.2 d.3
+      (plain_if u l k d.0 d.1 (subst (λ (p : Span). LeftLine u ToIf p l k) (ap keyword_in d.1) b)) e
+  left_plain ToElse h s c b e = let d = becomes_else o (read_after xs Plain l) s in
+      left_else o u (read_after xs Plain l) (read_after ys Plain k) d.0 d.1 d.2
+      (plain_cut l k d.0 (codes "else") (b.body ∙ else_body u (keyword_in (content_of (plain_scan l))) l.body ∙ ap (λ (c : Content). take (keyword_in c).at l.body ++ codes "else") d.1)) e
+  left_plain ToEndif h s c b e = let d = becomes_endif o (read_after xs Plain l) s in
+      left_endif o u (read_after xs Plain l) (read_after ys Plain k) d.0 d.1 d.2
+      (plain_cut l k d.0 (codes "endif") (b.body ∙ endif_body u (keyword_in (content_of (plain_scan l))) l.body ∙ ap (λ (c : Content). take (keyword_in c).at l.body ++ codes "endif") d.1)) e
 
 -- C mode.
 
@@ -66,7 +68,7 @@ new_else = ((quiet_word (codes "else") refl).0, λ a. not_end backslash a (codes
 new_endif : NewWord (codes "endif")
 new_endif = ((quiet_word (codes "endif") refl).0, λ a. not_end backslash a (codes "endi") 102 refl)
 
-module _ (o : Options) where
+module _ (o : Options) (u : Bool) where
   abbrev with_line : List (Item Reading) → Line → List (Item Reading)
   with_line xs l = xs ++ item_of o (read_after xs C l) ∷ []
 
@@ -106,7 +108,7 @@ module _ (o : Options) where
 
     -- The output for a line, and the state that is carried to the next one.
     pub record LeftCode (v : Verdict) : Type 0 where
-      pub left : Left o v (read_after xs C l) (read_after ys C k)
+      pub left : Left o u v (read_after xs C l) (read_after ys C k)
       pub carry : HasEnd l → Carry false (with_line xs l) (with_line ys k)
 
     cut_code : (d : Directive) (word : List ℕ) → NewWord word → content_of (scan_after (map reading_of xs) C l) ≡ directive d → k.body ≡ take d.keyword.at l.body ++ word →
@@ -117,37 +119,37 @@ module _ (o : Options) where
     -- By the line's verdict.
     pub left_code : (v : Verdict) → IsLeft v → Suits v (item_of o (read_after xs C l)) → is_cut (content_of (scan_after (map reading_of xs) C l)) ≡ false →
         (keeps_rest v ≡ false → is_spanning (scan_after (map reading_of xs) C l) ≡ false) →
-        LeftLine v (keyword_in (content_of (scan_after (map reading_of xs) C l))) l k →
-        text_of k ≡ piece_by v (keyword_in (content_of (scan_after (map reading_of xs) C l))) l → LeftCode v
-    left_code Remove h s u m b e = absurd h
-    left_code Keep h s u m b e =
-        let body : k.body ≡ l.body = b.body ∙ kept_body (keyword_in (content_of (scan_after (map reading_of xs) C l))) l.body in
+        LeftLine u v (keyword_in (content_of (scan_after (map reading_of xs) C l))) l k →
+        text_of k ≡ piece_by u v (keyword_in (content_of (scan_after (map reading_of xs) C l))) l → LeftCode v
+    left_code Remove h s g m b e = absurd h
+    left_code Keep h s g m b e =
+        let body : k.body ≡ l.body = b.body ∙ kept_body u (keyword_in (content_of (scan_after (map reading_of xs) C l))) l.body in
         let q = kept_scan xs ys C w white on l k a c body b.ending in
         record {
-          left = left_kept o (read_after xs C l) (read_after ys C k) q e u;
+          left = left_kept o u (read_after xs C l) (read_after ys C k) q e g;
           carry = kept_carry (same_next w white l k body b.ending) (ap (λ (r : Scan). r.joins_after) q);
         }
-    left_code ToIf h s u m b e = let d = becomes_if o (read_after xs C l) s in
-        let f : IfScan w white on l k d.0 =
-        if_scan w white on l k d.0 a.sane (ap content_of (sym seen_before) ∙ d.1) (subst (λ (p : Span). LeftLine ToIf p l k) (ap keyword_in d.1) b) in
-        let scanned : SeenAsIf (scan_after (map reading_of xs) C l) (scan_after (map reading_of ys) C k) d.0 = grind (arith, seen_before, seen_now, f.scanned) in
+    left_code ToIf h s g m b e = let d = becomes_if o (read_after xs C l) s in
+        let f : IfScan u w white on l k d.0 =
+        if_scan u w white on l k d.0 a.sane (ap content_of (sym seen_before) ∙ d.1) (subst (λ (p : Span). LeftLine u ToIf p l k) (ap keyword_in d.1) b) in
+        let scanned : SeenAsIf u (scan_after (map reading_of xs) C l) (scan_after (map reading_of ys) C k) d.0 = grind (arith, seen_before, seen_now, f.scanned) in
         record {
-          left = left_if o (read_after xs C l) (read_after ys C k) d.0 d.1 d.2 d.3 scanned e;
+          left = left_if o u (read_after xs C l) (read_after ys C k) d.0 d.1 d.2 d.3 scanned e;
           carry = kept_carry f.next scanned.joins_is;
         }
-    left_code ToElse h s u m b e = let d = becomes_else o (read_after xs C l) s in
+    left_code ToElse h s g m b e = let d = becomes_else o (read_after xs C l) s in
         let scanned : SeenCut (scan_after (map reading_of xs) C l) (scan_after (map reading_of ys) C k) d.0 (codes "else") =
         cut_code d.0 (codes "else") new_else d.1
-        (b.body ∙ else_body (keyword_in (content_of (scan_after (map reading_of xs) C l))) l.body ∙ ap (λ (t : Content). take (keyword_in t).at l.body ++ codes "else") d.1) in
+        (b.body ∙ else_body u (keyword_in (content_of (scan_after (map reading_of xs) C l))) l.body ∙ ap (λ (t : Content). take (keyword_in t).at l.body ++ codes "else") d.1) in
         record {
-          left = left_else o (read_after xs C l) (read_after ys C k) d.0 d.1 d.2 scanned e;
+          left = left_else o u (read_after xs C l) (read_after ys C k) d.0 d.1 d.2 scanned e;
           carry = cut_carry (or_parts (scan_after (map reading_of xs) C l).joins_before (scan_after (map reading_of xs) C l).joins_after (m refl)).1 scanned.joins_is;
         }
-    left_code ToEndif h s u m b e = let d = becomes_endif o (read_after xs C l) s in
+    left_code ToEndif h s g m b e = let d = becomes_endif o (read_after xs C l) s in
         let scanned : SeenCut (scan_after (map reading_of xs) C l) (scan_after (map reading_of ys) C k) d.0 (codes "endif") =
         cut_code d.0 (codes "endif") new_endif d.1
-        (b.body ∙ endif_body (keyword_in (content_of (scan_after (map reading_of xs) C l))) l.body ∙ ap (λ (t : Content). take (keyword_in t).at l.body ++ codes "endif") d.1) in
+        (b.body ∙ endif_body u (keyword_in (content_of (scan_after (map reading_of xs) C l))) l.body ∙ ap (λ (t : Content). take (keyword_in t).at l.body ++ codes "endif") d.1) in
         record {
-          left = left_endif o (read_after xs C l) (read_after ys C k) d.0 d.1 d.2 scanned e;
+          left = left_endif o u (read_after xs C l) (read_after ys C k) d.0 d.1 d.2 scanned e;
           carry = cut_carry (or_parts (scan_after (map reading_of xs) C l).joins_before (scan_after (map reading_of xs) C l).joins_after (m refl)).1 scanned.joins_is;
         }

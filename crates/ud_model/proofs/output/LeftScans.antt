@@ -12,7 +12,7 @@ use Rattle.ud_model.specs.sections.Faults.{is_in_block}
 use Rattle.ud_model.specs.answer.Printing.{opener_keyword, keyword_in}
 use Rattle.ud_model.specs.declared.kind.CommentAt.{CommentAt}
 use Rattle.ud_model.specs.declared.verdict.Verdict.TheVariants.{ToIf}
-use Rattle.ud_model.proofs.output.ByLength.{each_length}
+use Rattle.ud_model.proofs.output.ByLength.{each_opener}
 use Rattle.ud_model.proofs.output.Each.{Each}
 use Rattle.ud_model.proofs.output.Formed.{EndsIn, edited_body}
 use Rattle.ud_model.proofs.output.DirectiveFront.{Front, directive_front, StartsDark, are_inert, inert_word}
@@ -23,8 +23,8 @@ use Rattle.ud_model.proofs.output.LeftLines.{LeftLine, same_open, if_splice, if_
 use Rattle.ud_model.proofs.text.ScanLaws.{place_after, white_after, masked_after, scan_from}
 
 -- A line that becomes an `#if` has the scan as before but for its keyword.
-pub record SeenAsIf (s now : Scan) (d : Directive) : Type 0 where
-  pub masked_is : now.masked ≡ take d.keyword.at s.masked ++ (opener_keyword d.keyword.len ++ d.after)
+pub record SeenAsIf (u : Bool) (s now : Scan) (d : Directive) : Type 0 where
+  pub masked_is : now.masked ≡ take d.keyword.at s.masked ++ (opener_keyword u d.keyword.len ++ d.after)
   pub fresh_is : now.fresh ≡ s.fresh
   pub cut_is : is_continued_outside_comment now ≡ is_continued_outside_comment s
   pub joins_is : now.joins_after ≡ s.joins_after
@@ -52,9 +52,9 @@ plain_after l d e = let p : Front (plain_scan l) d = directive_front (plain_scan
     ∙ drop_two (p.white ++ 35 ∷ p.gap) p.word d.after (d.keyword.at + d.keyword.len) (ap₂ (λ (a b : ℕ). a + b) p.at_is p.len_is)
 
 -- A line that becomes an `#if` is scanned so.
-pub plain_if : (l k : Line) (d : Directive) → content_of (plain_scan l) ≡ directive d → LeftLine ToIf d.keyword l k → SeenAsIf (plain_scan l) (plain_scan k) d
+pub plain_if : (u : Bool) (l k : Line) (d : Directive) → content_of (plain_scan l) ≡ directive d → LeftLine u ToIf d.keyword l k → SeenAsIf u (plain_scan l) (plain_scan k) d
 unfolding edited_body
-plain_if l k d e h = grind (arith, append_assoc, plain_after)
+plain_if u l k d e h = grind (arith, append_assoc, plain_after)
 
 -- A line that ends after its new keyword is scanned so.
 pub plain_cut : (l k : Line) (d : Directive) (word : List ℕ) → k.body ≡ take d.keyword.at l.body ++ word → SeenCut (plain_scan l) (plain_scan k) d word
@@ -75,20 +75,20 @@ keyword_within w white on l d e = let k : Span = keyword_in (content_of (scan_fr
     omega (arith, a, b, c)
 
 -- The scan of a line that becomes an `#if`.
-pub record IfScan (w : LexState) (white on : Bool) (l k : Line) (d : Directive) : Type 0 where
-  pub scanned : SeenAsIf (scan_from w white on l) (scan_from w white on k) d
+pub record IfScan (u : Bool) (w : LexState) (white on : Bool) (l k : Line) (d : Directive) : Type 0 where
+  pub scanned : SeenAsIf u (scan_from w white on l) (scan_from w white on k) d
   pub next : NextAlike w white l k
 
 -- A line that becomes an `#if` is scanned so, and ends in the same state as before.
-pub if_scan : (w : LexState) (white on : Bool) (l k : Line) (d : Directive) → Sane w white → content_of (scan_from w white on l) ≡ directive d → LeftLine ToIf d.keyword l k →
-    IfScan w white on l k d
+pub if_scan : (u : Bool) (w : LexState) (white on : Bool) (l k : Line) (d : Directive) → Sane w white → content_of (scan_from w white on l) ≡ directive d → LeftLine u ToIf d.keyword l k →
+    IfScan u w white on l k d
 unfolding scan_from
-if_scan w white on l k d s e h =
+if_scan u w white on l k d s e h =
     let within : d.keyword.at + d.keyword.len ≤ length (content l) = keyword_within w white on l d e in
-    let x : Exchanged w white on l k d (opener_keyword d.keyword.len) =
-    exchanged_scan w white on l k d (opener_keyword d.keyword.len) s e (inert_word (opener_keyword d.keyword.len) (each_length (λ v. are_inert v ≡ true) refl refl refl d.keyword.len))
-    (each_length StartsDark refl refl refl d.keyword.len) (if_line_content d.keyword l k within h) in
-    let p : is_spliced k ≡ is_spliced l = if_splice d.keyword l k within h in
+    let x : Exchanged w white on l k d (opener_keyword u d.keyword.len) =
+    exchanged_scan w white on l k d (opener_keyword u d.keyword.len) s e (inert_word (opener_keyword u d.keyword.len) (each_opener (λ v. are_inert v ≡ true) refl refl refl refl refl refl u d.keyword.len))
+    (each_opener StartsDark refl refl refl refl refl refl u d.keyword.len) (if_line_content u d.keyword l k within h) in
+    let p : is_spliced k ≡ is_spliced l = if_splice u d.keyword l k within h in
     let t : stays_open k ≡ stays_open l = same_open l k p h.ending in
     let v : state_after_line (stays_open k) (place_after w (content k)) ≡ state_after_line (stays_open l) (place_after w (content l)) =
     ap₂ (λ (b : Bool) (q : LexState). state_after_line b q) t x.place_is in
@@ -113,8 +113,8 @@ pub cut_seen : (w : LexState) (white on : Bool) (l k : Line) (d : Directive) (wo
 unfolding scan_from
 cut_seen w white on l k d word s e i n b =
     let within : d.keyword.at + d.keyword.len ≤ length (content l) = keyword_within w white on l d e in
-    let x = cut_scan w white on l k d word s e i (cut_line_content d.keyword l k within word n b) in
-    let p : is_spliced k ≡ false = cut_splice d.keyword l k within word n b in
+    let x = cut_scan w white on l k d word s e i (cut_line_content false d.keyword l k within word n b) in
+    let p : is_spliced k ≡ false = cut_splice false d.keyword l k within word n b in
     let v : kind_in_state (state_after_line (stays_open k) (place_after w (content k))) ≡ single =
     ap (λ (q : LexState). kind_in_state (state_after_line (stays_open k) q)) x.place_is ∙ (grind arith) in
     record {

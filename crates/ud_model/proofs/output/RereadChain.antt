@@ -58,4 +58,8 @@ module _ (o : Options) (p : IsPlain o) where
   -- The items of the output, read again.
   pub again : (xs : List (Item Reading)) (t : Tree Reading) → AreFaultless o xs t → AllButLast (map line_of xs) → (ys : List (Item Reading)) × Again o (the_mode o) xs t ys
   again _ _ no_lines h = ([], (start o (the_mode o)).again)
-  again _ _ (one_more xs t s l u e n) h = grind (arith, ends_before, lines_with_next, between, one_step)
+  again _ _ (one_more xs t s l u e n) h =
+      let k = ends_before (map line_of xs) l (subst AllButLast (lines_with_next o xs t l) h) in
+      let b : (ys : List (Item Reading)) × Between o (the_mode o) xs t ys = between xs t s k.0 in
+      let z = one_step xs t s b.0 b.1 l u k.1 e n in
+      (z.0, z.1)

@@ -105,15 +105,15 @@ module _ {A B M : Type 0} (f : A → M) (g : B → M) where
         elif_goes = elif_goes;
       }) ns ys (strewn_pairs IsAlong (λ d. ⊥) (all_along (lines_of_nodes ns) ys e))
 
-abbrev pub left_piece : Item (Edited Reading) → List ℕ
-left_piece y = edited_bytes (line_in y)
+abbrev pub left_piece : Bool → Item (Edited Reading) → List ℕ
+left_piece u y = edited_bytes u (line_in y)
 
-printed_bytes : (xs : List (Item Reading)) (ms : List Mark) → concat (map left_piece (printed xs ms)) ≡ concat (map (lone false false) (judged_lines xs ms))
-printed_bytes (x ∷ xs) (m ∷ ms) = grind (arith, printed_bytes xs ms)
-printed_bytes _ _ = refl
+printed_bytes : (u : Bool) (xs : List (Item Reading)) (ms : List Mark) → concat (map (left_piece u) (printed xs ms)) ≡ concat (map (lone u false false) (judged_lines xs ms))
+printed_bytes u (x ∷ xs) (m ∷ ms) = grind (arith, printed_bytes u xs ms)
+printed_bytes _ _ _ = refl
 
 -- Without options the pieces are the output.
-pub plain_output : (o : Options) → IsPlain o → (xs : List (Item Reading)) (ms : List Mark) → printed_by o.settings xs ms ≡ concat (map left_piece (printed xs ms))
+pub plain_output : (o : Options) → IsPlain o → (xs : List (Item Reading)) (ms : List Mark) → printed_by o.settings xs ms ≡ concat (map (left_piece o.settings.unpadded) (printed xs ms))
 plain_output o p xs ms = grind (arith, pieces_lone, printed_bytes)
 
 map_lines : {A B : Type 0} (f : A → B) (ys : List (Item A)) → map line_in (map (item_with f) ys) ≡ map (λ y. f (line_in y)) ys
@@ -127,20 +127,20 @@ map_readings : (ys : List (Item Reading)) → map (λ y. line_bytes (reading_of 
 map_readings [] = refl
 map_readings (y ∷ ys) = ap₂ (λ (a : List ℕ) (b : List (List ℕ)). a ∷ b) (ap line_bytes (line_read y)) (map_readings ys)
 
-pub item_bytes : (ys : List (Item Reading)) (zs : List (Item (Edited Reading))) → map (item_with scanned) ys ≡ map (item_with left_seen) zs →
-    map (λ y. line_bytes (reading_of y)) ys ≡ map left_piece zs
-item_bytes ys zs e = let bytes : List Seen → List (List ℕ) = map (λ (s : Seen). s.bytes) in
+pub item_bytes : (u : Bool) (ys : List (Item Reading)) (zs : List (Item (Edited Reading))) → map (item_with scanned) ys ≡ map (item_with (left_seen u)) zs →
+    map (λ y. line_bytes (reading_of y)) ys ≡ map (left_piece u) zs
+item_bytes u ys zs e = let bytes : List Seen → List (List ℕ) = map (λ (s : Seen). s.bytes) in
     map_readings ys ∙ sym (map-twice (λ (y : Item Reading). scanned (line_in y)) (λ (s : Seen). s.bytes) ys)
-    ∙ ap bytes (sym (map_lines scanned ys) ∙ ap (λ (l : List (Item Seen)). map line_in l) e ∙ map_lines left_seen zs)
-    ∙ map-twice (λ (z : Item (Edited Reading)). left_seen (line_in z)) (λ (s : Seen). s.bytes) zs
+    ∙ ap bytes (sym (map_lines scanned ys) ∙ ap (λ (l : List (Item Seen)). map line_in l) e ∙ map_lines (left_seen u) zs)
+    ∙ map-twice (λ (z : Item (Edited Reading)). left_seen u (line_in z)) (λ (s : Seen). s.bytes) zs
 
-pub kept_bytes : (ls : List Reading) → map edited_bytes (map (edited Keep) ls) ≡ map line_bytes ls
-kept_bytes [] = refl
-kept_bytes (l ∷ ls) = ap (λ (t : List (List ℕ)). line_bytes l ∷ t) (kept_bytes ls)
+pub kept_bytes : (u : Bool) (ls : List Reading) → map (edited_bytes u) (map (edited Keep) ls) ≡ map line_bytes ls
+kept_bytes u [] = refl
+kept_bytes u (l ∷ ls) = ap (λ (t : List (List ℕ)). line_bytes l ∷ t) (kept_bytes u ls)
 
 -- The rest of nodes is no higher.
-low_left : (us ns : Nodes Reading) → with_lines line_bytes us ≡ with_lines edited_bytes (folded ns) → height_of_nodes ns ≤ OPEN_SECTIONS → height_of_nodes us ≤ OPEN_SECTIONS
-low_left us ns e h = grind (arith, height-with, pruned_height)
+low_left : (u : Bool) (us ns : Nodes Reading) → with_lines line_bytes us ≡ with_lines (edited_bytes u) (folded ns) → height_of_nodes ns ≤ OPEN_SECTIONS → height_of_nodes us ≤ OPEN_SECTIONS
+low_left u us ns e h = grind (arith, height-with, pruned_height)
 
 module _ (o : Options) (p : IsPlain o) (input : List ℕ) where
   -- The output's items and their tree, which is the pruned tree of the input. They keep the limits
@@ -148,8 +148,8 @@ module _ (o : Options) (p : IsPlain o) (input : List ℕ) where
   pub record Result (r : Outcome) (ns : Nodes Reading) : Type 0 where
     pub tree : Nodes Reading
     pub is_tree : IsTreeOf o r.output (closed tree)
-    pub alike : with_lines scanned tree ≡ with_lines left_seen (folded ns)
-    pub same : with_lines line_bytes tree ≡ with_lines edited_bytes (folded ns)
+    pub alike : with_lines scanned tree ≡ with_lines (left_seen o.settings.unpadded) (folded ns)
+    pub same : with_lines line_bytes tree ≡ with_lines (edited_bytes o.settings.unpadded) (folded ns)
     pub uncut : Each IsUncut is_tree.items
     pub few : Each IsFew is_tree.items
     pub low : height_of_nodes tree ≤ OPEN_SECTIONS
@@ -163,32 +163,32 @@ module _ (o : Options) (p : IsPlain o) (input : List ℕ) where
       let z = again o p xs t g.sound (subst AllButLast g.are (lines_end 1 (texts_of input) (lines_exist input).formed)) in
       let left : printed xs (marks t) ≡ lines_of_nodes (folded ns) = cc (sound_lines g.sound, same, printed-pruned ns) in
       let along =
-      nodes_along left_seen scanned (folded ns) z.0 (z.1.same ∙ ap (λ (l : List (Item (Edited Reading))). map (item_with left_seen) l) left) in
-      let bytes : with_lines line_bytes along.nodes ≡ with_lines edited_bytes (folded ns) =
+      nodes_along (left_seen o.settings.unpadded) scanned (folded ns) z.0 (z.1.same ∙ ap (λ (l : List (Item (Edited Reading))). map (item_with (left_seen o.settings.unpadded)) l) left) in
+      let bytes : with_lines line_bytes along.nodes ≡ with_lines (edited_bytes o.settings.unpadded) (folded ns) =
       sym (with_lines-twice scanned (λ (q : Seen). q.bytes) along.nodes) ∙ ap (λ (m : Nodes Seen). with_lines (λ (q : Seen). q.bytes) m) along.alike
-      ∙ with_lines-twice left_seen (λ (q : Seen). q.bytes) (folded ns) in
-      let formed : AreFormed (map left_piece (printed xs (marks t))) =
-      subst (λ (u : Tree Reading). AreFormed (map left_piece (printed xs (marks u)))) (sym same)
-      (pieces_formed o input xs ns (subst (λ (u : Tree Reading). HasNoFault o (lines_of input) xs u) same g)) in
-      let out : output_by o.settings.listing o.settings xs t ≡ concat (map left_piece (printed xs (marks t))) = cc (p.unlisted, plain_output o p xs (marks t)) in
+      ∙ with_lines-twice (left_seen o.settings.unpadded) (λ (q : Seen). q.bytes) (folded ns) in
+      let formed : AreFormed (map (left_piece o.settings.unpadded) (printed xs (marks t))) =
+      subst (λ (u : Tree Reading). AreFormed (map (left_piece o.settings.unpadded) (printed xs (marks u)))) (sym same)
+      (pieces_formed o.settings.unpadded o input xs ns (subst (λ (u : Tree Reading). HasNoFault o (lines_of input) xs u) same g)) in
+      let out : output_by o.settings.listing o.settings xs t ≡ concat (map (left_piece o.settings.unpadded) (printed xs (marks t))) = cc (p.unlisted, plain_output o p xs (marks t)) in
       record {
         tree = along.nodes;
         is_tree = record {
           items = z.0;
           read = are_read o p.none_ignores z.0 z.1.read (closed along.nodes) along.lines;
-          are = cc (out, output_lines (map left_piece (printed xs (marks t))) formed, item_bytes z.0 (printed xs (marks t)) z.1.same, z.1.numbered);
+          are = cc (out, output_lines (map (left_piece o.settings.unpadded) (printed xs (marks t))) formed, item_bytes o.settings.unpadded z.0 (printed xs (marks t)) z.1.same, z.1.numbered);
         };
         alike = along.alike;
         same = bytes;
         uncut = z.1.uncut;
         few = again_few o (the_mode o) xs t z.0 z.1 (sound_few o xs t (texts_of input) g.sound (sym g.are));
-        low = low_left along.nodes ns bytes (subst (λ (u : Tree Reading). height u ≤ OPEN_SECTIONS) same (sound_low o xs t g.sound));
+        low = low_left o.settings.unpadded along.nodes ns bytes (subst (λ (u : Tree Reading). height u ≤ OPEN_SECTIONS) same (sound_low o xs t g.sound));
         calm = z.1.ends (end_parts (ends_in_comment xs) (last_number xs) (innermost t) e).0;
       }
 
-kept_conditions : (es : List (Edited Reading)) → Each Keeps es → map (λ (e : Edited Reading). (left_seen e).condition) es ≡ map (λ (e : Edited Reading). condition_in e.line) es
-kept_conditions [] h = refl
-kept_conditions (e ∷ es) h = grind (arith, kept_conditions es h.1)
+kept_conditions : (u : Bool) (es : List (Edited Reading)) → Each Keeps es → map (λ (e : Edited Reading). (left_seen u e).condition) es ≡ map (λ (e : Edited Reading). condition_in e.line) es
+kept_conditions u [] h = refl
+kept_conditions u (e ∷ es) h = grind (arith, kept_conditions u es h.1)
 
 -- The truths of the openers of the folded nodes.
 pub truths_folded : (w : World Reading) (before : Nodes Reading) (v : World Reading) (after : Nodes Reading) → KeepsTruths w before v after →
@@ -205,28 +205,28 @@ module _ (k : CleanRun) where
   same_tree = closed_same k.after result.tree (one_tree_of k.options k.outcome.output (closed k.after) (closed result.tree) k.of_output result.is_tree)
 
   -- Each of its lines has the parts that stay of the line from which it comes.
-  pub seen_alike : with_lines scanned k.after ≡ with_lines left_seen (folded k.before)
+  pub seen_alike : with_lines scanned k.after ≡ with_lines (left_seen k.options.settings.unpadded) (folded k.before)
   seen_alike = ap (with_lines scanned) same_tree ∙ result.alike
 
   -- This tree is the pruned tree of the input.
-  pub what_is_left : with_lines line_bytes k.after ≡ with_lines edited_bytes (folded k.before)
+  pub what_is_left : with_lines line_bytes k.after ≡ with_lines (edited_bytes k.options.settings.unpadded) (folded k.before)
   what_is_left = ap (with_lines line_bytes) same_tree ∙ result.same
 
-  pub pruned_left : (ps : Nodes (Edited Reading)) → IsPruned k.before ps → with_lines line_bytes k.after ≡ with_lines edited_bytes ps
-  pruned_left ps h = what_is_left ∙ ap (with_lines edited_bytes) (is_folded k.before ps h)
+  pub pruned_left : (ps : Nodes (Edited Reading)) → IsPruned k.before ps → with_lines line_bytes k.after ≡ with_lines (edited_bytes k.options.settings.unpadded) ps
+  pruned_left ps h = what_is_left ∙ ap (with_lines (edited_bytes k.options.settings.unpadded)) (is_folded k.before ps h)
 
   -- The lines that are selected of the output are those that are selected of the input.
   pub selected_again : (w v : World Reading) → Agrees w k.before → KeepsTruths w k.before v k.after → map line_bytes (selected v k.after) ≡ map line_bytes (selected w k.before)
   selected_again w v g t =
-      same_selected line_bytes edited_bytes v (λ (x : Edited Reading). w x.line) k.after (folded k.before) what_is_left (truths_folded w k.before v k.after t)
-      ∙ ap (λ (l : List (Edited Reading)). map edited_bytes l) (sym (selected-pruned w k.before g)) ∙ kept_bytes (selected w k.before)
+      same_selected line_bytes (edited_bytes k.options.settings.unpadded) v (λ (x : Edited Reading). w x.line) k.after (folded k.before) what_is_left (truths_folded w k.before v k.after t)
+      ∙ ap (λ (l : List (Edited Reading)). map (edited_bytes k.options.settings.unpadded) l) (sym (selected-pruned w k.before g)) ∙ kept_bytes k.options.settings.unpadded (selected w k.before)
 
   -- Each opener of the output has the condition of the opener from which it comes.
   conditions_folded : map condition_in (openers k.after) ≡ map (λ (e : Edited Reading). condition_in e.line) (openers (folded k.before))
   conditions_folded = sym (map-twice scanned (λ (q : Seen). q.condition) (openers k.after))
       ∙ ap (λ (l : List Seen). map (λ (q : Seen). q.condition) l)
-      (sym (openers-with scanned k.after) ∙ ap (λ (m : Nodes Seen). openers m) seen_alike ∙ openers-with left_seen (folded k.before))
-      ∙ map-twice left_seen (λ (q : Seen). q.condition) (openers (folded k.before)) ∙ kept_conditions (openers (folded k.before)) (pruned_keeps k.before)
+      (sym (openers-with scanned k.after) ∙ ap (λ (m : Nodes Seen). openers m) seen_alike ∙ openers-with (left_seen k.options.settings.unpadded) (folded k.before))
+      ∙ map-twice (left_seen k.options.settings.unpadded) (λ (q : Seen). q.condition) (openers (folded k.before)) ∙ kept_conditions k.options.settings.unpadded (openers (folded k.before)) (pruned_keeps k.before)
 
   pub conditions_same : map condition_in (openers k.after) ≡ map (λ (e : Edited Reading). condition_in e.line) (openers_in (pruned_lines k.before))
   conditions_same = grind (arith, conditions_folded, pruned_openers)
@@ -241,17 +241,17 @@ module _ (k : CleanRun) where
       ∙ ap (λ (l : List (Option Expression)). length l) (sym conditions_same) ∙ length-map (openers k.after) condition_in)
 
 -- Nothing is decided of the output.
-pub output_undecided : (us ns : Nodes Reading) → with_lines line_bytes us ≡ with_lines edited_bytes (folded ns) → IsUndecided us
-output_undecided us ns e = grind (arith, other_lines edited_bytes Any IsUnknown (folded ns), e, other_lines line_bytes Any IsUnknown us, pruned_undecided ns)
+pub output_undecided : (u : Bool) (us ns : Nodes Reading) → with_lines line_bytes us ≡ with_lines (edited_bytes u) (folded ns) → IsUndecided us
+output_undecided u us ns e = grind (arith, other_lines (edited_bytes u) Any IsUnknown (folded ns), e, other_lines line_bytes Any IsUnknown us, pruned_undecided ns)
 
 -- Nothing is decided of the output of a clean run.
 pub after_undecided : (k : CleanRun) → IsUndecided k.after
-after_undecided k = output_undecided k.after k.before (what_is_left k)
+after_undecided k = output_undecided k.options.settings.unpadded k.after k.before (what_is_left k)
 
 -- If each line stays, the pieces are the lines.
-whole_pieces : (ys : List (Item Reading)) (ms : List Mark) → Each Stays ms → map (lone false false) (judged_lines ys ms) ≡ map whole (judged_lines ys ms)
-whole_pieces (y ∷ ys) (m ∷ ms) h = grind (arith, whole_pieces ys ms h.1)
-whole_pieces _ _ _ = refl
+pub whole_pieces : (u : Bool) (ys : List (Item Reading)) (ms : List Mark) → Each Stays ms → map (lone u false false) (judged_lines ys ms) ≡ map whole (judged_lines ys ms)
+whole_pieces u (y ∷ ys) (m ∷ ms) h = grind (arith, whole_pieces u ys ms h.1)
+whole_pieces _ _ _ _ = refl
 
 none_differ : (js : List Judged) → some_other (map whole js) js ≡ false
 none_differ [] = refl
@@ -259,7 +259,9 @@ none_differ (j ∷ js) = ap₂ (λ (a b : Bool). not a || b) ((bytes_eq-Decides 
 
 module _ (o : Options) (p : IsPlain o) (text : List ℕ) (ys : List (Item Reading)) (us : Nodes Reading) (g : HasNoFault o (lines_of text) ys (closed us)) (h : IsUndecided us) where
   the_pieces : pieces_by (piece_after (style_of o.settings)) [] (judged_lines ys (marks (closed us))) ≡ map whole (judged_lines ys (marks (closed us)))
-  the_pieces = grind (arith, pieces_lone, whole_pieces, undecided_stay)
+  the_pieces = let js : List Judged = judged_lines ys (marks (closed us)) in
+      pieces_lone o.settings.unpadded o.settings.blank o.settings.complement o.settings.renumber [] js p.unnumbered
+      ∙ ap₂ (λ (b c : Bool). map (lone o.settings.unpadded b c) js) p.unblanked p.uncomplemented ∙ whole_pieces o.settings.unpadded ys (marks (closed us)) (undecided_stay us h)
 
   -- A text is printed as it is, if it has no faulty line and nothing of it is decided.
   pub same_output : output_by o.settings.listing o.settings ys (closed us) ≡ text
@@ -290,7 +292,7 @@ again_law : (o : Options) → IsPlain o → (input : List ℕ) → {r : Outcome}
     (ns : Nodes Reading) → IsTreeOf o input (closed ns) → HasOutcome o r.output (record { output = r.output; fault = None; differs = false })
 again_law o p input {r} d e f ns t = let z : Result o p input r ns = reread o p input d e ns t in
     let s = output_sound o p input ns z f in
-    runs_again o p r.output z.is_tree.items z.tree s.0 (output_undecided z.tree ns z.same) s.1
+    runs_again o p r.output z.is_tree.items z.tree s.0 (output_undecided o.settings.unpadded z.tree ns z.same) s.1
 
 pub input_nodes : (t : Tree Reading) → innermost t ≡ None → (ns : Nodes Reading) × (t ≡ closed ns)
 input_nodes (closed ns) e = (ns, refl)

@@ -48,7 +48,7 @@ IsUncut y = is_cut (content_of (reading_of y).scan) ≡ false
 -- a comment only if the lines do.
 pub record Again (o : Options) (m : Mode) (xs : List (Item Reading)) (t : Tree Reading) (ys : List (Item Reading)) : Type 0 where
   pub read : ReadIn o m ys
-  pub same : map (item_with scanned) ys ≡ map (item_with left_seen) (printed xs (marks t))
+  pub same : map (item_with scanned) ys ≡ map (item_with (left_seen o.settings.unpadded)) (printed xs (marks t))
   pub numbered : map line_of ys ≡ numbered_from 1 (map (λ y. line_bytes (reading_of y)) ys)
   pub uncut : Each IsUncut ys
   pub ends : ends_in_comment xs ≡ false → ends_in_comment ys ≡ false
@@ -102,7 +102,7 @@ module _ (o : Options) (m : Mode) (xs : List (Item Reading)) (t u : Tree Reading
   gone_again e c = grind (arith, printed_next, append-nil)
 
   -- The case of a line that is left.
-  pub left_again : (r : Reading) (piece : List ℕ) → x ≡ item_of o r → Left o mark.verdict r (read_after ys m (piece_behind_all ys piece)) →
+  pub left_again : (r : Reading) (piece : List ℕ) → x ≡ item_of o r → Left o o.settings.unpadded mark.verdict r (read_after ys m (piece_behind_all ys piece)) →
       Again o m (xs ++ x ∷ []) u (ys ++ item_of o (read_after ys m (piece_behind_all ys piece)) ∷ [])
   unfolding bytes_read
   left_again r piece is h = let q : Reading = read_after ys m (piece_behind_all ys piece) in
@@ -114,9 +114,9 @@ module _ (o : Options) (m : Mode) (xs : List (Item Reading)) (t u : Tree Reading
       record {
         read = one_read ys a.read (piece_behind_all ys piece);
         same = map-append (item_with scanned) ys (y ∷ [])
-            ∙ ap₂ (λ (p s : List (Item Seen)). p ++ s) a.same (h.item ∙ ap (λ (z : Item Reading). map (item_with left_seen) (kept_line mark.verdict z)) (sym is))
-            ∙ sym (map-append (item_with left_seen) (printed xs (marks t)) (kept_line mark.verdict x))
-            ∙ sym (ap (λ (zs : List (Item (Edited Reading))). map (item_with left_seen) zs) printed_next);
+            ∙ ap₂ (λ (p s : List (Item Seen)). p ++ s) a.same (h.item ∙ ap (λ (z : Item Reading). map (item_with (left_seen o.settings.unpadded)) (kept_line mark.verdict z)) (sym is))
+            ∙ sym (map-append (item_with (left_seen o.settings.unpadded)) (printed xs (marks t)) (kept_line mark.verdict x))
+            ∙ sym (ap (λ (zs : List (Item (Edited Reading))). map (item_with (left_seen o.settings.unpadded)) zs) printed_next);
         numbered = map-append line_of ys (y ∷ [])
             ∙ ap₂ (λ (p s : List Line). p ++ s) a.numbered (ap (λ (z : Reading). z.line ∷ []) q_is)
             ∙ sym (ap (λ (ps : List (List ℕ)). numbered_from 1 ps) bytes ∙ numbered_from-next (bytes_read ys) piece []);

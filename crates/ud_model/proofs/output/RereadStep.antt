@@ -78,12 +78,12 @@ module _ (o : Options) (m : Mode) (xs : List (Item Reading)) (t : Tree Reading) 
   new = item_of o (read_after xs m l)
 
   abbrev piece : List ℕ
-  piece = piece_by k.grown.mark.verdict (keyword_in (content_of (scan_after (map reading_of xs) m l))) l
+  piece = piece_by o.settings.unpadded k.grown.mark.verdict (keyword_in (content_of (scan_after (map reading_of xs) m l))) l
 
   abbrev now : Line
   now = piece_behind_all ys piece
 
-  now_line : IsLeft k.grown.mark.verdict → LeftLine k.grown.mark.verdict (keyword_in (content_of (scan_after (map reading_of xs) m l))) l now
+  now_line : IsLeft k.grown.mark.verdict → LeftLine o.settings.unpadded k.grown.mark.verdict (keyword_in (content_of (scan_after (map reading_of xs) m l))) l now
   now_line h = search (rules, piece_line)
 
   now_text : text_of now ≡ piece
@@ -92,7 +92,7 @@ module _ (o : Options) (m : Mode) (xs : List (Item Reading)) (t : Tree Reading) 
   goes : k.grown.mark.verdict ≡ Remove → ends_in_comment ys ≡ false → Again o m (xs ++ new ∷ []) u ys
   goes e c = gone_again o m xs t u ys new k.grown.mark k.more k.long b.again e c
 
-  is_left : Left o k.grown.mark.verdict (read_after xs m l) (read_after ys m now) → Again o m (xs ++ new ∷ []) u (ys ++ item_of o (read_after ys m now) ∷ [])
+  is_left : Left o o.settings.unpadded k.grown.mark.verdict (read_after xs m l) (read_after ys m now) → Again o m (xs ++ new ∷ []) u (ys ++ item_of o (read_after ys m now) ∷ [])
   is_left h = left_again o m xs t u ys new k.grown.mark k.more k.long b.again (read_after xs m l) piece refl h
 
   removed_is : ends_removed (marks u) ≡ is_removed k.grown.mark.verdict
@@ -126,7 +126,7 @@ plain_step o xs t ys b l u i k = go (goes_or_left k.grown.mark.verdict)
           ys ++ item_of o (read_after ys Plain n) ∷ [],
           plain_between o xs u l (ys ++ item_of o (read_after ys Plain n) ∷ [])
               (is_left o Plain xs t ys b l u i k
-              (left_plain o xs ys l n k.grown.mark.verdict h k.grown.suits k.uncut (now_line o Plain xs t ys b l u i k h) (now_text o Plain xs t ys b l u i k))),
+              (left_plain o o.settings.unpadded xs ys l n k.grown.mark.verdict h k.grown.suits k.uncut (now_line o Plain xs t ys b l u i k h) (now_text o Plain xs t ys b l u i k))),
         )
 
 -- 2. In C mode.
@@ -179,7 +179,7 @@ module _ (o : Options) (xs : List (Item Reading)) (t : Tree Reading) (ys : List 
   code_left : (w : LexState) (white on : Bool) → LeavesOff xs w white on → LeavesOff ys w white on → IsLeft k.grown.mark.verdict → (zs : List (Item Reading)) × Stepped o C xs u l zs
   code_left w white on a c h = let n : Line = now o C xs t ys b l u i k in
       let line = now_line o C xs t ys b l u i k h in
-      let f : LeftCode o xs ys w white on a c l n line.ending k.grown.mark.verdict = search (rules, left_code, is_alone, now_text) in
+      let f : LeftCode o o.settings.unpadded xs ys w white on a c l n line.ending k.grown.mark.verdict = search (rules, left_code, is_alone, now_text) in
       let again = is_left o C xs t ys b l u i k f.left in (
         ys ++ item_of o (read_after ys C n) ∷ [],
         (

@@ -1,6 +1,6 @@
 -- The parts that a line of the output has from the line from which it comes: its bytes, the condition
 -- of its directive, and how it is read if it is text.
-use Rattle.std.proofs.Common.{◌≡◌, ℕ, List, [], ◌∷◌, map, Option, Some, None, refl, ap, ap₂}
+use Rattle.std.proofs.Common.{◌≡◌, ℕ, List, [], ◌∷◌, map, Bool, Option, Some, None, refl, ap, ap₂}
 use Rattle.ud_model.specs.text.Scans.{Scan, Reading}
 use Rattle.ud_model.specs.sections.Directives.{Content, directive, content_of}
 use Rattle.ud_model.specs.conditions.Expressions.{Expression}
@@ -49,9 +49,9 @@ left_text Keep r = text_scan r
 left_text _ _ = None
 
 -- The case of a line of the pruned tree.
-abbrev pub left_seen : Edited Reading → Seen
-left_seen e = record {
-  bytes = edited_bytes e;
+abbrev pub left_seen : Bool → Edited Reading → Seen
+left_seen u e = record {
+  bytes = edited_bytes u e;
   condition = left_condition e.verdict e.line;
   written = left_written e.verdict e.line;
   text = left_text e.verdict e.line;

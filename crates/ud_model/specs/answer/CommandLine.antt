@@ -273,6 +273,7 @@ settings_in gs = record {
   blank = has_flag (codes "bl") gs;
   complement = has_flag (codes "c") gs;
   renumber = has_flag (codes "n") gs;
+  unpadded = false;
   listing = listing_by (has_flag (codes "S") gs) (has_flag (codes "s") gs);
   exit_mode = mode_from Zero gs;
 }

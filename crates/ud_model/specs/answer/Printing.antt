@@ -2,7 +2,8 @@
 -- unifdef(1): the lines that are kept, with edited directives if a neighbour was removed; `-b`,
 -- `-c`, `-n`.
 --
---   piece_by verdict keyword l      the piece of a line by its verdict alone, without options
+--   piece_by unpadded verdict keyword l
+--                                   the piece of a line by its verdict alone
 --   piece_after style before j      the piece of a judged line that follows others, in a style
 --   pieces_by piece before js       the pieces of judged lines that follow others, each by all
 --                                   lines before it
@@ -14,8 +15,8 @@
 --
 -- Example: under `-n`, a line `x` with the number 5 after a removed line is printed as `#line 5`
 -- and `x`.
-use Rattle.std.specs.Prelude.{ℕ, ◌+◌, ◌==◌, List, [], ◌∷◌, ◌++◌, take, drop, map, Bool, false, not}
-use Rattle.std.specs.Prelude.{◌&&◌, ◌||◌, bytes_eq, codes, decimal, if◌then◌else◌}
+use Rattle.std.specs.Prelude.{ℕ, ◌+◌, ◌==◌, List, [], ◌∷◌, ◌++◌, take, drop, map, Bool, true, false}
+use Rattle.std.specs.Prelude.{not, ◌&&◌, ◌||◌, bytes_eq, codes, decimal, if◌then◌else◌}
 use Rattle.std.specs.List.{concat}
 use Rattle.ud_model.specs.text.Bytes.{newline}
 use Rattle.ud_model.specs.text.Lines.{Line, text_of}
@@ -40,22 +41,23 @@ keyword_in text = record { at = 0; len = 0 }
 abbrev pub by_length : {A : Type 0} → ℕ → A → A → A → A
 by_length len a b c = if len == 7 then a else if len == 8 then b else c
 
--- `opener_keyword len`: the replacement of a keyword of this length in a directive that becomes the
--- first of its section. `elifdef` becomes `ifdef`, `elifndef` becomes `ifndef`, and any other
--- keyword `if`, each followed by two spaces for the lost bytes.
-abbrev pub opener_keyword : ℕ → List ℕ
-opener_keyword len = by_length len (codes "ifdef  ") (codes "ifndef  ") (codes "if  ")
+-- `opener_keyword unpadded len`: the replacement of a keyword of this length in a directive that
+-- becomes the first of its section. `elifdef` becomes `ifdef`, `elifndef` becomes `ifndef`, and any
+-- other keyword `if`. Unless `unpadded`, two spaces follow for the lost bytes.
+abbrev pub opener_keyword : Bool → ℕ → List ℕ
+opener_keyword true len = by_length len (codes "ifdef") (codes "ifndef") (codes "if")
+opener_keyword false len = by_length len (codes "ifdef  ") (codes "ifndef  ") (codes "if  ")
 
--- `piece_by verdict keyword l`: the piece of the line `l` by its verdict. An edited directive keeps
--- the bytes before its keyword. One that becomes the first of its section also keeps the bytes
--- after.
-abbrev pub piece_by : Verdict → Span → Line → List ℕ
-piece_by Keep keyword l = text_of l
-piece_by Remove keyword l = []
-piece_by ToIf keyword l = take keyword.at l.body ++ opener_keyword keyword.len ++
+-- `piece_by unpadded verdict keyword l`: the piece of the line `l` by its verdict. An edited
+-- directive keeps the bytes before its keyword. One that becomes the first of its section also
+-- keeps the bytes after, and two spaces come before these unless `unpadded`.
+abbrev pub piece_by : Bool → Verdict → Span → Line → List ℕ
+piece_by unpadded Keep keyword l = text_of l
+piece_by unpadded Remove keyword l = []
+piece_by unpadded ToIf keyword l = take keyword.at l.body ++ opener_keyword unpadded keyword.len ++
     drop (keyword.at + keyword.len) l.body ++ l.ending
-piece_by ToElse keyword l = take keyword.at l.body ++ codes "else" ++ l.ending
-piece_by ToEndif keyword l = take keyword.at l.body ++ codes "endif" ++ l.ending
+piece_by unpadded ToElse keyword l = take keyword.at l.body ++ codes "else" ++ l.ending
+piece_by unpadded ToEndif keyword l = take keyword.at l.body ++ codes "endif" ++ l.ending
 
 -- A judged line: a line with its verdict, and the span of its keyword.
 pub record Judged : Type 0 where
@@ -64,19 +66,21 @@ pub record Judged : Type 0 where
   pub keyword : Span
 
 -- The style in which lines are printed: removed ones blanked (`-b`), kept and removed ones swapped
--- (`-c`), numbers inserted (`-n`).
+-- (`-c`), numbers inserted (`-n`), keywords replaced without spaces (`-p` of unifdef-tree).
 pub record Style : Type 0 where
   pub blank : Bool
   pub complement : Bool
   pub renumber : Bool
-
--- The style without options.
-abbrev pub plain_style : Style
-plain_style = record { blank = false; complement = false; renumber = false }
+  pub unpadded : Bool
 
 -- `style_of s`: the style under the settings `s`.
 abbrev pub style_of : Settings → Style
-style_of s = record { blank = s.blank; complement = s.complement; renumber = s.renumber }
+style_of s = record {
+  blank = s.blank;
+  complement = s.complement;
+  renumber = s.renumber;
+  unpadded = s.unpadded;
+}
 
 -- `complement_verdict v`: Keep if the line would be removed, else Remove.
 abbrev pub complement_verdict : Verdict → Verdict
@@ -102,12 +106,12 @@ ending_or_newline (b ∷ bs) = b ∷ bs
 abbrev pub number_line : Line → List ℕ
 number_line l = codes "#line " ++ decimal l.number ++ ending_or_newline l.ending
 
--- `piece_alone blank j`: the piece of a line by itself. For a removed line it is empty, or under
--- `-b` the line's ending.
-abbrev pub piece_alone : Bool → Judged → List ℕ
-piece_alone blank j =
+-- `piece_alone unpadded blank j`: the piece of a line by itself. For a removed line it is empty, or
+-- under `-b` the line's ending.
+abbrev pub piece_alone : Bool → Bool → Judged → List ℕ
+piece_alone unpadded blank j =
     if blank && is_removed j.verdict then j.line.ending
-    else piece_by j.verdict j.keyword j.line
+    else piece_by unpadded j.verdict j.keyword j.line
 
 -- `is_numbered style before j`: a `#line` comes before `j`: under `-n`, if `j` isn't removed and
 -- the line before it is, unless lines are blanked.
@@ -119,7 +123,8 @@ is_numbered style before j = style.renumber && not style.blank && last_removed b
 -- without `-c`.
 abbrev pub uncomplemented_piece : Style → List Judged → Judged → List ℕ
 uncomplemented_piece style before j =
-    (if is_numbered style before j then number_line j.line else []) ++ piece_alone style.blank j
+    (if is_numbered style before j then number_line j.line else []) ++
+    piece_alone style.unpadded style.blank j
 
 -- `piece_after style before j`: the piece of `j` after the lines `before`. `-c` is applied first.
 abbrev pub piece_after : Style → List Judged → Judged → List ℕ

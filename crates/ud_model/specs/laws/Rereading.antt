@@ -11,13 +11,14 @@
 --   CleanRun              such a run, with the trees of its input and its output
 --   line_bytes l          a line of the input or output, with its ending
 --   selected_bytes w ns   the lines that are selected in a world, with their endings
---   edited_bytes e        the output for a line of the pruned tree
+--   edited_bytes unpadded e
+--                         the output for a line of the pruned tree
 --   KeepsTruths w b v a   each opener of the output `a` has in `v` the truth that the opener
 --                         it comes from has in `w`
 --
 -- Example: under -DA the output for `#if X`, `#elif defined A`, `#endif` has one opener with a
 -- condition, `#if X`, which comes from the first line.
-use Rattle.std.specs.Prelude.{◌≡◌, ◌≤◌, ℕ, List, [], ◌∷◌, ◌++◌, length, map, false, None}
+use Rattle.std.specs.Prelude.{◌≡◌, ◌≤◌, ℕ, List, [], ◌∷◌, ◌++◌, length, map, Bool, false, None}
 use Rattle.ud_model.specs.text.Lines.{Line, text_of, lines_of}
 use Rattle.ud_model.specs.text.Scans.{Reading}
 use Rattle.ud_model.specs.sections.Directives.{content_of}
@@ -100,9 +101,10 @@ line_bytes l = text_of l.line
 abbrev pub selected_bytes : World Reading → Nodes Reading → List (List ℕ)
 selected_bytes w ns = map line_bytes (selected w ns)
 
--- `edited_bytes e`: the output for a line of the pruned tree.
-abbrev pub edited_bytes : Edited Reading → List ℕ
-edited_bytes e = piece_by e.verdict (keyword_in (content_of e.line.scan)) e.line.line
+-- `edited_bytes unpadded e`: the output for a line of the pruned tree.
+abbrev pub edited_bytes : Bool → Edited Reading → List ℕ
+edited_bytes unpadded e =
+    piece_by unpadded e.verdict (keyword_in (content_of e.line.scan)) e.line.line
 
 -- `KeepsTruths w before v after`: each opener of the output has in `v` the truth that the opener it
 -- comes from has in `w`.

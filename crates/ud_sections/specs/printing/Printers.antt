@@ -3,8 +3,9 @@
 -- Example: for `-c -n` the printer is the complement of a `Renumber`. It represents lines if the
 -- `Renumber` represents their complements.
 use Rattle.std.specs.Prelude.{List, ℕ, map}
-use Rattle.ud_model.specs.answer.Printing.{Judged, plain_style, piece_after, complemented}
-use Rattle.ud_sections.specs.printing.Styles.{blank_style, renumber_style, delete_represents}
+use Rattle.ud_model.specs.answer.Printing.{Judged, piece_after, complemented}
+use Rattle.ud_sections.specs.printing.Styles.{delete_style, blank_style, renumber_style}
+use Rattle.ud_sections.specs.printing.Styles.{delete_represents}
 use Rattle.ud_sections.specs.printing.Styles.{blank_represents, renumber_represents, inner_of}
 use Rattle.ud_sections.specs.declared.printing.printer.Printer.{Printer}
 use Rattle.ud_sections.specs.declared.printing.printer.Printer.TheVariants.{Deletes, Blanks}
@@ -27,12 +28,12 @@ printer_represents (ComplementRenumbers c) before =
 
 -- `printer_piece printer before j`: the output of the printer for the line `j` after `before`.
 abbrev pub printer_piece : Printer → List Judged → Judged → List ℕ
-printer_piece (Deletes p) before j = piece_after plain_style before j
-printer_piece (Blanks p) before j = piece_after blank_style before j
-printer_piece (Renumbers p) before j = piece_after renumber_style before j
+printer_piece (Deletes p) before j = piece_after (delete_style p) before j
+printer_piece (Blanks p) before j = piece_after (blank_style p) before j
+printer_piece (Renumbers p) before j = piece_after (renumber_style p) before j
 printer_piece (ComplementDeletes c) before j =
-    piece_after plain_style (map complemented before) (complemented j)
+    piece_after (delete_style (inner_of c)) (map complemented before) (complemented j)
 printer_piece (ComplementBlanks c) before j =
-    piece_after blank_style (map complemented before) (complemented j)
+    piece_after (blank_style (inner_of c)) (map complemented before) (complemented j)
 printer_piece (ComplementRenumbers c) before j =
-    piece_after renumber_style (map complemented before) (complemented j)
+    piece_after (renumber_style (inner_of c)) (map complemented before) (complemented j)

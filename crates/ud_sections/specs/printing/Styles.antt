@@ -1,20 +1,39 @@
 -- Styles: the style of each printer, and what the printer represents.
 --
--- `Delete` has the style without options, `plain_style`.
-use Rattle.std.specs.Prelude.{◌≡◌, List, true, false}
+-- `Delete` has the style without options, but for spaces in place of lost bytes.
+use Rattle.std.specs.Prelude.{◌≡◌, List, Bool, true, false}
 use Rattle.ud_model.specs.answer.Printing.{Judged, Style, last_removed}
 use Rattle.ud_sections.specs.declared.printing.delete.Delete.{Delete}
 use Rattle.ud_sections.specs.declared.printing.blank.Blank.{Blank}
 use Rattle.ud_sections.specs.declared.printing.renumber.Renumber.{Renumber}
 use Rattle.ud_sections.specs.declared.printing.complement.Complement.{Complement}
 
--- `blank_style`: the style of `-b`.
-abbrev pub blank_style : Style
-blank_style = record { blank = true; complement = false; renumber = false }
+-- `delete_style_by unpadded`: the style without options, with spaces unless `unpadded`.
+abbrev pub delete_style_by : Bool → Style
+delete_style_by unpadded =
+    record { blank = false; complement = false; renumber = false; unpadded = unpadded }
 
--- `renumber_style`: the style of `-n`.
-abbrev pub renumber_style : Style
-renumber_style = record { blank = false; complement = false; renumber = true }
+-- `blank_style_by unpadded`: the style of `-b`, with spaces unless `unpadded`.
+abbrev pub blank_style_by : Bool → Style
+blank_style_by unpadded =
+    record { blank = true; complement = false; renumber = false; unpadded = unpadded }
+
+-- `renumber_style_by unpadded`: the style of `-n`, with spaces unless `unpadded`.
+abbrev pub renumber_style_by : Bool → Style
+renumber_style_by unpadded =
+    record { blank = false; complement = false; renumber = true; unpadded = unpadded }
+
+-- `delete_style printer`: the style of the printer.
+abbrev pub delete_style : Delete → Style
+delete_style printer = delete_style_by printer.unpadded
+
+-- `blank_style printer`: the style of the printer.
+abbrev pub blank_style : Blank → Style
+blank_style printer = blank_style_by printer.unpadded
+
+-- `renumber_style printer`: the style of the printer.
+abbrev pub renumber_style : Renumber → Style
+renumber_style printer = renumber_style_by printer.unpadded
 
 -- `delete_represents printer before`: the printer was given the lines `before`. A line's piece
 -- depends on that line alone.

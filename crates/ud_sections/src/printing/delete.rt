@@ -8,31 +8,45 @@ use ud_model::{Line, Verdict};
 
 /// A printer that deletes removed lines (unifdef(1), without options).
 #[derive(Drop)]
-pub struct Delete;
+pub struct Delete {
+    /// No spaces replace the lost bytes of a keyword.
+    unpadded: bool,
+}
 
 impl Delete {
-    ghost use Rattle.std.specs.Prelude.{[]};
-    ghost use Rattle.ud_sections.specs.printing.Styles.{delete_represents};
+    ghost use Rattle.std.specs.Prelude.{◌≡◌, [], false};
+    ghost use Rattle.ud_sections.specs.printing.Styles.{delete_represents, delete_style};
+    ghost use Rattle.ud_sections.specs.printing.Styles.{delete_style_by};
 
     /// Creates the printer at the beginning of a text.
     pub fn new() -> Delete
-        ensures { delete_represents result [] }
+        ensures represents { delete_represents result [] }
+        ensures style { delete_style result ≡ delete_style_by false }
     {
-        Delete
+        Delete::of(false)
+    }
+
+    /// Creates the printer at the beginning of a text. Unless `unpadded`, spaces replace lost
+    /// bytes.
+    pub(crate) fn of(unpadded: bool) -> Delete
+        ensures represents { delete_represents result [] }
+        ensures style { delete_style result ≡ delete_style_by unpadded }
+    {
+        Delete { unpadded }
     }
 }
 
 impl Show for Delete {
-    ghost use Rattle.ud_model.specs.answer.Printing.{piece_after, plain_style};
-    ghost use Rattle.ud_sections.specs.printing.Styles.{delete_represents};
+    ghost use Rattle.ud_model.specs.answer.Printing.{piece_after};
+    ghost use Rattle.ud_sections.specs.printing.Styles.{delete_represents, delete_style};
 
     ghost represents = { delete_represents };
 
-    ghost piece = { λ d. piece_after plain_style };
+    ghost piece = { λ d. piece_after (delete_style d) };
 
     #[inline(always)]
     fn pieces<'a>(&'a mut self, line: &Line<'a>, step: Step) -> Pieces<'a> {
-        Pieces::for_line(line, step, &[])
+        Pieces::for_line(line, step, &[], self.unpadded)
     }
 
     #[inline(always)]

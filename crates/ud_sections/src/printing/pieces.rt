@@ -22,15 +22,18 @@ pub struct Pieces<'a> {
 }
 
 /// Returns what replaces a keyword of this length in a directive that becomes the first one of its
-/// section: `ifdef` for `elifdef`, `ifndef` for `elifndef`, else `if`, each followed by two spaces
-/// for the lost bytes.
-fn opener_keyword<'a>(len: usize) -> &'a [u8]
-    ensures { result.now ≡ opener_keyword len }
+/// section: `ifdef` for `elifdef`, `ifndef` for `elifndef`, else `if`. Unless `unpadded`, two
+/// spaces follow for the lost bytes.
+fn opener_keyword<'a>(unpadded: bool, len: usize) -> &'a [u8]
+    ensures { result.now ≡ opener_keyword unpadded len }
 {
-    match len {
-        7 => b"ifdef  ",
-        8 => b"ifndef  ",
-        _ => b"if  ",
+    match (unpadded, len) {
+        (true, 7) => b"ifdef",
+        (true, 8) => b"ifndef",
+        (true, _) => b"if",
+        (false, 7) => b"ifdef  ",
+        (false, 8) => b"ifndef  ",
+        (false, _) => b"if  ",
     }
 }
 
@@ -74,11 +77,12 @@ impl<'a> Pieces<'a> {
     }
 
     /// Creates the output for a line by its step alone, with `blank` in place of a removed line.
+    /// Unless `unpadded`, spaces replace the lost bytes of a keyword.
     #[inline(always)]
-    pub fn for_line(line: &Line<'a>, step: Step, blank: &'a [u8]) -> Pieces<'a>
+    pub fn for_line(line: &Line<'a>, step: Step, blank: &'a [u8], unpadded: bool) -> Pieces<'a>
         requires keyword { HoldsKeyword step line.now }
         ensures parts { concatenated result ≡ (if is_removed step.verdict then blank.now
-            else piece_by step.verdict (as_span step.keyword) (as_line line.now)) }
+            else piece_by unpadded step.verdict (as_span step.keyword) (as_line line.now)) }
         ensures count { count_of result ≤ 4 }
         ensures is_unchanged { is_unchanged result ≡
             bytes_eq (concatenated result) (text_of (as_line line.now)) }
@@ -87,7 +91,7 @@ impl<'a> Pieces<'a> {
             Verdict::Keep => Pieces::whole(line),
             Verdict::Remove => Pieces::new([blank, &[], &[], &[], &[]], 1, line),
             Verdict::ToIf => {
-                let word = opener_keyword(step.keyword.len);
+                let word = opener_keyword(unpadded, step.keyword.len);
                 Pieces::with_keyword(line, step.keyword, word)
             }
             Verdict::ToElse => Pieces::with_end(line, step.keyword.at, b"else"),

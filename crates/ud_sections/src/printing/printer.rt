@@ -39,13 +39,18 @@ impl Printer {
         ensures piece { (before : List Judged) → (j : Judged) →
             printer_piece result before j ≡ piece_after (style_of settings.now) before j }
     {
+        let unpadded = settings.unpadded;
         match (settings.complement, settings.blank, settings.renumber) {
-            (false, true, _) => Printer::Blanks(Blank::new()),
-            (false, false, true) => Printer::Renumbers(Renumber::new()),
-            (false, false, false) => Printer::Deletes(Delete::new()),
-            (true, true, _) => Printer::ComplementBlanks(Complement::new(Blank::new())),
-            (true, false, true) => Printer::ComplementRenumbers(Complement::new(Renumber::new())),
-            (true, false, false) => Printer::ComplementDeletes(Complement::new(Delete::new())),
+            (false, true, _) => Printer::Blanks(Blank::of(unpadded)),
+            (false, false, true) => Printer::Renumbers(Renumber::of(unpadded)),
+            (false, false, false) => Printer::Deletes(Delete::of(unpadded)),
+            (true, true, _) => Printer::ComplementBlanks(Complement::new(Blank::of(unpadded))),
+            (true, false, true) => Printer::ComplementRenumbers(Complement::new(Renumber::of(
+                unpadded,
+            ))),
+            (true, false, false) => Printer::ComplementDeletes(Complement::new(Delete::of(
+                unpadded,
+            ))),
         }
     }
 }

@@ -20,6 +20,8 @@ const NUMBER_LINE_BYTES: usize = 18;
 /// `-n`; C11 6.10.4).
 #[derive(Drop)]
 pub struct Renumber {
+    /// No spaces replace the lost bytes of a keyword.
+    unpadded: bool,
     /// The previous line was removed.
     removed: bool,
     /// The last printed `#line`.
@@ -27,14 +29,26 @@ pub struct Renumber {
 }
 
 impl Renumber {
-    ghost use Rattle.std.specs.Prelude.{[]};
-    ghost use Rattle.ud_sections.specs.printing.Styles.{renumber_represents};
+    ghost use Rattle.std.specs.Prelude.{◌≡◌, [], false};
+    ghost use Rattle.ud_sections.specs.printing.Styles.{renumber_represents, renumber_style};
+    ghost use Rattle.ud_sections.specs.printing.Styles.{renumber_style_by};
 
     /// Creates the printer at the beginning of a text.
     pub fn new() -> Renumber
-        ensures { renumber_represents result [] }
+        ensures represents { renumber_represents result [] }
+        ensures style { renumber_style result ≡ renumber_style_by false }
+    {
+        Renumber::of(false)
+    }
+
+    /// Creates the printer at the beginning of a text. Unless `unpadded`, spaces replace lost
+    /// bytes.
+    pub(crate) fn of(unpadded: bool) -> Renumber
+        ensures represents { renumber_represents result [] }
+        ensures style { renumber_style result ≡ renumber_style_by unpadded }
     {
         Renumber {
+            unpadded,
             removed: false,
             number_line: ArrayVec::new(),
         }
@@ -47,13 +61,13 @@ impl Show for Renumber {
 
     ghost represents = { renumber_represents };
 
-    ghost piece = { λ r. piece_after renumber_style };
+    ghost piece = { λ r. piece_after (renumber_style r) };
 
     fn pieces<'a>(&'a mut self, line: &Line<'a>, step: Step) -> Pieces<'a> {
         let follows_removed = self.removed;
         let removed = step.verdict.is_removed();
         self.removed = removed;
-        let alone = Pieces::for_line(line, step, &[]);
+        let alone = Pieces::for_line(line, step, &[], self.unpadded);
         if removed {
             return alone;
         }

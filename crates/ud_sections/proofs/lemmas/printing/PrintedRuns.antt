@@ -6,7 +6,7 @@ use Rattle.ud_model.specs.answer.Printing.{Judged, last_removed, piece_after, pi
 use Rattle.ud_model.specs.declared.verdict.Verdict.{Verdict}
 use Rattle.ud_model.specs.declared.verdict.Verdict.TheVariants.{Keep, Remove}
 use Rattle.ud_model.proofs.answer.PrintingLemmas.{last_removed-more}
-use Rattle.ud_sections.specs.printing.Styles.{renumber_style}
+use Rattle.ud_sections.specs.printing.Styles.{renumber_style_by}
 use Rattle.ud_sections.specs.printing.PrinterOutputs.{judged_text, PrintsOne}
 use Rattle.ud_sections.proofs.lemmas.printing.RenumberLemmas.{removed_piece, following_piece}
 
@@ -27,9 +27,9 @@ module _ (given : List Judged → Type 0) (piece : List Judged → Judged → Li
       )
 
 -- after a line that isn't removed, a kept line is printed as it is, and not numbered
-pub kept_one : (removed : Bool) → removed ≡ false → PrintsOne (λ before. removed ≡ last_removed before) (piece_after renumber_style) Keep text_of
-kept_one removed h = grind (arith, following_piece, last_removed-more)
+pub kept_one : (u removed : Bool) → removed ≡ false → PrintsOne (λ before. removed ≡ last_removed before) (piece_after (renumber_style_by u)) Keep text_of
+kept_one u removed h = grind (arith, following_piece, last_removed-more)
 
 -- after a removed line, nothing is printed for a removed one
-pub removed_one : (removed : Bool) → removed ≡ true → PrintsOne (λ before. removed ≡ last_removed before) (piece_after renumber_style) Remove (λ l. [])
-removed_one removed h = grind (arith, removed_piece, last_removed-more)
+pub removed_one : (u removed : Bool) → removed ≡ true → PrintsOne (λ before. removed ≡ last_removed before) (piece_after (renumber_style_by u)) Remove (λ l. [])
+removed_one u removed h = grind (arith, removed_piece, last_removed-more)
