@@ -33,7 +33,7 @@ wide_lines() {
 # The words are of Rust and of mandoc, names, and parts of texts.
 misspelt() {
   codespell -q 3 -S 'out,data,*.svg,*.edit' \
-    -L atmost,caf,crate,crates,fo,nd,nin,readby,readin,reate,te,upto \
+    -L atleast,atmost,caf,crate,crates,fo,nd,nin,readby,readin,reate,te,upto \
     ./*.md docs bench tests tools packaging lib crates
 }
 

@@ -16,7 +16,7 @@ use crate::expressions::evaluation::evaluate;
 use crate::expressions::values::{Scope, Value};
 use crate::symbols::Symbols;
 use ud_model::bytes::{are_white, is_digit, skip_white, word_len};
-use ud_model::{Cond, Kind, Role, Settings, Test};
+use ud_model::{Amount, Cond, Kind, Role, Settings, Test};
 
 /// The options for the values of expressions.
 #[derive(Clone, Copy, Debug, PartialEq, Eq)]
@@ -56,9 +56,10 @@ pub(crate) fn cond_of_value(rules: Rules, value: Value) -> Cond
         return Cond::Unknown;
     }
     match value.number {
-        None => Cond::Unknown,
-        Some(0) => Cond::No,
-        Some(_) => Cond::Yes,
+        Amount::Exactly(0) => Cond::No,
+        Amount::Exactly(_) => Cond::Yes,
+        Amount::AtLeast(least) if least > 0 => Cond::Yes,
+        _ => Cond::Unknown,
     }
 }
 

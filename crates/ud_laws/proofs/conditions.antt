@@ -8,6 +8,7 @@
 --   NeverTurns.cond_after                 further symbols never reverse a condition
 --   ChoiceValues.choice_may               the value by allowed numbers is one that C may give
 pub mod NamedAlike
+pub mod Refining
 pub mod StrictLess
 pub mod StrictItems
 pub mod NeverTurns

@@ -1,6 +1,6 @@
 //! Laws of options: what the user of an option may rely on.
 
-ghost use Rattle.std.specs.Prelude.{◌≡◌, ◌≢◌, ℕ, List, Some, None, Bool, true, false, ◌⊎◌, ℤ};
+ghost use Rattle.std.specs.Prelude.{◌≡◌, ◌≢◌, ℕ, List, None, Bool, true, false, ◌⊎◌};
 ghost use Rattle.ud_model.specs.conditions.Table.{Argument, HaveSameEntries};
 ghost use Rattle.ud_model.specs.conditions.Expressions.{Expression};
 ghost use Rattle.ud_model.specs.conditions.Values.{value_of};
@@ -10,6 +10,7 @@ ghost use Rattle.ud_model.specs.sections.Items.{Options};
 ghost use Rattle.ud_model.specs.answer.Outcomes.{Outcome, HasOutcome};
 ghost use Rattle.ud_laws.specs.output.ListedNames.{with_listing};
 ghost use Rattle.ud_laws.specs.output.ListedNames.{ExtendsTable, AreAlikeBy, ServesAsLister};
+ghost use Rattle.ud_model.specs.declared.amount.Amount.{Amount};
 ghost use Rattle.ud_model.specs.declared.cond.Cond.{Cond};
 
 /// The list of `-s` is complete: it has every symbol that counts for the text.
@@ -41,8 +42,8 @@ pub fn law_last_option_counts()
 /// A value known under `-K` is known without it, and is the same. A condition decided under `-K` is
 /// decided alike without it (unifdef(1)).
 pub fn law_strict_decides_less()
-    ensures value { (table : List Argument) (e : Expression) (n : ℤ) →
-        value_of table true e ≡ Some n → value_of table false e ≡ Some n }
+    ensures value { (table : List Argument) (e : Expression) →
+        value_of table true e ≢ Amount.Anything → value_of table false e ≡ value_of table true e }
     ensures cond { (table : List Argument) (e : Expression) (rules : Rules) →
         tree_cond e table (with_strict rules) ≢ Cond.Unknown →
         tree_cond e table (without_strict rules) ≡ tree_cond e table (with_strict rules) }
@@ -55,8 +56,8 @@ pub fn law_strict_decides_less()
 /// decided the other way round (C11 6.10.1p4, unifdef(1)).
 pub fn law_more_never_turns()
     ensures value { (t u : List Argument) → ExtendsTable t u →
-        (strict : Bool) (e : Expression) (n : ℤ) → value_of t strict e ≡ Some n →
-        (value_of u strict e ≡ Some n) ⊎ (value_of u strict e ≡ None) }
+        (strict : Bool) (e : Expression) → value_of t strict e ≢ Amount.Anything →
+        (value_of u strict e ≡ value_of t strict e) ⊎ (value_of u strict e ≡ Amount.Anything) }
     ensures cond { (t u : List Argument) → ExtendsTable t u → (e : Expression) (rules : Rules) →
         tree_cond e t rules ≢ Cond.Unknown →
         (tree_cond e u rules ≡ tree_cond e t rules) ⊎ (tree_cond e u rules ≡ Cond.Unknown) }

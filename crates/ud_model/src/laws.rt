@@ -4,7 +4,7 @@
 //! about the answer to arguments and an input in `answer_laws`.
 
 ghost use Rattle.std.specs.Prelude.{◌≡◌, ◌≢◌, ◌++◌, ℕ, suc, List, [], ◌∷◌, length, map};
-ghost use Rattle.std.specs.Prelude.{true, Bool, Option, Some, ℤ, pos};
+ghost use Rattle.std.specs.Prelude.{true, Bool, Option, Some, ℤ, pos, ◌≤ℤ◌};
 ghost use Rattle.ud_model.specs.text.Lines.{Line, AreLines, AreSplitLines, texts_of, text_of};
 ghost use Rattle.ud_model.specs.text.Lines.{lines_of, whole_lines, partial_line};
 ghost use Rattle.ud_model.specs.text.Scans.{Reading};
@@ -29,6 +29,7 @@ ghost use Rattle.ud_model.specs.conditions.Values.{value_of};
 ghost use Rattle.ud_model.specs.conditions.Conditions.{Rules, tree_cond, expression_cond};
 ghost use Rattle.ud_model.specs.conditions.Conditions.{condition_of};
 ghost use Rattle.ud_model.specs.conditions.Names.{names_in, names_of};
+ghost use Rattle.ud_model.specs.declared.amount.Amount.{Amount};
 ghost use Rattle.ud_model.specs.declared.cond.Cond.{Cond};
 ghost use Rattle.ud_model.specs.declared.kind.Kind.{Kind};
 ghost use Rattle.ud_model.specs.laws.CValues.{Number, number, IsCValue};
@@ -184,10 +185,12 @@ pub fn law_symbol_end()
 ///
 /// Suppose the value of an expression is known, with or without `strict`. Then C can give the
 /// expression only this number, whatever the names are that the table leaves open (C11 6.10.1p4,
-/// 6.5).
+/// 6.5). If the value is known to be at least a number, so are all that C can give.
 pub fn law_known_stays()
     ensures value { (table : List Argument) (strict : Bool) (e : Expression) (n : ℤ) (c : Number) →
-        value_of table strict e ≡ Some n → IsCValue table e c → number c ≡ n }
+        value_of table strict e ≡ Amount.Exactly n → IsCValue table e c → number c ≡ n }
+    ensures least { (table : List Argument) (strict : Bool) (e : Expression) (n : ℤ) (c : Number) →
+        value_of table strict e ≡ Amount.AtLeast n → IsCValue table e c → n ≤ℤ number c }
     ensures yes { (table : List Argument) (rules : Rules) (e : Expression) (c : Number) →
         tree_cond e table rules ≡ Cond.Yes → IsCValue table e c → number c ≢ pos 0 }
     ensures no { (table : List Argument) (rules : Rules) (e : Expression) (c : Number) →

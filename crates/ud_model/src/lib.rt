@@ -25,6 +25,7 @@
 //! that definitions and code share, and the limits of a text.
 #![tactic(auto)]
 
+mod amount;
 pub mod bytes;
 mod cond;
 pub mod keywords;
@@ -38,6 +39,7 @@ mod scan;
 mod settings;
 mod verdict;
 
+pub use amount::Amount;
 pub use cond::Cond;
 pub use kind::{CommentAt, Kind, Mode, Role, Test};
 pub use limits::{LINE_BYTES, OPEN_SECTIONS, TEXT_LINES};

@@ -14,9 +14,9 @@ use Rattle.ud_model.specs.conditions.Constants.{has_u}
 use Rattle.ud_model.specs.conditions.Symbols.{resolve}
 use Rattle.ud_model.specs.conditions.Expressions.{Expression}
 use Rattle.ud_model.specs.conditions.Parsing.{Meaning}
-use Rattle.ud_model.specs.conditions.Values.{constant_value, end_value, name_value, name_has_u}
-use Rattle.ud_model.specs.conditions.Values.{defined_value, apply_unary, apply_binary, number_of}
-use Rattle.ud_model.specs.conditions.Values.{has_unsigned}
+use Rattle.ud_model.specs.conditions.Values.{constant_value, amount_from, end_value, name_value}
+use Rattle.ud_model.specs.conditions.Values.{name_has_u, defined_value, unary_amount}
+use Rattle.ud_model.specs.conditions.Values.{binary_amount, number_of, has_unsigned}
 use Rattle.ud_model.specs.conditions.Conditions.{Rules, is_listed, undefined_by, mentions_listed}
 use Rattle.ud_model.specs.conditions.Conditions.{calls_undefined, truth_of}
 use Rattle.ud_model.specs.declared.operator.Operator.{Operator}
@@ -29,7 +29,7 @@ use Rattle.ud_cond.specs.declared.expressions.values.Scope.{Scope}
 -- `constant_value_of w`: the value of the constant `w`
 abbrev pub constant_value_of : List ℕ → Value
 constant_value_of w = record {
-  number = constant_value w;
+  number = amount_from false (constant_value w);
   unsigned = has_u w;
   listed = false;
   calls_undefined = false;
@@ -60,7 +60,7 @@ module _ (table : List Argument) where
   -- `defined_value_of table n`: the value of `defined` and the name `n`
   abbrev pub defined_value_of : List ℕ → Value
   defined_value_of n = record {
-    number = defined_value table n;
+    number = amount_from false (defined_value table n);
     unsigned = false;
     listed =
         is_listed table n;
@@ -69,12 +69,12 @@ module _ (table : List Argument) where
 
 -- `unary_value_of u o a`: the value of the prefix operator `o` and its operand `a`
 abbrev pub unary_value_of : Bool → Operator → Value → Value
-unary_value_of u o a = record a { number = apply_unary u o a.number }
+unary_value_of u o a = record a { number = unary_amount u o a.number }
 
 -- `binary_value_of strict u o a b`: the value of `o` between `a` and `b`
 abbrev pub binary_value_of : Bool → Bool → Operator → Value → Value → Value
 binary_value_of strict u o a b = record {
-  number = apply_binary strict u o a.number b.number;
+  number = binary_amount strict u o a.number b.number;
   unsigned = a.unsigned || b.unsigned;
   listed = a.listed || b.listed;
   calls_undefined = a.calls_undefined || b.calls_undefined;

@@ -10,14 +10,15 @@
 --   part_of k n                  the program's part for `k`, whose flags begin at `n`
 --   kept_keeping                 how a program keeps such parts
 --   HasResidual table rules text r flags   the residual of a text: its condition, and its tokens
-use Rattle.std.specs.Prelude.{◌≡◌, ℕ, ◌+◌, suc, List, [], ◌∷◌, ◌++◌, length, replicate, Option}
-use Rattle.std.specs.Prelude.{Some, Bool, true, false, not, ◌&&◌, if◌then◌else◌, ℤ}
+use Rattle.std.specs.Prelude.{◌≡◌, ℕ, ◌+◌, suc, List, [], ◌∷◌, ◌++◌, length, replicate}
+use Rattle.std.specs.Prelude.{Some, Bool, true, false, not, ◌&&◌, if◌then◌else◌}
 use Rattle.ud_model.specs.conditions.Table.{Argument}
 use Rattle.ud_model.specs.conditions.Expressions.{Expression}
 use Rattle.ud_model.specs.conditions.Conditions.{Rules, negate}
-use Rattle.ud_model.specs.conditions.Values.{name_value, apply_unary, apply_binary, number_of}
+use Rattle.ud_model.specs.conditions.Values.{name_value, unary_amount, binary_amount, number_of}
 use Rattle.ud_model.specs.aids.Residuals.{is_unit, settled, stands_alone, residual, keeps}
 use Rattle.ud_model.specs.conditions.Parsing.{Meaning, expression_of}
+use Rattle.ud_model.specs.declared.amount.Amount.{Amount}
 use Rattle.ud_model.specs.declared.cond.Cond.{Cond}
 use Rattle.ud_model.specs.declared.operator.Operator.{Operator}
 use Rattle.ud_model.specs.declared.operator.Operator.TheVariants.{Or, And, Not}
@@ -45,7 +46,7 @@ is_not o = false
 pub record Kept : Type 0 where
   -- The value with signed numbers, and the number in an expression with a `u`.
   pub value : Value
-  pub number : Option ℤ
+  pub number : Amount
   -- The condition of the residual, and whether the last operator of the part was removed.
   pub cond : Cond
   pub lost : Bool
@@ -56,11 +57,11 @@ pub record Kept : Type 0 where
 
 -- `value_by v n`: the value `v` with its own least number, where `n` is the number in an expression
 -- with a `u`
-abbrev pub value_by : Value → Option ℤ → Value
+abbrev pub value_by : Value → Amount → Value
 value_by v n = if v.unsigned then record v { number = n } else v
 
 -- `leaf rules v n alone flags`: an operand of its own
-abbrev pub leaf : Rules → Value → Option ℤ → Bool → List Bool → Kept
+abbrev pub leaf : Rules → Value → Amount → Bool → List Bool → Kept
 leaf rules v n alone flags = record {
   value = v;
   number = n;
@@ -75,21 +76,21 @@ leaf rules v n alone flags = record {
 abbrev pub unary_kept : Rules → Operator → Kept → Kept
 unary_kept rules Not a = record {
   value = unary_value_of false Not a.value;
-  number = apply_unary true Not a.number;
+  number = unary_amount true Not a.number;
   cond = negate a.cond;
   lost = false;
   left_alone = a.left_alone;
   alone = a.alone;
   flags = true ∷ a.flags;
 }
-unary_kept rules o a = leaf rules (unary_value_of false o a.value) (apply_unary true o a.number)
+unary_kept rules o a = leaf rules (unary_value_of false o a.value) (unary_amount true o a.number)
     a.alone (replicate (suc (length a.flags)) true)
 
 -- `joined_kept rules o a b`: `&&` or `||` between two operands
 abbrev pub joined_kept : Rules → Operator → Kept → Kept → Kept
 joined_kept rules o a b = record {
   value = binary_value_of rules.strict false o a.value b.value;
-  number = apply_binary rules.strict true o a.number b.number;
+  number = binary_amount rules.strict true o a.number b.number;
   cond = if is_unit o a.cond then b.cond
       else if is_unit o b.cond then a.cond else settled rules.strict o a.cond b.cond;
   lost = if is_unit o a.cond then true else if is_unit o b.cond then true else false;
@@ -106,7 +107,7 @@ abbrev pub binary_kept : Rules → Operator → Kept → Kept → Kept
 binary_kept rules And a b = joined_kept rules And a b
 binary_kept rules Or a b = joined_kept rules Or a b
 binary_kept rules o a b = leaf rules (binary_value_of rules.strict false o a.value b.value)
-    (apply_binary rules.strict true o a.number b.number) false
+    (binary_amount rules.strict true o a.number b.number) false
     (replicate (length a.flags + suc (length b.flags)) true)
 
 -- `parens_kept a`: parentheses around a part

@@ -6,7 +6,7 @@ ghost use Rattle.ud_cond.specs.expressions.ResidualReading.{part_of, leaf};
 
 use crate::conditions::{Rules, cond_of_value};
 use crate::expressions::values::{NO_VALUE, Value};
-use ud_model::Cond;
+use ud_model::{Amount, Cond};
 
 /// A part of an expression. The flags of its tokens are adjacent.
 #[derive(Clone, Copy)]
@@ -14,7 +14,7 @@ pub(crate) struct Part {
     /// The value with signed numbers.
     pub(crate) value: Value,
     /// The number in an expression with a `u`.
-    pub(crate) number: Option<i64>,
+    pub(crate) number: Amount,
     /// The condition of the residual.
     pub(crate) cond: Cond,
     /// `true` if the last operator of the part was removed.
@@ -37,7 +37,7 @@ impl Default for Part {
     fn default() -> Self {
         Part {
             value: NO_VALUE,
-            number: None,
+            number: Amount::Anything,
             cond: Cond::Yes,
             lost: false,
             left_alone: false,
@@ -53,7 +53,7 @@ impl Default for Part {
 pub(crate) fn leaf_part(
     rules: Rules,
     value: Value,
-    number: Option<i64>,
+    number: Amount,
     alone: bool,
     first: usize,
 ) -> Part

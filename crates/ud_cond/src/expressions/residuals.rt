@@ -32,7 +32,7 @@ use crate::expressions::stacks::{
     Stacks, VERY_LONG_TEXT_BYTES, VERY_LONG_TEXT_OPERANDS,
 };
 use crate::expressions::values::{
-    NO_VALUE, Scope, Value, apply_binary, apply_unary, binary, constant, defined, named, unary,
+    NO_VALUE, Scope, Value, binary, binary_amount, constant, defined, named, unary, unary_amount,
 };
 use crate::symbols::Symbols;
 use crate::token_flags::TokenFlags;
@@ -163,7 +163,7 @@ impl Residuals<'_> {
     {
         let joined = Part {
             value: self.binary_value(operator, a.value, b.value),
-            number: apply_binary(self.rules.strict, true, operator, a.number, b.number),
+            number: binary_amount(self.rules.strict, true, operator, a.number, b.number),
             lost: true,
             alone: false,
             whole: false,
@@ -249,7 +249,7 @@ impl Keeper for Residuals<'_> {
     fn unary(&self, operator: Operator, a: Part, flags: &mut TokenFlags) -> Part {
         let first = a.first.saturating_sub(1);
         let value = unary(&self.scope(false), operator, a.value);
-        let number = apply_unary(true, operator, a.number);
+        let number = unary_amount(true, operator, a.number);
         if is_not(operator) {
             return Part {
                 value,
@@ -272,7 +272,7 @@ impl Keeper for Residuals<'_> {
             return self.join(operator, a, b, flags);
         }
         let value = self.binary_value(operator, a.value, b.value);
-        let number = apply_binary(self.rules.strict, true, operator, a.number, b.number);
+        let number = binary_amount(self.rules.strict, true, operator, a.number, b.number);
         keep_whole(a.whole, flags, a.first, b.first.saturating_sub(1));
         keep_whole(b.whole, flags, b.first, flags.len());
         leaf_part(self.rules, value, number, false, a.first)

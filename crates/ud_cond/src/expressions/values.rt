@@ -3,7 +3,7 @@
 //! `ud_model.specs.conditions.Values` defines the numbers (C11 6.10.1p4 and 6.5), and
 //! `specs.expressions.Evaluation` the facts that are kept beside them.
 
-ghost use Rattle.std.specs.Prelude.{◌≡◌, Some, option_and_then, option_map};
+ghost use Rattle.std.specs.Prelude.{◌≡◌, Some, option_and_then, option_map, true, false};
 ghost use Rattle.ud_model.specs.conditions.Table.{entry_in};
 ghost use Rattle.ud_model.specs.conditions.Symbols.{resolve, defined_text};
 ghost use Rattle.ud_model.specs.conditions.Values as spec;
@@ -14,14 +14,14 @@ ghost use Rattle.ud_cond.specs.expressions.Evaluation.{unary_value_of, binary_va
 
 use crate::expressions::constants::{constant_value, has_u, is_constant, single_digit_value};
 use crate::symbols::{Entry, Symbols};
-use ud_model::Operator;
 use ud_model::bytes::is_identifier;
+use ud_model::{Amount, Operator};
 
 /// The value of a part of an expression.
 #[derive(Clone, Copy)]
 pub(crate) struct Value {
-    /// The number; `None` if it is unknown.
-    pub(crate) number: Option<i64>,
+    /// The number, as far as it is known.
+    pub(crate) number: Amount,
     /// `true` if a constant in the part, or one that a symbol in the part resolves to, has a `u`.
     pub(crate) unsigned: bool,
     /// `true` if the part names a symbol of the table.
@@ -73,7 +73,7 @@ impl Scope<'_> {
 
 /// A value before it is set.
 pub(crate) const NO_VALUE: Value = Value {
-    number: None,
+    number: Amount::Anything,
     unsigned: false,
     listed: false,
     calls_undefined: false,
@@ -88,15 +88,36 @@ pub(crate) fn constant(word: &[u8], value: &mut Value)
     value.calls_undefined = false;
     let digit = single_digit_value(word);
     if digit.is_some() {
-        value.number = digit;
+        value.number = exactly(digit);
         value.unsigned = false;
         return;
     }
-    value.number = constant_value(word);
+    value.number = exactly(constant_value(word));
     value.unsigned = has_u(word);
 }
 
-/// Returns the number of a text that a symbol resolves to: a constant, or a `-` and a constant.
+/// Returns exactly this number; anything without one.
+#[inline(always)]
+fn exactly(number: Option<i64>) -> Amount
+    ensures { result ≡ spec.amount_from false number }
+{
+    match number {
+        None => Amount::Anything,
+        Some(number) => Amount::Exactly(number),
+    }
+}
+
+/// Returns this number as the least one; anything without one.
+fn at_least(number: Option<i64>) -> Amount
+    ensures { result ≡ spec.amount_from true number }
+{
+    match number {
+        None => Amount::Anything,
+        Some(number) => Amount::AtLeast(number),
+    }
+}
+
+/// Returns the number of a constant, or of a `-` and a constant.
 fn text_value(unsigned: bool, text: &[u8]) -> Option<i64>
     ensures { result ≡ spec.text_value unsigned text.now }
 {
@@ -127,6 +148,26 @@ fn text_has_u(text: &[u8]) -> bool
     }
 }
 
+/// Returns the value of a text that a symbol resolves to.
+fn end_value(unsigned: bool, text: &[u8]) -> Amount
+    ensures { result ≡ spec.end_value unsigned (Some text.now) }
+{
+    match text {
+        [0, rest @ ..] => at_least(text_value(unsigned, rest)),
+        _ => exactly(text_value(unsigned, text)),
+    }
+}
+
+/// Returns whether the constant of a text that a symbol resolves to has a `u`.
+fn end_has_u(text: &[u8]) -> bool
+    ensures { result ≡ spec.end_has_u (Some text.now) }
+{
+    match text {
+        [0, rest @ ..] => text_has_u(rest),
+        _ => text_has_u(text),
+    }
+}
+
 /// Evaluates a name that is defined as `text` into `value`.
 #[tactic(auto, unfolding(ud_model::specs::conditions::Values::name_has_u))]
 #[inline(always)]
@@ -138,17 +179,17 @@ fn defined_as(scope: &Scope<'_>, name: &[u8], text: &[u8], value: &mut Value)
     value.calls_undefined = false;
     let digit = single_digit_value(text);
     if digit.is_some() {
-        value.number = digit;
+        value.number = exactly(digit);
         value.unsigned = false;
         return;
     }
     match scope.resolve_from(name, text) {
         Some(end) => {
-            value.number = text_value(scope.unsigned, end);
-            value.unsigned = text_has_u(end);
+            value.number = end_value(scope.unsigned, end);
+            value.unsigned = end_has_u(end);
         }
         None => {
-            value.number = None;
+            value.number = Amount::Anything;
             value.unsigned = false;
         }
     }
@@ -161,14 +202,14 @@ pub(crate) fn named(scope: &Scope<'_>, name: &[u8], arguments: bool, value: &mut
 {
     match scope.find(name) {
         None => {
-            value.number = None;
+            value.number = Amount::Anything;
             value.unsigned = false;
             value.listed = false;
             value.calls_undefined = false;
         }
         Some(entry) => match entry.value {
             None => {
-                value.number = Some(0);
+                value.number = Amount::Exactly(0);
                 value.unsigned = false;
                 value.listed = true;
                 value.calls_undefined = arguments;
@@ -188,11 +229,11 @@ pub(crate) fn defined(scope: &Scope<'_>, name: &[u8], value: &mut Value)
     value.calls_undefined = false;
     match scope.find(name) {
         None => {
-            value.number = None;
+            value.number = Amount::Anything;
             value.listed = false;
         }
         Some(entry) => {
-            value.number = Some(truth(entry.value.is_some()));
+            value.number = Amount::Exactly(truth(entry.value.is_some()));
             value.listed = true;
         }
     }
@@ -273,9 +314,55 @@ fn short_circuits(strict: bool, operator: Operator, a: i64) -> Option<i64>
     }
 }
 
-/// Applies a binary operator to two operands.
+/// Returns whether the operator gives the same for each number from `n` on, with `b` on its other
+/// side.
+fn is_same_from(operator: Operator, n: i64, b: Amount) -> bool
+    ensures { result ≡ spec.is_same_from operator n b }
+{
+    match (operator, b) {
+        (Operator::Not | Operator::And | Operator::Or, _) => 0 < n,
+        (Operator::Less | Operator::GreaterEqual, Amount::Exactly(b)) => b <= n,
+        (
+            Operator::Equal | Operator::NotEqual | Operator::LessEqual | Operator::Greater,
+            Amount::Exactly(b),
+        ) => b < n,
+        _ => false,
+    }
+}
+
+/// Returns the number that counts for the operand `a`, with `b` on its other side.
+fn counted(operator: Operator, a: Amount, b: Amount) -> Option<i64>
+    ensures { result ≡ spec.counted operator a b }
+{
+    match a {
+        Amount::Anything => None,
+        Amount::Exactly(number) => Some(number),
+        Amount::AtLeast(least) => {
+            if is_same_from(operator, least, b) {
+                Some(least)
+            } else {
+                None
+            }
+        }
+    }
+}
+
+/// Returns the relation that gives the same with both operands exchanged.
+fn mirrored(operator: Operator) -> Operator
+    ensures { result ≡ spec.mirrored operator }
+{
+    match operator {
+        Operator::Less => Operator::Greater,
+        Operator::LessEqual => Operator::GreaterEqual,
+        Operator::Greater => Operator::Less,
+        Operator::GreaterEqual => Operator::LessEqual,
+        other => other,
+    }
+}
+
+/// Applies a binary operator to two operands, known or not.
 #[inline(always)]
-pub(crate) fn apply_binary(
+fn apply_binary(
     strict: bool,
     unsigned: bool,
     operator: Operator,
@@ -291,6 +378,22 @@ pub(crate) fn apply_binary(
     }
 }
 
+/// Returns the value of a binary operator between two operands.
+#[inline(always)]
+pub(crate) fn binary_amount(
+    strict: bool,
+    unsigned: bool,
+    operator: Operator,
+    a: Amount,
+    b: Amount,
+) -> Amount
+    ensures { result ≡ spec.binary_amount strict unsigned operator a b }
+{
+    let first = counted(operator, a, b);
+    let second = counted(mirrored(operator), b, a);
+    exactly(apply_binary(strict, unsigned, operator, first, second))
+}
+
 /// Applies a prefix operator to a known operand.
 #[tactic(auto, unfolding(ud_model::specs::conditions::Values::apply_unary_known))]
 fn apply_unary_known(unsigned: bool, operator: Operator, a: i64) -> Option<i64>
@@ -304,11 +407,18 @@ fn apply_unary_known(unsigned: bool, operator: Operator, a: i64) -> Option<i64>
     }
 }
 
-/// Applies a prefix operator to its operand.
-pub(crate) fn apply_unary(unsigned: bool, operator: Operator, a: Option<i64>) -> Option<i64>
+/// Applies a prefix operator to an operand, known or not.
+fn apply_unary(unsigned: bool, operator: Operator, a: Option<i64>) -> Option<i64>
     ensures { result ≡ spec.apply_unary unsigned operator a }
 {
     apply_unary_known(unsigned, operator, a?)
+}
+
+/// Returns the value of a prefix operator before its operand.
+pub(crate) fn unary_amount(unsigned: bool, operator: Operator, a: Amount) -> Amount
+    ensures { result ≡ spec.unary_amount unsigned operator a }
+{
+    exactly(apply_unary(unsigned, operator, counted(operator, a, Amount::Anything)))
 }
 
 /// Returns the value of a prefix operator and its operand.
@@ -317,7 +427,7 @@ pub(crate) fn unary(scope: &Scope<'_>, operator: Operator, a: Value) -> Value
     ensures { result ≡ unary_value_of scope.now.unsigned operator a }
 {
     Value {
-        number: apply_unary(scope.unsigned, operator, a.number),
+        number: unary_amount(scope.unsigned, operator, a.number),
         unsigned: a.unsigned,
         listed: a.listed,
         calls_undefined: a.calls_undefined,
@@ -330,7 +440,7 @@ pub(crate) fn binary(scope: &Scope<'_>, operator: Operator, a: Value, b: Value) 
     ensures { result ≡ binary_value_of scope.now.strict scope.now.unsigned operator a b }
 {
     Value {
-        number: apply_binary(scope.strict, scope.unsigned, operator, a.number, b.number),
+        number: binary_amount(scope.strict, scope.unsigned, operator, a.number, b.number),
         unsigned: a.unsigned || b.unsigned,
         listed: a.listed || b.listed,
         calls_undefined: a.calls_undefined || b.calls_undefined,

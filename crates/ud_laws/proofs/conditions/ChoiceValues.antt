@@ -1,5 +1,5 @@
 -- Choice values: what a choice of numbers gives an expression is one of the values that C may give it.
-use Rattle.std.proofs.Common.{◌≡◌, ℕ, List, Bool, true, Option, Some, None, refl, sym, subst, ℤ, arith}
+use Rattle.std.proofs.Common.{◌≡◌, ℕ, List, Bool, true, Option, Some, None, inl, inr, refl, sym, subst, ℤ, arith}
 use Rattle.std.proofs.lemmas.Bool.{or_left, or_right}
 use Rattle.ud_model.specs.conditions.Table.{Argument, Entry, entry_in}
 use Rattle.ud_model.specs.conditions.Symbols.{resolve}
@@ -7,25 +7,32 @@ use Rattle.ud_model.specs.conditions.Expressions.{Expression, named, is_defined}
 use Rattle.ud_model.specs.conditions.Values.{truth, name_value_by, name_value, name_has_u, defined_value, has_unsigned}
 use Rattle.ud_model.specs.laws.CValues.{Number, signed, IsInRange, typed, CValue, IsCValue}
 use Rattle.ud_model.specs.laws.CValues as may
-use Rattle.ud_laws.specs.conditions.Choices.{Choice, IsAllowed, HasValue, of_constant, of_name, of_defined, of_unary, of_binary, of_and_left, of_and_both, of_or_left, of_or_both, of_parens}
-use Rattle.ud_laws.proofs.conditions.StrictLess.{Keeps}
+use Rattle.ud_model.specs.declared.amount.Amount.{Amount}
+use Rattle.ud_model.specs.declared.amount.Amount.TheVariants.{Anything, Exactly, AtLeast}
+use Rattle.ud_laws.specs.conditions.Choices.{Choice, IsNumberOf, IsAllowed, HasValue, of_constant, of_name, of_defined, of_unary, of_binary, of_and_left, of_and_both, of_or_left, of_or_both, of_parens}
+use Rattle.ud_laws.proofs.conditions.Refining.{Stays}
 
-entry_less : (u v : Bool) (end : Option (List ℕ)) (o : Option Entry) → (v ≡ true → u ≡ true) → Keeps (name_value_by u end o) (name_value_by v end o)
-entry_less u v end o h z e = grind arith
+entry_less : (u v : Bool) (end : Option (List ℕ)) (o : Option Entry) → (v ≡ true → u ≡ true) → Stays (name_value_by u end o) (name_value_by v end o)
+entry_less u v end o h = grind arith
 
--- A name whose value is known in an expression with a `u` has the same value in one without.
-pub name_less : (table : List Argument) (u v : Bool) (n : List ℕ) → (v ≡ true → u ≡ true) → Keeps (name_value table u n) (name_value table v n)
+-- A name's value that is known in an expression with a `u` is known in one without.
+pub name_less : (table : List Argument) (u v : Bool) (n : List ℕ) → (v ≡ true → u ≡ true) → Stays (name_value table u n) (name_value table v n)
 unfolding name_value
-name_less table u v n h z e = entry_less u v (resolve table n) (entry_in table n) h z e
+name_less table u v n h = entry_less u v (resolve table n) (entry_in table n) h
+
+number_by : (b : Bool) (a d : Amount) (c : Number) → Stays a d → IsNumberOf b d c → IsNumberOf b a c
+number_by b a d c (inl e) h = subst (λ (x : Amount). IsNumberOf b x c) (sym e) tt
+number_by b a d c (inr e) h = subst (λ (x : Amount). IsNumberOf b x c) e h
 
 module _ (table : List Argument) (u : Bool) where
-  name_may : (n : List ℕ) (arguments : Bool) (c : Number) → IsInRange c → ((z : ℤ) → name_value table (name_has_u table n) n ≡ Some z → c ≡ typed (name_has_u table n) z) →
+  name_may : (n : List ℕ) (arguments : Bool) (c : Number) → IsInRange c → IsNumberOf (name_has_u table n) (name_value table (name_has_u table n) n) c →
       (name_has_u table n ≡ true → u ≡ true) → CValue table u (named n arguments) c
-  name_may n arguments c r h v = by (name_value table u n) refl
+  name_may n arguments c r h v = by (name_value table u n) refl (number_by (name_has_u table n) (name_value table u n) (name_value table (name_has_u table n) n) c (name_less table u (name_has_u table n) n v) h)
     where
-      by : (o : Option ℤ) → name_value table u n ≡ o → CValue table u (named n arguments) c
-      by None e = may.of_open_name e r
-      by (Some z) e = subst (λ x. CValue table u (named n arguments) x) (sym (h z (name_less table u (name_has_u table n) n v z e))) (may.of_known_name e)
+      by : (a : Amount) → name_value table u n ≡ a → IsNumberOf (name_has_u table n) a c → CValue table u (named n arguments) c
+      by Anything e k = may.of_open_name e r
+      by (Exactly z) e k = subst (λ x. CValue table u (named n arguments) x) (sym k) (may.of_known_name e)
+      by (AtLeast z) e k = subst (λ x. CValue table u (named n arguments) x) (sym k.3) (may.of_least_name e k.1 k.2)
 
   defined_may : (n : List ℕ) (p b : Bool) → ((z : ℤ) → defined_value table n ≡ Some z → truth b ≡ z) → CValue table u (is_defined n p) (signed (truth b))
   defined_may n p b h = by (defined_value table n) refl

@@ -1,6 +1,6 @@
 -- Conditions: two tables decide a condition alike if they have the same entry for each of its
 -- names, and for those to which these lead.
-use Rattle.std.proofs.Common.{◌≡◌, ℕ, List, Bool, true, ◌&&◌, ◌||◌, Option, Some, None, is_some, refl, sym, ◌∙◌, ap, ap₂, arith, rules}
+use Rattle.std.proofs.Common.{◌≡◌, ℕ, List, Bool, true, false, ◌&&◌, ◌||◌, Option, Some, None, is_some, refl, sym, ◌∙◌, ap, ap₂, arith, rules}
 use Rattle.ud_model.specs.text.Bytes.{is_identifier}
 use Rattle.ud_model.specs.text.Scans.{Reading}
 use Rattle.ud_model.specs.sections.Directives.{Content}
@@ -8,7 +8,7 @@ use Rattle.ud_model.specs.conditions.Table.{Argument, Entry, entry_in}
 use Rattle.ud_model.specs.conditions.Symbols.{defined_text, text_in, ResolvesTo, at_text, by_name, resolve}
 use Rattle.ud_model.specs.conditions.Expressions.{Expression, constant, named, is_defined, unary, binary, parens}
 use Rattle.ud_model.specs.conditions.Parsing.{expression_of}
-use Rattle.ud_model.specs.conditions.Values.{apply_unary, apply_binary, name_value, name_value_by, name_has_u, end_has_u, defined_value, defined_value_by, number_of, has_unsigned}
+use Rattle.ud_model.specs.conditions.Values.{amount_from, unary_amount, binary_amount, name_value, name_value_by, name_has_u, end_has_u, defined_value, defined_value_by, number_of, has_unsigned}
 use Rattle.ud_model.specs.conditions.Conditions.{Rules, mentions_listed, undefined_by, calls_undefined, tree_cond_if, expression_cond, decision_by_test, ifdef_by, ifdef_decision}
 use Rattle.ud_model.specs.conditions.Names.{names_in, names_in_tree, name_alone, names_by}
 use Rattle.ud_model.specs.sections.Items.{Options, rules_of, item_by}
@@ -54,11 +54,11 @@ module _ (t u : List Argument) where
   number_of_alike : (strict b : Bool) (e : Expression) → Each Alike (names_in e) → number_of t strict b e ≡ number_of u strict b e
   number_of_alike strict b (constant w) h = refl
   number_of_alike strict b (named n a) h = name_value_alike b n h.0
-  number_of_alike strict b (is_defined n p) h = defined_value_alike n h.0
-  number_of_alike strict b (unary o x) h = ap (apply_unary b o) (number_of_alike strict b x h)
+  number_of_alike strict b (is_defined n p) h = ap (amount_from false) (defined_value_alike n h.0)
+  number_of_alike strict b (unary o x) h = ap (unary_amount b o) (number_of_alike strict b x h)
   number_of_alike strict b (binary o x y) h =
       let p : Each Alike (names_in x) × Each Alike (names_in y) = each_parts Alike (names_in x) (names_in y) h in
-      ap₂ (apply_binary strict b o) (number_of_alike strict b x p.0) (number_of_alike strict b y p.1)
+      ap₂ (binary_amount strict b o) (number_of_alike strict b x p.0) (number_of_alike strict b y p.1)
   number_of_alike strict b (parens x) h = number_of_alike strict b x h
 
   pub has_unsigned_alike : (e : Expression) → Each Alike (names_in e) → has_unsigned t e ≡ has_unsigned u e

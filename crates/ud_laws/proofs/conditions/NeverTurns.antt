@@ -1,12 +1,15 @@
 -- Further symbols: a table with more entries leaves a known value as it is, or makes it unknown.
 use Rattle.std.proofs.Common.{◌≡◌, ◌≢◌, ℕ, List, Bool, true, false, not, ◌&&◌, ◌||◌, Option, Some, None, ◌⊎◌, inl, inr, ℤ, pos, refl, sym, ◌∙◌, ap, ap₂, subst, arith}
 use Rattle.std.proofs.lemmas.Option.{none-some}
+use Rattle.ud_model.specs.text.Bytes.{starts_with_byte}
 use Rattle.ud_model.specs.conditions.Table.{Argument, Entry, entry_in}
 use Rattle.ud_model.specs.conditions.Symbols.{defined_text, text_in, ResolvesTo, at_text, by_name, resolve}
 use Rattle.ud_model.specs.conditions.Expressions.{Expression, constant, named, is_defined, unary, binary, parens}
-use Rattle.ud_model.specs.conditions.Values.{truth, is_zero, apply_binary_known, short_circuits, apply_binary, apply_unary_known, apply_unary, constant_value, end_value, defined_name_value, name_value_by, name_value, defined_value_by, defined_value, number_of, has_unsigned, value_of}
-use Rattle.ud_model.specs.conditions.Conditions.{Rules, tree_cond}
+use Rattle.ud_model.specs.conditions.Values.{truth, is_zero, apply_binary_known, short_circuits, apply_binary, apply_unary_known, apply_unary, amount_from, counted, mirrored, unary_amount, binary_amount, text_value, constant_in, end_value, defined_name_value, name_value_by, name_value, defined_value_by, defined_value, number_of, has_unsigned, value_of}
+use Rattle.ud_model.specs.conditions.Conditions.{Rules, truth_of, tree_cond}
 use Rattle.ud_laws.specs.output.ListedNames.{ExtendsTable}
+use Rattle.ud_model.specs.declared.amount.Amount.{Amount}
+use Rattle.ud_model.specs.declared.amount.Amount.TheVariants.{Anything}
 use Rattle.ud_model.specs.declared.cond.Cond.TheVariants.{Unknown}
 use Rattle.ud_model.specs.declared.operator.Operator.{Operator}
 use Rattle.ud_model.specs.declared.operator.Operator.TheVariants.{Or, And}
@@ -18,9 +21,6 @@ Or_none z b = (b ≡ Some z) ⊎ (b ≡ None)
 
 abbrev After : Option ℤ → Option ℤ → Type 0
 After a b = (z : ℤ) → a ≡ Some z → Or_none z b
-
-same_after : (a : Option ℤ) → After a a
-same_after a z e = inl e
 
 operate_after : (b c : Bool) (o : Operator) (x y : ℤ) → After (apply_binary_known b o x y) (apply_binary_known c o x y)
 unfolding apply_binary_known
@@ -118,6 +118,40 @@ combine_after s b c o None (Some q) v w h k z e = by (k q refl) v
     by (inr f) None = inr (ap (λ (d : Option ℤ). apply_binary s c o None d) f)
     by (inr f) (Some p) = grind (arith, two_decide, decides_is, f)
 
+-- 3. Amounts.
+
+-- The amount stays, or becomes unknown.
+abbrev Lasts : Amount → Amount → Type 0
+Lasts a b = (a ≡ Anything) ⊎ ((b ≡ a) ⊎ (b ≡ Anything))
+
+after_lasts : (least : Bool) (x y : Option ℤ) → After x y → Lasts (amount_from least x) (amount_from least y)
+after_lasts least None y h = inl refl
+after_lasts least (Some z) y h = inr (by (h z refl))
+  where
+    by : Or_none z y → (amount_from least y ≡ amount_from least (Some z)) ⊎ (amount_from least y ≡ Anything)
+    by (inl e) = inl (ap (amount_from least) e)
+    by (inr e) = inr (ap (amount_from least) e)
+
+counted_after : (o : Operator) (a b d e : Amount) → Lasts a b → Lasts d e → After (counted o a d) (counted o b e)
+counted_after o a b d e h k z f = grind arith
+
+alter_lasts : (b c : Bool) (o : Operator) (x y : Amount) → Lasts x y → Lasts (unary_amount b o x) (unary_amount c o y)
+alter_lasts b c o x y h = after_lasts false (apply_unary b o (counted o x Anything)) (apply_unary c o (counted o y Anything))
+    (alter_after b c o (counted o x Anything) (counted o y Anything) (counted_after o x y Anything Anything h (inl refl)))
+
+combine_lasts : (s b c : Bool) (o : Operator) (x y v w : Amount) → Lasts x v → Lasts y w → Lasts (binary_amount s b o x y) (binary_amount s c o v w)
+combine_lasts s b c o x y v w h k = after_lasts false (apply_binary s b o (counted o x y) (counted (mirrored o) y x)) (apply_binary s c o (counted o v w) (counted (mirrored o) w v))
+    (combine_after s b c o (counted o x y) (counted (mirrored o) y x) (counted o v w) (counted (mirrored o) w v)
+    (counted_after o x v y w h k) (counted_after (mirrored o) y w x v k h))
+
+text_after : (b c : Bool) (text : List ℕ) → After (text_value b text) (text_value c text)
+text_after b c text z e = grind arith
+
+end_lasts : (b c : Bool) (x y : Option (List ℕ)) → ((v : List ℕ) → x ≡ Some v → y ≡ Some v) → Lasts (end_value b x) (end_value c y)
+end_lasts b c None y h = inl refl
+end_lasts b c (Some v) y h = subst (λ o. Lasts (end_value b (Some v)) (end_value c o)) (sym (h v refl))
+    (after_lasts (starts_with_byte 0 v) (text_value b (constant_in v)) (text_value c (constant_in v)) (text_after b c (constant_in v)))
+
 module _ (t u : List Argument) (more : ExtendsTable t u) where
   text_more : (n v : List ℕ) (o : Option Entry) → entry_in t n ≡ o → text_in o ≡ Some v → defined_text u n ≡ Some v
   text_more n v o e f = grind arith
@@ -129,20 +163,17 @@ module _ (t u : List Argument) (more : ExtendsTable t u) where
   end_more : (n v : List ℕ) → resolve t n ≡ Some v → resolve u n ≡ Some v
   end_more n v e = end_found u n v (ends_more n v (end_is t n v e))
 
-  end_after : (b c : Bool) (x y : Option (List ℕ)) → ((v : List ℕ) → x ≡ Some v → y ≡ Some v) → After (end_value b x) (end_value c y)
-  end_after b c x y h z e = grind arith
+  entry_lasts : (b c : Bool) (n : List ℕ) (value : Option (List ℕ)) → Lasts (defined_name_value b (resolve t n) value) (defined_name_value c (resolve u n) value)
+  entry_lasts b c n None = inr (inl refl)
+  entry_lasts b c n (Some v) = end_lasts b c (resolve t n) (resolve u n) (λ w f. end_more n w f)
 
-  entry_after : (b c : Bool) (n : List ℕ) (value : Option (List ℕ)) → After (defined_name_value b (resolve t n) value) (defined_name_value c (resolve u n) value)
-  entry_after b c n None z e = inl e
-  entry_after b c n (Some v) z e = end_after b c (resolve t n) (resolve u n) (λ w f. end_more n w f) z e
+  name_by : (b c : Bool) (n : List ℕ) (o : Option Entry) → entry_in t n ≡ o → Lasts (name_value_by b (resolve t n) o) (name_value_by c (resolve u n) (entry_in u n))
+  name_by b c n None f = inl refl
+  name_by b c n (Some x) f = subst (λ (d : Option Entry). Lasts (name_value_by b (resolve t n) (Some x)) (name_value_by c (resolve u n) d)) (sym (more n x f)) (entry_lasts b c n x.value)
 
-  name_by : (b c : Bool) (n : List ℕ) (o : Option Entry) → entry_in t n ≡ o → After (name_value_by b (resolve t n) o) (name_value_by c (resolve u n) (entry_in u n))
-  name_by b c n None f z e = absurd (none-some z e)
-  name_by b c n (Some x) f z e = subst (λ (d : Option Entry). Or_none z (name_value_by c (resolve u n) d)) (sym (more n x f)) (entry_after b c n x.value z e)
-
-  name_after : (b c : Bool) (n : List ℕ) → After (name_value t b n) (name_value u c n)
+  name_lasts : (b c : Bool) (n : List ℕ) → Lasts (name_value t b n) (name_value u c n)
   unfolding name_value
-  name_after b c n = name_by b c n (entry_in t n) refl
+  name_lasts b c n = name_by b c n (entry_in t n) refl
 
   defined_by : (n : List ℕ) (o : Option Entry) → entry_in t n ≡ o → After (defined_value_by o) (defined_value_by (entry_in u n))
   defined_by n o f z e = grind arith
@@ -151,18 +182,26 @@ module _ (t u : List Argument) (more : ExtendsTable t u) where
   unfolding defined_value
   defined_after n = defined_by n (entry_in t n) refl
 
-  number_after : (s b c : Bool) (e : Expression) → After (number_of t s b e) (number_of u s c e)
-  number_after s b c (constant w) = same_after (constant_value w)
-  number_after s b c (named n a) = name_after b c n
-  number_after s b c (is_defined n p) = defined_after n
-  number_after s b c (unary o a) = alter_after b c o (number_of t s b a) (number_of u s c a) (number_after s b c a)
-  number_after s b c (binary o a d) = grind (arith, combine_after, number_after s b c a, number_after s b c d)
-  number_after s b c (parens a) = number_after s b c a
+  number_lasts : (s b c : Bool) (e : Expression) → Lasts (number_of t s b e) (number_of u s c e)
+  number_lasts s b c (constant w) = inr (inl refl)
+  number_lasts s b c (named n a) = name_lasts b c n
+  number_lasts s b c (is_defined n p) = after_lasts false (defined_value t n) (defined_value u n) (defined_after n)
+  number_lasts s b c (unary o a) = alter_lasts b c o (number_of t s b a) (number_of u s c a) (number_lasts s b c a)
+  number_lasts s b c (binary o a d) =
+      combine_lasts s b c o (number_of t s b a) (number_of t s b d) (number_of u s c a) (number_of u s c d) (number_lasts s b c a) (number_lasts s b c d)
+  number_lasts s b c (parens a) = number_lasts s b c a
 
   -- The value of an expression stays, or is unknown.
-  pub value_after : (s : Bool) (e : Expression) (z : ℤ) → value_of t s e ≡ Some z → (value_of u s e ≡ Some z) ⊎ (value_of u s e ≡ None)
-  value_after s e z h = number_after s (has_unsigned t e) (has_unsigned u e) e z h
+  pub value_after : (s : Bool) (e : Expression) → value_of t s e ≢ Anything → (value_of u s e ≡ value_of t s e) ⊎ (value_of u s e ≡ Anything)
+  value_after s e h = by (number_lasts s (has_unsigned t e) (has_unsigned u e) e)
+    where
+      by : Lasts (value_of t s e) (value_of u s e) → (value_of u s e ≡ value_of t s e) ⊎ (value_of u s e ≡ Anything)
+      by (inl f) = absurd (h f)
+      by (inr k) = k
+
+  cond_by : (a b : Amount) → Lasts a b → truth_of a ≢ Unknown → (truth_of b ≡ truth_of a) ⊎ (truth_of b ≡ Unknown)
+  cond_by a b h n = grind arith
 
   -- A condition stays, or is unknown.
   pub cond_after : (e : Expression) (r : Rules) → tree_cond e t r ≢ Unknown → (tree_cond e u r ≡ tree_cond e t r) ⊎ (tree_cond e u r ≡ Unknown)
-  cond_after e r n = grind (arith, value_after)
+  cond_after e r n = grind (arith, cond_by, number_lasts)

@@ -8,6 +8,7 @@ use Rattle.ud_model.specs.conditions.Parsing.{tokens_of, reads, expression_of}
 use Rattle.ud_model.specs.conditions.Symbols.{resolve}
 use Rattle.ud_model.specs.conditions.Values.{apply_binary_known, apply_unary_known, name_value, name_has_u, defined_value, number_of, value_of}
 use Rattle.ud_model.specs.laws.CValues.{Number, Gives, IsConstantValue, signed, unsigned, number, plain, by_suffix, by_size, CValue, of_constant, of_known_name, of_known_defined, of_open_defined, of_unary, of_binary, of_and_both, of_or_both, IsCValue}
+use Rattle.ud_model.specs.declared.amount.Amount.TheVariants.{Exactly, Anything}
 use Rattle.ud_model.specs.declared.operator.Operator.TheVariants.{Or, And, Equal, Less, Plus, Minus, Over, Remainder, Not, Complement}
 
 -- The argument that defines a name as a value, and the one that undefines it.
@@ -24,12 +25,12 @@ five = sets (codes "A") (codes "5") ∷ []
 -- The text has this tree, whose value is known, and C may give it this value.
 abbrev Shown : List ℕ → Expression → Number → Type 0
 Shown text tree value =
-    (expression_of text ≡ Some tree) × (value_of five false tree ≡ Some (number value)) ×
+    (expression_of text ≡ Some tree) × (value_of five false tree ≡ Exactly (number value)) ×
     IsCValue five tree value
 
 -- The text has this tree, and C may give it this value. Here its value is unknown.
 abbrev Refuted : List ℕ → Expression → Number → Type 0
-Refuted text tree value = (expression_of text ≡ Some tree) × (value_of five false tree ≡ None) ×
+Refuted text tree value = (expression_of text ≡ Some tree) × (value_of five false tree ≡ Anything) ×
     IsCValue five tree value
 
 pub a_is_five : (u : Bool) → CValue five u (named (codes "A") false) (signed (pos 5))
@@ -127,7 +128,7 @@ nought_of : {table : List Argument} {u : Bool} {y : Number} → CValue table u (
 nought_of {y = y} (of_constant p) = is_nought y p
 
 -- It has no known value, and no C value.
-pub remainder_by_zero_unknown : number_of five false false remainder_by_zero ≡ None
+pub remainder_by_zero_unknown : number_of five false false remainder_by_zero ≡ Anything
 unfolding apply_binary_known apply_unary_known
 remainder_by_zero_unknown = refl
 

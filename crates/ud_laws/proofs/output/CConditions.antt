@@ -4,13 +4,14 @@ use Rattle.ud_model.specs.text.Scans.{Reading}
 use Rattle.ud_model.specs.conditions.Table.{Argument, Entry, entry_in}
 use Rattle.ud_model.specs.conditions.Expressions.{Expression, is_defined, unary}
 use Rattle.ud_model.specs.conditions.Parsing.{expression_of}
-use Rattle.ud_model.specs.conditions.Values.{truth, is_zero, apply_unary_known, apply_unary, defined_value, defined_value_by, value_of}
+use Rattle.ud_model.specs.conditions.Values.{truth, is_zero, apply_unary_known, amount_from, unary_amount, defined_value, defined_value_by, value_of}
 use Rattle.ud_model.specs.conditions.Conditions.{Rules, ifdef_by, ifdef_decision, negate, tree_cond_if, expression_cond, decision_by_test}
 use Rattle.ud_model.specs.laws.CValues.{Number, number}
 use Rattle.ud_laws.specs.output.CSelection.{HasTruth, MayBe}
 use Rattle.ud_model.specs.laws.WrittenConditions.{condition_by_test, condition_in}
 use Rattle.ud_model.specs.sections.Tree.{Item, if_line, elif_line}
 use Rattle.ud_model.specs.sections.Items.{Options, item_of}
+use Rattle.ud_model.specs.declared.amount.Amount.TheVariants.{Exactly}
 use Rattle.ud_model.specs.declared.cond.Cond.{Cond}
 use Rattle.ud_model.specs.declared.cond.Cond.TheVariants.{Yes, No, Unknown}
 use Rattle.ud_model.specs.declared.kind.Test.{Test}
@@ -34,13 +35,13 @@ module _ (table : List Argument) where
   expression_fits rules after b h = tree_if_fits rules (expression_of after) b h
 
   -- The case of `defined` and a listed name.
-  defined_is : (n : List ℕ) (x : Entry) → entry_in table n ≡ Some x → value_of table false (is_defined n false) ≡ Some (truth (is_some x.value))
+  defined_is : (n : List ℕ) (x : Entry) → entry_in table n ≡ Some x → value_of table false (is_defined n false) ≡ Exactly (truth (is_some x.value))
   unfolding defined_value
-  defined_is n x e = ap defined_value_by e
+  defined_is n x e = ap (λ (o : Option Entry). amount_from false (defined_value_by o)) e
 
-  undefined_is : (n : List ℕ) (x : Entry) → entry_in table n ≡ Some x → value_of table false (unary Not (is_defined n false)) ≡ Some (truth (is_zero (truth (is_some x.value))))
+  undefined_is : (n : List ℕ) (x : Entry) → entry_in table n ≡ Some x → value_of table false (unary Not (is_defined n false)) ≡ Exactly (truth (is_zero (truth (is_some x.value))))
   unfolding defined_value apply_unary_known
-  undefined_is n x e = ap (λ (o : Option Entry). apply_unary false Not (defined_value_by o)) e
+  undefined_is n x e = ap (λ (o : Option Entry). unary_amount false Not (amount_from false (defined_value_by o))) e
 
   value_fits : (v : Option (List ℕ)) (i b : Bool) (c : Number) → number c ≡ truth (is_some v) → HasTruth b c → Fits (ifdef_by (Some (record { value = v; ignoring = i }))).cond b
   value_fits v i b c e h = grind arith

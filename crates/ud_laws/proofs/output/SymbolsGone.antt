@@ -8,7 +8,7 @@ use Rattle.ud_model.specs.conditions.Table.{Argument}
 use Rattle.ud_model.specs.conditions.Expressions.{Expression, named}
 use Rattle.ud_model.specs.conditions.Names.{names_in, names_in_tree}
 use Rattle.ud_model.specs.conditions.Values.{name_value, name_has_u, defined_value, has_unsigned}
-use Rattle.ud_model.specs.laws.CValues.{Number, typed, CValue, of_constant, of_known_name, of_open_name, of_known_defined, of_open_defined, of_unary, of_binary, of_and_left, of_and_both, of_or_left, of_or_both, of_parens}
+use Rattle.ud_model.specs.laws.CValues.{Number, typed, CValue, of_constant, of_known_name, of_least_name, of_open_name, of_known_defined, of_open_defined, of_unary, of_binary, of_and_left, of_and_both, of_or_left, of_or_both, of_parens}
 use Rattle.ud_model.specs.sections.Tree.{Nodes, Groups, Elifs, nothing, text, section, conditional, otherwise, first, elif}
 use Rattle.ud_model.specs.laws.Worlds.{World, openers, openers_of_groups, openers_of_elifs, EachReached, GroupsReached, ElifsReached}
 use Rattle.ud_laws.specs.output.CSelection.{MayBe, IsCWorld}
@@ -37,6 +37,8 @@ module _ (t u : List Argument) where
   value_over b h (of_constant k) = of_constant k
   value_over b h (of_known_name {n = n} {arguments = a} {z = z} k) =
       subst (λ (x : Bool). CValue u b (named n a) (typed x z)) (sym h.0.has_u) (of_known_name (sym (h.0.value b) ∙ k))
+  value_over b h (of_least_name {n = n} {arguments = a} {k = z} k l r) =
+      subst (λ (x : Bool). CValue u b (named n a) (typed x z)) (sym h.0.has_u) (of_least_name (sym (h.0.value b) ∙ k) l r)
   value_over b h (of_open_name k r) = of_open_name (sym (h.0.value b) ∙ k) r
   value_over b h (of_known_defined k) = of_known_defined (sym h.0.is_set ∙ k)
   value_over b h (of_open_defined k r) = of_open_defined (sym h.0.is_set ∙ k) r

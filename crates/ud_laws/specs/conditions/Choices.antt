@@ -11,7 +11,9 @@
 --
 -- CValues says which values an expression may have; here each value comes with the numbers that
 -- lead to it, so two expressions can be compared use by use.
-use Rattle.std.specs.Prelude.{◌≡◌, ℕ, List, Bool, true, false, Some, ℤ, pos, ◌&&◌, if◌then◌else◌}
+use Rattle.std.specs.Prelude.{◌≡◌, ℕ, List, Bool, true, false, Some, ℤ, pos, ◌≤ℤ◌, ◌&&◌}
+use Rattle.std.specs.Prelude.{if◌then◌else◌, FitsSigned}
+use mir.Syntax.{w64}
 use Rattle.ud_model.specs.conditions.Table.{Argument}
 use Rattle.ud_model.specs.conditions.Expressions.{Expression, constant, named, is_defined, unary}
 use Rattle.ud_model.specs.conditions.Expressions.{binary, parens}
@@ -21,6 +23,8 @@ use Rattle.ud_model.specs.laws.CValues.{Number, signed, IsInRange, IsTruth, IsZe
 use Rattle.ud_model.specs.laws.CValues.{GivesUnary, IsConstantValue, typed}
 use Rattle.ud_model.specs.aids.Residuals.{Residual, is_unit, stands_alone, residual, settled}
 use Rattle.ud_model.specs.aids.Residuals.{joined_if}
+use Rattle.ud_model.specs.declared.amount.Amount.{Amount}
+use Rattle.ud_model.specs.declared.amount.Amount.TheVariants.{Anything, Exactly, AtLeast}
 use Rattle.ud_model.specs.declared.cond.Cond.{Cond}
 use Rattle.ud_model.specs.declared.operator.Operator.{Operator}
 use Rattle.ud_model.specs.declared.operator.Operator.TheVariants.{Or, And, Not}
@@ -34,13 +38,20 @@ pub data Choice : Expression → Type 0 where
   for_binary : {o : Operator} {a b : Expression} → Choice a → Choice b → Choice (binary o a b)
   for_parens : {a : Expression} → Choice a → Choice (parens a)
 
+-- `IsNumberOf b a c`: `c` is a number as the amount `a` says, of uintmax_t if `b`, else of
+-- intmax_t.
+abbrev pub IsNumberOf : Bool → Amount → Number → Type 0
+IsNumberOf b Anything c = Unit {0}
+IsNumberOf b (Exactly z) c = c ≡ typed b z
+IsNumberOf b (AtLeast n) c = (z : ℤ) × (n ≤ℤ z) × FitsSigned w64 z × (c ≡ typed b z)
+
 module _ (table : List Argument) where
   -- `IsAllowed m`: each number is in range, and the names that the table decides have the table's
-  -- numbers. All others are free.
+  -- numbers, or one from the least number on. All others are free.
   abbrev pub IsAllowed : {e : Expression} → Choice e → Type 0
   IsAllowed for_constant = Unit {0}
-  IsAllowed (for_name {n = n} c) = IsInRange c × ((z : ℤ) →
-      name_value table (name_has_u table n) n ≡ Some z → c ≡ typed (name_has_u table n) z)
+  IsAllowed (for_name {n = n} c) = IsInRange c ×
+      IsNumberOf (name_has_u table n) (name_value table (name_has_u table n) n) c
   IsAllowed (for_defined {n = n} b) = (z : ℤ) → defined_value table n ≡ Some z → truth b ≡ z
   IsAllowed (for_unary m) = IsAllowed m
   IsAllowed (for_binary m k) = IsAllowed m × IsAllowed k

@@ -1,9 +1,9 @@
 -- Conditions: tables with the same entry for every name decide alike.
-use Rattle.std.proofs.Common.{◌≡◌, ℕ, List, Bool, ◌||◌, Option, is_some, refl, ap, ap₂, arith, rules}
+use Rattle.std.proofs.Common.{◌≡◌, ℕ, List, Bool, false, ◌||◌, Option, is_some, refl, ap, ap₂, arith, rules}
 use Rattle.ud_model.specs.conditions.Table.{Argument}
 use Rattle.ud_model.specs.conditions.Expressions.{Expression, constant, named, is_defined, unary, binary, parens}
 use Rattle.ud_model.specs.conditions.Parsing.{expression_of}
-use Rattle.ud_model.specs.conditions.Values.{apply_unary, apply_binary, name_value, name_value_by, name_has_u, end_has_u, defined_value, defined_value_by, number_of, has_unsigned}
+use Rattle.ud_model.specs.conditions.Values.{amount_from, unary_amount, binary_amount, name_value, name_value_by, name_has_u, end_has_u, defined_value, defined_value_by, number_of, has_unsigned}
 use Rattle.ud_model.specs.conditions.Conditions.{Rules, mentions_listed, calls_undefined, tree_cond, tree_cond_if, expression_cond, decision_by_test, condition_of}
 use Rattle.ud_model.specs.declared.kind.Kind.{Kind}
 use Rattle.ud_model.specs.declared.kind.Test.{Test}
@@ -27,9 +27,9 @@ module _ (t u : List Argument) (same : SaySame t u) where
   pub number_of_same : (strict b : Bool) (e : Expression) → number_of t strict b e ≡ number_of u strict b e
   number_of_same strict b (constant w) = refl
   number_of_same strict b (named n a) = name_value_same b n
-  number_of_same strict b (is_defined n p) = defined_value_same n
-  number_of_same strict b (unary o x) = ap (apply_unary b o) (number_of_same strict b x)
-  number_of_same strict b (binary o x y) = ap₂ (apply_binary strict b o) (number_of_same strict b x) (number_of_same strict b y)
+  number_of_same strict b (is_defined n p) = ap (amount_from false) (defined_value_same n)
+  number_of_same strict b (unary o x) = ap (unary_amount b o) (number_of_same strict b x)
+  number_of_same strict b (binary o x y) = ap₂ (binary_amount strict b o) (number_of_same strict b x) (number_of_same strict b y)
   number_of_same strict b (parens x) = number_of_same strict b x
 
   pub has_unsigned_same : (e : Expression) → has_unsigned t e ≡ has_unsigned u e

@@ -12,7 +12,7 @@
 -- Example: with A undefined, `A && X` is no, and unknown under `strict`; `X || 1` is unknown unless
 -- `constants`.
 use Rattle.std.specs.Prelude.{ℕ, List, Bool, true, false, not, ◌&&◌, ◌||◌, Option, Some, None}
-use Rattle.std.specs.Prelude.{is_some, if◌then◌else◌, ℤ}
+use Rattle.std.specs.Prelude.{is_some, if◌then◌else◌, pos, int_lt}
 use Rattle.ud_model.specs.text.Bytes.{skip_white, leading_word, skip_word, are_white, is_identifier}
 use Rattle.ud_model.specs.text.Scans.{Scan}
 use Rattle.ud_model.specs.sections.Directives.{Directive, role_of, test_of}
@@ -21,6 +21,8 @@ use Rattle.ud_model.specs.conditions.Expressions.{Expression, constant, named, i
 use Rattle.ud_model.specs.conditions.Expressions.{binary, parens}
 use Rattle.ud_model.specs.conditions.Parsing.{expression_of}
 use Rattle.ud_model.specs.conditions.Values.{is_zero, value_of}
+use Rattle.ud_model.specs.declared.amount.Amount.{Amount}
+use Rattle.ud_model.specs.declared.amount.Amount.TheVariants.{Anything, Exactly, AtLeast}
 use Rattle.ud_model.specs.declared.cond.Cond.{Cond}
 use Rattle.ud_model.specs.declared.cond.Cond.TheVariants.{Yes, No, Unknown}
 use Rattle.ud_model.specs.declared.kind.Kind.{Kind}
@@ -106,10 +108,11 @@ module _ (table : List Argument) where
   calls_undefined (binary o a b) = calls_undefined a || calls_undefined b
   calls_undefined (parens a) = calls_undefined a
 
--- `truth_of value`: no if the value is 0, yes if it is any other known number, else unknown.
-abbrev pub truth_of : Option ℤ → Cond
-truth_of None = Unknown
-truth_of (Some z) = if is_zero z then No else Yes
+-- `truth_of value`: no if the value is 0, yes if it can only be another number, else unknown.
+abbrev pub truth_of : Amount → Cond
+truth_of Anything = Unknown
+truth_of (Exactly z) = if is_zero z then No else Yes
+truth_of (AtLeast n) = if int_lt (pos 0) n then Yes else Unknown
 
 -- `tree_cond e table rules`: the condition of the tree `e`, by its value. It is unknown if an
 -- undefined name has arguments, and, unless `constants`, if no name is listed.

@@ -1,11 +1,12 @@
 -- Values: the value of an expression, as far as the table decides it.
--- C11 6.10.1p4 and 6.5. A value is a whole number, or unknown (None).
+-- C11 6.10.1p4 and 6.5. A value is exactly a whole number, or at least one, or unknown (Anything).
 --
 --   fits u z                      `z` is from the least number to 2^63-1; `u` means that the
 --                                 expression has a `u`
 --   apply_binary_known u o a b    the value of an operator with two known operands
 --   apply_binary strict u o a b   the value of an operator with two operands, known or not
 --   apply_unary u o a             the value of an operator before one operand
+--   counted o a b                 the number that counts for the operand `a` of `o` beside `b`
 --   name_value table u n          the value of a name as an operand
 --   defined_value table n         the value of `defined` and a name
 --   number_of table strict u e    the value of a tree, with that least number
@@ -15,20 +16,25 @@
 --
 -- The least number is -2^63, or 0 if the expression has a `u`. A result out of this range is
 -- unknown: C gives no value there, or not the one that whole numbers give. Under `strict`, `&&` and
--- `||` are unknown if an operand is.
+-- `||` are unknown if an operand is. A zero byte before a symbol's constant means that the symbol
+-- is at least that number. No word of a command line has this byte.
 --
 -- Example: with A as 5, `-A / 2` is -2, `~A < 0u` is unknown, and `X && !A` is 0 unless `strict`.
+-- With A as 5 or more, `A > 4` is 1, and `A > 5` and `A + 1 > 5` are unknown.
 use Rattle.std.specs.Prelude.{ℕ, ◌^◌, ◌==◌, nat_eq, nat_lt, Bool, true, false, not, ◌&&◌, ◌||◌}
-use Rattle.std.specs.Prelude.{if◌then◌else◌, List, [], ◌∷◌, Option, Some, None, is_some, ℤ, pos}
-use Rattle.std.specs.Prelude.{negsuc, ◌+ℤ◌, ◌-ℤ◌, ◌*ℤ◌, neg_ℤ, int_lt, int_le, int_div, int_rem}
-use Rattle.std.specs.Prelude.{bit_and, bit_or, bit_xor}
+use Rattle.std.specs.Prelude.{if◌then◌else◌, List, [], ◌∷◌, drop, Option, Some, None, is_some, ℤ}
+use Rattle.std.specs.Prelude.{pos, negsuc, ◌+ℤ◌, ◌-ℤ◌, ◌*ℤ◌, neg_ℤ, int_lt, int_le, int_div}
+use Rattle.std.specs.Prelude.{int_rem, bit_and, bit_or, bit_xor}
 use mir.Val.{to_z, of_z}
 use mir.Syntax.{w64}
+use Rattle.ud_model.specs.text.Bytes.{starts_with_byte}
 use Rattle.ud_model.specs.conditions.Table.{Argument, Entry, entry_in}
 use Rattle.ud_model.specs.conditions.Constants.{is_constant, has_u, constant_number}
 use Rattle.ud_model.specs.conditions.Symbols.{resolve}
 use Rattle.ud_model.specs.conditions.Expressions.{Expression, constant, named, is_defined, unary}
 use Rattle.ud_model.specs.conditions.Expressions.{binary, parens}
+use Rattle.ud_model.specs.declared.amount.Amount.{Amount}
+use Rattle.ud_model.specs.declared.amount.Amount.TheVariants.{Anything, Exactly, AtLeast}
 use Rattle.ud_model.specs.declared.operator.Operator.{Operator}
 use Rattle.ud_model.specs.declared.operator.Operator.TheVariants.{Or, And, BitOr, BitXor, BitAnd}
 use Rattle.ud_model.specs.declared.operator.Operator.TheVariants.{Equal, NotEqual, Less, LessEqual}
@@ -119,6 +125,49 @@ abbrev pub apply_unary : Bool → Operator → Option ℤ → Option ℤ
 apply_unary u o (Some a) = apply_unary_known u o a
 apply_unary u o None = None
 
+-- `amount_from least number`: the number, or one from it on if `least`; anything without a number.
+abbrev pub amount_from : Bool → Option ℤ → Amount
+amount_from least None = Anything
+amount_from false (Some z) = Exactly z
+amount_from true (Some z) = AtLeast z
+
+-- `is_same_from o n b`: `o` gives the same for each number from `n` on, with `b` on its other side.
+abbrev pub is_same_from : Operator → ℤ → Amount → Bool
+is_same_from Not n b = int_lt (pos 0) n
+is_same_from And n b = int_lt (pos 0) n
+is_same_from Or n b = int_lt (pos 0) n
+is_same_from Less n (Exactly b) = int_le b n
+is_same_from GreaterEqual n (Exactly b) = int_le b n
+is_same_from Equal n (Exactly b) = int_lt b n
+is_same_from NotEqual n (Exactly b) = int_lt b n
+is_same_from LessEqual n (Exactly b) = int_lt b n
+is_same_from Greater n (Exactly b) = int_lt b n
+is_same_from _ n b = false
+
+-- `counted o a b`: the number that counts for the operand `a` of `o`, with `b` on its other side.
+-- The least number counts if each greater one gives the same.
+abbrev pub counted : Operator → Amount → Amount → Option ℤ
+counted o Anything b = None
+counted o (Exactly z) b = Some z
+counted o (AtLeast n) b = if is_same_from o n b then Some n else None
+
+-- `mirrored o`: the relation that gives the same as `o` with both operands exchanged.
+abbrev pub mirrored : Operator → Operator
+mirrored Less = Greater
+mirrored LessEqual = GreaterEqual
+mirrored Greater = Less
+mirrored GreaterEqual = LessEqual
+mirrored o = o
+
+-- `unary_amount u o a`: the value of `o` before the operand `a`.
+abbrev pub unary_amount : Bool → Operator → Amount → Amount
+unary_amount u o a = amount_from false (apply_unary u o (counted o a Anything))
+
+-- `binary_amount strict u o a b`: the value of `o` between the operands `a` and `b`.
+abbrev pub binary_amount : Bool → Bool → Operator → Amount → Amount → Amount
+binary_amount strict u o a b =
+    amount_from false (apply_binary strict u o (counted o a b) (counted (mirrored o) b a))
+
 -- `limited n`: `n`, or unknown above 2^63-1.
 abbrev pub limited : ℕ → Option ℤ
 limited n = if nat_lt n (2 ^ 63) then Some (pos n) else None
@@ -145,31 +194,36 @@ abbrev pub text_has_u : List ℕ → Bool
 text_has_u [] = false
 text_has_u (b ∷ w) = if b == 45 then has_u w else has_u (b ∷ w)
 
+-- `constant_in text`: the text without a zero byte at its beginning.
+abbrev pub constant_in : List ℕ → List ℕ
+constant_in text = if starts_with_byte 0 text then drop 1 text else text
+
 -- `end_value u end`: the value of the text that a name resolves to, if any.
-abbrev pub end_value : Bool → Option (List ℕ) → Option ℤ
-end_value u None = None
-end_value u (Some text) = text_value u text
+abbrev pub end_value : Bool → Option (List ℕ) → Amount
+end_value u None = Anything
+end_value u (Some text) =
+    amount_from (starts_with_byte 0 text) (text_value u (constant_in text))
 
 -- `defined_name_value u end value`: the value of a listed name that resolves to `end`. An undefined
 -- name, whose `value` is None, is 0.
-abbrev pub defined_name_value : Bool → Option (List ℕ) → Option (List ℕ) → Option ℤ
-defined_name_value u end None = Some (pos 0)
+abbrev pub defined_name_value : Bool → Option (List ℕ) → Option (List ℕ) → Amount
+defined_name_value u end None = Exactly (pos 0)
 defined_name_value u end (Some text) = end_value u end
 
 -- `name_value_by u end entry`: the value of a name as an operand, by its entry. An unlisted name is
 -- unknown, and an undefined one is 0.
-abbrev pub name_value_by : Bool → Option (List ℕ) → Option Entry → Option ℤ
-name_value_by u end None = None
+abbrev pub name_value_by : Bool → Option (List ℕ) → Option Entry → Amount
+name_value_by u end None = Anything
 name_value_by u end (Some e) = defined_name_value u end e.value
 
 -- `name_value table u n`: the value of the name `n` as an operand.
-unfoldable pub name_value : List Argument → Bool → List ℕ → Option ℤ
+unfoldable pub name_value : List Argument → Bool → List ℕ → Amount
 name_value table u n = name_value_by u (resolve table n) (entry_in table n)
 
 -- `end_has_u end`: a name resolves to a text, and the constant of this text has a `u`.
 abbrev pub end_has_u : Option (List ℕ) → Bool
 end_has_u None = false
-end_has_u (Some text) = text_has_u text
+end_has_u (Some text) = text_has_u (constant_in text)
 
 -- `name_has_u table n`: the constant that `n` resolves to has a `u`.
 unfoldable pub name_has_u : List Argument → List ℕ → Bool
@@ -188,13 +242,13 @@ defined_value table n = defined_value_by (entry_in table n)
 module _ (table : List Argument) where
   -- `number_of strict u e`: the value of the tree `e`; `u` means that the whole expression has a
   -- `u`.
-  abbrev pub number_of : Bool → Bool → Expression → Option ℤ
-  number_of strict u (constant w) = constant_value w
+  abbrev pub number_of : Bool → Bool → Expression → Amount
+  number_of strict u (constant w) = amount_from false (constant_value w)
   number_of strict u (named n arguments) = name_value table u n
-  number_of strict u (is_defined n parentheses) = defined_value table n
-  number_of strict u (unary o a) = apply_unary u o (number_of strict u a)
+  number_of strict u (is_defined n parentheses) = amount_from false (defined_value table n)
+  number_of strict u (unary o a) = unary_amount u o (number_of strict u a)
   number_of strict u (binary o a b) =
-      apply_binary strict u o (number_of strict u a) (number_of strict u b)
+      binary_amount strict u o (number_of strict u a) (number_of strict u b)
   number_of strict u (parens a) = number_of strict u a
 
   -- `has_unsigned e`: a constant of `e`, or one that an operand's name resolves to, has a `u`.
@@ -207,5 +261,5 @@ module _ (table : List Argument) where
   has_unsigned (parens a) = has_unsigned a
 
   -- `value_of strict e`: the value of the expression `e`.
-  abbrev pub value_of : Bool → Expression → Option ℤ
+  abbrev pub value_of : Bool → Expression → Amount
   value_of strict e = number_of strict (has_unsigned e) e

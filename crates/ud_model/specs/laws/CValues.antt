@@ -12,7 +12,8 @@
 --   IsCValue table e c    the expression `e` may have the value `c`
 --
 -- A name whose value the table decides has this value, in the type of the constant it resolves to.
--- Every other name may be any number of either type, a different one at each use. `defined` and an
+-- If the table has its least value, it may be any number from there to 2^63-1 in that type. Every
+-- other name may be any number of either type, a different one at each use. `defined` and an
 -- unlisted name is 0 or 1. Where C gives no value there is none: a divisor of 0, a signed result
 -- out of range, a constant without a type.
 --
@@ -28,6 +29,7 @@ use Rattle.ud_model.specs.conditions.Constants.{has_u, is_decimal, constant_numb
 use Rattle.ud_model.specs.conditions.Expressions.{Expression, constant, named, is_defined, unary}
 use Rattle.ud_model.specs.conditions.Expressions.{binary, parens}
 use Rattle.ud_model.specs.conditions.Values.{name_value, name_has_u, defined_value, has_unsigned}
+use Rattle.ud_model.specs.declared.amount.Amount.TheVariants.{Anything, Exactly, AtLeast}
 use Rattle.ud_model.specs.declared.operator.Operator.{Operator}
 use Rattle.ud_model.specs.declared.operator.Operator.TheVariants.{Or, And, BitOr, BitXor, BitAnd}
 use Rattle.ud_model.specs.declared.operator.Operator.TheVariants.{Equal, NotEqual, Less, LessEqual}
@@ -147,9 +149,12 @@ typed b z = if b then unsigned (cast_unsigned w64 z) else signed z
 -- operand only if the left one leaves them open (6.5.13p4, 6.5.14p4).
 pub data CValue (table : List Argument) (u : Bool) : Expression → Number → Type 0 where
   of_constant : {w : List ℕ} {c : Number} → IsConstantValue w c → CValue table u (constant w) c
-  of_known_name : {n : List ℕ} {arguments : Bool} {z : ℤ} → name_value table u n ≡ Some z →
+  of_known_name : {n : List ℕ} {arguments : Bool} {z : ℤ} → name_value table u n ≡ Exactly z →
       CValue table u (named n arguments) (typed (name_has_u table n) z)
-  of_open_name : {n : List ℕ} {arguments : Bool} {c : Number} → name_value table u n ≡ None →
+  of_least_name : {n : List ℕ} {arguments : Bool} {z k : ℤ} → name_value table u n ≡ AtLeast z →
+      z ≤ℤ k → FitsSigned w64 k →
+      CValue table u (named n arguments) (typed (name_has_u table n) k)
+  of_open_name : {n : List ℕ} {arguments : Bool} {c : Number} → name_value table u n ≡ Anything →
       IsInRange c →
       CValue table u (named n arguments) c
   of_known_defined : {n : List ℕ} {p : Bool} {z : ℤ} → defined_value table n ≡ Some z →

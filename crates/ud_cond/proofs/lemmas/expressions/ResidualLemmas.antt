@@ -1,11 +1,14 @@
 -- The program's part after an operator: its fields, and its flags after a fill.
-use Rattle.std.proofs.Common.{◌≡◌, ◌≤◌, ◌<◌, ℕ, zero, ◌+◌, suc, List, [], ◌∷◌, ◌++◌, length, replicate, Bool, true, false, ◌&&◌, Option, ℤ, refl, sym, ◌∙◌, ap, append_assoc, append-nil, length-append, arith}
+use Rattle.std.proofs.Common.{◌≡◌, ◌≤◌, ◌<◌, ℕ, zero, ◌+◌, suc, List, [], ◌∷◌, ◌++◌, length, replicate, Bool, true, false, ◌&&◌, refl, sym, ◌∙◌, ap, append_assoc, append-nil, length-append, arith}
+use Rattle.std.proofs.lemmas.Bool.{false≢true}
 use Rattle.std.proofs.lemmas.List.{length-replicate, replicate-append-replicate}
 use Rattle.ud_model.specs.conditions.Conditions.{Rules}
-use Rattle.ud_model.specs.conditions.Values.{apply_unary, apply_binary}
+use Rattle.ud_model.specs.conditions.Values.{unary_amount, binary_amount}
 use Rattle.ud_model.specs.aids.Residuals.{is_unit, settled}
+use Rattle.ud_model.specs.declared.amount.Amount.{Amount}
 use Rattle.ud_model.specs.declared.cond.Cond.{Cond}
 use Rattle.ud_model.specs.declared.operator.Operator.{Operator}
+use Rattle.ud_model.specs.declared.operator.Operator.TheVariants.{Or, And}
 use Rattle.ud_cond.specs.declared.expressions.values.Value.{Value}
 use Rattle.ud_cond.specs.declared.expressions.parts.Part.{Part}
 use Rattle.ud_cond.specs.expressions.Evaluation.{unary_value_of, binary_value_of}
@@ -98,12 +101,12 @@ filled_right old new front ks js start end e s q fill = let w = lost_split ks in
     ∙ append_assoc front (replicate (length ks + 1) false) js
 
 -- the joined operands, by which of them is removed
-module _ (rules : Rules) (o : Operator) (k j : Kept) (n q : ℕ) (a b : Part) (v : Value) (m : Option ℤ) (e : a ≡ part_of k n) (g : b ≡ part_of j q)
-    (pv : v ≡ binary_value_of rules.strict false o a.value b.value) (pm : m ≡ apply_binary rules.strict true o a.number b.number) where
+module _ (rules : Rules) (o : Operator) (k j : Kept) (n q : ℕ) (a b : Part) (v : Value) (m : Amount) (e : a ≡ part_of k n) (g : b ≡ part_of j q)
+    (pv : v ≡ binary_value_of rules.strict false o a.value b.value) (pm : m ≡ binary_amount rules.strict true o a.number b.number) where
   value_is : v ≡ binary_value_of rules.strict false o k.value j.value
   value_is = grind arith
 
-  number_is : m ≡ apply_binary rules.strict true o k.number j.number
+  number_is : m ≡ binary_amount rules.strict true o k.number j.number
   number_is = grind arith
 
   first_is : a.first ≡ n
@@ -140,18 +143,20 @@ module _ (rules : Rules) (o : Operator) (k j : Kept) (n q : ℕ) (a b : Part) (v
 pub other_binary : (rules : Rules) (o : Operator) (k j : Kept) → is_joining o ≡ false →
     binary_kept rules o k j ≡
     leaf rules (binary_value_of rules.strict false o k.value j.value)
-    (apply_binary rules.strict true o k.number j.number) false (replicate (length k.flags + suc (length j.flags)) true)
-other_binary rules o k j e = grind arith
+    (binary_amount rules.strict true o k.number j.number) false (replicate (length k.flags + suc (length j.flags)) true)
+other_binary rules And k j e = absurd (false≢true (sym e))
+other_binary rules Or k j e = absurd (false≢true (sym e))
+other_binary _ _ _ _ e = refl
 
 pub joining_binary : (rules : Rules) (o : Operator) (k j : Kept) → is_joining o ≡ true → binary_kept rules o k j ≡ joined_kept rules o k j
 joining_binary rules o k j e = grind arith
 
 -- a prefix operator other than `!` does, too
 pub other_unary : (rules : Rules) (o : Operator) (k : Kept) → is_not o ≡ false →
-    unary_kept rules o k ≡ leaf rules (unary_value_of false o k.value) (apply_unary true o k.number) k.alone (replicate (suc (length k.flags)) true)
+    unary_kept rules o k ≡ leaf rules (unary_value_of false o k.value) (unary_amount true o k.number) k.alone (replicate (suc (length k.flags)) true)
 other_unary rules o k e = grind arith
 
 -- the part of an operand of its own has its fields
-pub leaf_same : (rules : Rules) (v w : Value) (m n : Option ℤ) (a b : Bool) (f g : ℕ) (xs ys : List Bool) → v ≡ w → m ≡ n → a ≡ b → f ≡ g → are_all_kept xs ≡ are_all_kept ys →
+pub leaf_same : (rules : Rules) (v w : Value) (m n : Amount) (a b : Bool) (f g : ℕ) (xs ys : List Bool) → v ≡ w → m ≡ n → a ≡ b → f ≡ g → are_all_kept xs ≡ are_all_kept ys →
     lost_len xs ≡ lost_len ys → part_of (leaf rules v m a xs) f ≡ part_of (leaf rules w n b ys) g
 leaf_same rules v w m n a b f g xs ys p q r s t u = grind arith

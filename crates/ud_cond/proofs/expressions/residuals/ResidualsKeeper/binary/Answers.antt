@@ -1,6 +1,6 @@
 use Rattle.std.proofs.Common.{◌≡◌, ℕ, ◌+◌, suc, List, [], ◌∷◌, ◌++◌, length, replicate, Bool, true, false, refl, sym, ◌∙◌, ap, ap₂, append_assoc, length-append, arith}
 use Rattle.std.proofs.lemmas.List.{length-replicate}
-use Rattle.ud_model.specs.conditions.Values.{apply_binary}
+use Rattle.ud_model.specs.conditions.Values.{binary_amount}
 use Rattle.ud_cond.specs.declared.expressions.parts.Part.{Part}
 use Rattle.ud_cond.specs.CondViews.{as_rules}
 use Rattle.ud_cond.specs.expressions.Evaluation.{binary_value_of}
@@ -29,7 +29,7 @@ returns-clause-kept c = λ k j front e g f.
       c.leaf_part.ensures
           ∙ leaf_same r _ _ _ _ _ _ _ _ [] (replicate (length k.flags + suc (length j.flags)) true)
           (c.binary_value-value.ensures ∙ ap₂ (λ (x y : Part). binary_value_of r.strict false c.args.operator x.value y.value) e g)
-          (c.apply_binary-number.ensures ∙ ap₂ (λ (x y : Part). apply_binary r.strict true c.args.operator x.number y.number) e g)
+          (c.binary_amount-number.ensures ∙ ap₂ (λ (x y : Part). binary_amount r.strict true c.args.operator x.number y.number) e g)
           refl n (all_kept-replicate (length k.flags + suc (length j.flags))) (none_lost (length k.flags + suc (length j.flags)))
           ∙ ap (λ (x : Kept). part_of x (length front)) (sym h),
       right ∙ both_kept front (length k.flags) (length j.flags) ∙ ap (λ (x : Kept). front ++ x.flags) (sym h),

@@ -1,5 +1,5 @@
 use Rattle.std.proofs.Common.{◌≡◌, ◌+◌, suc, List, [], ◌∷◌, ◌++◌, length, replicate, Bool, true, false, sym, ◌∙◌, ap, append-nil, length-append, arith}
-use Rattle.ud_model.specs.conditions.Values.{apply_unary}
+use Rattle.ud_model.specs.conditions.Values.{unary_amount}
 use Rattle.ud_cond.specs.declared.expressions.parts.Part.{Part}
 use Rattle.ud_cond.specs.CondViews.{as_rules}
 use Rattle.ud_cond.specs.expressions.Evaluation.{unary_value_of}
@@ -17,7 +17,7 @@ returns-clause-kept c = λ k front e f.
       c.leaf_part.ensures
           ∙ leaf_same r _ _ _ _ _ _ _ _ [] (replicate (suc (length k.flags)) true)
           (c.unary-value.ensures ∙ ap (λ (u : Bool). unary_value_of u c.args.operator c.args.a.value) c.scope.ensures.unsigned ∙ ap (λ (x : Part). unary_value_of false c.args.operator x.value) e)
-          (c.apply_unary-number.ensures ∙ ap (λ (x : Part). apply_unary true c.args.operator x.number) e)
+          (c.unary_amount-number.ensures ∙ ap (λ (x : Part). unary_amount true c.args.operator x.number) e)
           (ap (λ (x : Part). x.alone) e) g (all_kept-replicate (suc (length k.flags))) (none_lost (suc (length k.flags)))
           ∙ ap (λ (x : Kept). part_of x (length front)) (sym h),
       c.keep_whole.ensures.kept front (true ∷ k.flags) [] (to_end _ front (true ∷ k.flags) f) g (c.len.ensures ∙ whole) (ap (λ (p : Part). p.whole) e)

@@ -1,0 +1,106 @@
+-- Refining: an operator gives at least as much where more is known of its operands.
+use Rattle.std.proofs.Common.{◌≡◌, Bool, true, false, Option, Some, None, ◌⊎◌, inl, inr, ℤ, pos, ◌≤ℤ◌, refl, sym, ◌∙◌, ap, ap₂, subst, arith}
+use Rattle.std.proofs.lemmas.Option.{none-some}
+use Rattle.ud_model.specs.conditions.Values.{apply_binary_known, short_circuit, short_circuits, apply_binary, apply_unary, amount_from, is_same_from, counted, mirrored, unary_amount, binary_amount}
+use Rattle.ud_model.specs.declared.amount.Amount.{Amount}
+use Rattle.ud_model.specs.declared.amount.Amount.TheVariants.{Anything, Exactly, AtLeast}
+use Rattle.ud_model.specs.declared.operator.Operator.{Operator}
+use Rattle.ud_model.proofs.conditions.KnownStays.{From, numbered, left_numbered, right_numbered, unary_numbered, counted_shows, numbered_shows}
+
+-- 1. Numbers.
+
+-- A known number stays known.
+abbrev pub Keeps : Option ℤ → Option ℤ → Type 0
+Keeps a b = (z : ℤ) → a ≡ Some z → b ≡ Some z
+
+short_both : (u : Bool) (o : Operator) (x y z : ℤ) → short_circuit o x ≡ Some z → apply_binary_known u o x y ≡ Some z
+unfolding apply_binary_known
+short_both u o x y z e = grind arith
+
+both_short : (u : Bool) (o : Operator) (x y z : ℤ) → short_circuit o y ≡ Some z → apply_binary_known u o x y ≡ Some z
+unfolding apply_binary_known
+both_short u o x y z e = grind arith
+
+-- One operand that decides does so without `strict`, too.
+looser : (s r : Bool) (o : Operator) (x z : ℤ) → (r ≡ true → s ≡ true) → short_circuits s o x ≡ Some z → (short_circuit o x ≡ Some z) × (short_circuits r o x ≡ Some z)
+looser s r o x z h e = grind arith
+
+-- An operator on operands that stay known keeps its value, without `strict`, too.
+pub binary_keeps : (s r u : Bool) (o : Operator) (x y v w : Option ℤ) → (r ≡ true → s ≡ true) → Keeps x v → Keeps y w → Keeps (apply_binary s u o x y) (apply_binary r u o v w)
+binary_keeps s r u o (Some p) (Some q) v w l h k z e = ap₂ (apply_binary r u o) (h p refl) (k q refl) ∙ e
+binary_keeps s r u o (Some p) None v w l h k z e = ap (λ (d : Option ℤ). apply_binary r u o d w) (h p refl) ∙ by w
+  where
+    by : (d : Option ℤ) → apply_binary r u o (Some p) d ≡ Some z
+    by None = (looser s r o p z l e).1
+    by (Some q) = short_both u o p q z (looser s r o p z l e).0
+binary_keeps s r u o None (Some q) v w l h k z e = ap (λ (d : Option ℤ). apply_binary r u o v d) (k q refl) ∙ by v
+  where
+    by : (d : Option ℤ) → apply_binary r u o d (Some q) ≡ Some z
+    by None = (looser s r o q z l e).1
+    by (Some p) = both_short u o p q z (looser s r o q z l e).0
+binary_keeps s r u o None None v w l h k z e = absurd (none-some z e)
+
+unary_keeps : (u : Bool) (o : Operator) (x v : Option ℤ) → Keeps x v → Keeps (apply_unary u o x) (apply_unary u o v)
+unary_keeps u o x v h z e = grind arith
+
+-- 2. Amounts.
+
+-- A known number stays; the least number may become one from there on.
+abbrev pub Refines : Amount → Amount → Type 0
+Refines Anything b = Unit {0}
+Refines (Exactly z) b = b ≡ Exactly z
+Refines (AtLeast n) b = (b ≡ AtLeast n) ⊎ ((k : ℤ) × (n ≤ℤ k) × (b ≡ Exactly k))
+
+-- A known amount stays as it is.
+abbrev pub Stays : Amount → Amount → Type 0
+Stays a b = (a ≡ Anything) ⊎ (b ≡ a)
+
+pub stays_refines : (a b : Amount) → Stays a b → Refines a b
+stays_refines Anything b h = tt
+stays_refines (Exactly z) b h = grind arith
+stays_refines (AtLeast n) b h = grind arith
+
+pub keeps_stays : (least : Bool) (x v : Option ℤ) → Keeps x v → Stays (amount_from least x) (amount_from least v)
+keeps_stays least None v h = inl refl
+keeps_stays least (Some z) v h = inr (ap (amount_from least) (h z refl))
+
+same_refines : (o : Operator) (n : ℤ) (d e : Amount) → Refines d e → is_same_from o n d ≡ true → is_same_from o n e ≡ true
+same_refines o n d e h s = grind arith
+
+-- A number that the first amount may be counts for it, and the second one keeps this.
+abbrev Chosen : Amount → Amount → Type 0
+Chosen a b = (k : ℤ) × From a k × ((o : Operator) (d e : Amount) → Refines d e → Keeps (numbered o a d k) (counted o b e))
+
+least_itself : (n : ℤ) → n ≤ℤ n
+least_itself n = grind arith
+
+chosen : (a b : Amount) → Refines a b → Chosen a b
+chosen Anything b h = (pos 0, tt, λ o d e i z f. absurd (none-some z f))
+chosen (Exactly z) b h = (pos 0, tt, λ o d e i y f. ap (λ (c : Amount). counted o c e) h ∙ f)
+chosen (AtLeast n) b (inl h) = (n, least_itself n, λ o d e i z f. ap (λ (c : Amount). counted o c e) h ∙ stays o d e z i f)
+  where
+    stays : (o : Operator) (d e : Amount) (z : ℤ) → Refines d e → numbered o (AtLeast n) d n ≡ Some z → counted o (AtLeast n) e ≡ Some z
+    stays o d e z i f = grind (arith, same_refines)
+chosen (AtLeast n) b (inr h) = (h.0, h.1, λ o d e i z f. ap (λ (c : Amount). counted o c e) h.2 ∙ is o d z f)
+  where
+    is : (o : Operator) (d : Amount) (z : ℤ) → numbered o (AtLeast n) d h.0 ≡ Some z → Some h.0 ≡ Some z
+    is o d z f = grind arith
+
+pub unary_refines : (u : Bool) (o : Operator) (a b : Amount) → Refines a b → Stays (unary_amount u o a) (unary_amount u o b)
+unary_refines u o a b h = let c : Chosen a b = chosen a b h in
+    keeps_stays false (apply_unary u o (counted o a Anything)) (apply_unary u o (counted o b Anything))
+    (subst (λ x. Keeps x (apply_unary u o (counted o b Anything))) (sym (unary_numbered u o a c.0 c.1))
+    (unary_keeps u o (numbered o a Anything c.0) (counted o b Anything) (c.2 o Anything Anything tt)))
+
+pub binary_refines : (s r u : Bool) (o : Operator) (a b d e : Amount) → (r ≡ true → s ≡ true) → Refines a b → Refines d e → Stays (binary_amount s u o a d) (binary_amount r u o b e)
+binary_refines s r u o a b d e l h k =
+    let f : Chosen a b = chosen a b h in
+    let g : Chosen d e = chosen d e k in
+    let v : Option ℤ = numbered o a d f.0 in
+    let w : Option ℤ = numbered (mirrored o) d a g.0 in
+    let next : Option ℤ = apply_binary r u o (counted o b e) (counted (mirrored o) e b) in
+    keeps_stays false (apply_binary s u o (counted o a d) (counted (mirrored o) d a)) next
+    (subst (λ x. Keeps x next)
+    (sym (left_numbered s u o a d f.0 (counted (mirrored o) d a) f.1 (counted_shows (mirrored o) d a)
+    ∙ right_numbered s u o d a g.0 v g.1 (numbered_shows o a d f.0)))
+    (binary_keeps s r u o v w (counted o b e) (counted (mirrored o) e b) l (f.2 o d e k) (g.2 (mirrored o) a b h)))
