@@ -1,17 +1,19 @@
 //! Laws of options: what the user of an option may rely on.
 
-ghost use Rattle.std.specs.Prelude.{◌≡◌, ◌≢◌, ℕ, List, None, Bool, true, false, ◌⊎◌};
+ghost use Rattle.std.specs.Prelude.{◌≡◌, ◌≢◌, ℕ, List, None, Bool, true, false, ◌⊎◌, ℤ};
 ghost use Rattle.ud_model.specs.conditions.Table.{Argument, HaveSameEntries};
 ghost use Rattle.ud_model.specs.conditions.Expressions.{Expression};
 ghost use Rattle.ud_model.specs.conditions.Values.{value_of};
 ghost use Rattle.ud_model.specs.conditions.Conditions.{Rules, tree_cond, with_strict};
-ghost use Rattle.ud_model.specs.conditions.Conditions.{without_strict};
+ghost use Rattle.ud_model.specs.conditions.Conditions.{without_strict, condition_of};
 ghost use Rattle.ud_model.specs.sections.Items.{Options};
 ghost use Rattle.ud_model.specs.answer.Outcomes.{Outcome, HasOutcome};
+ghost use Rattle.ud_laws.specs.conditions.LeastValues.{ChoosesNumbers};
 ghost use Rattle.ud_laws.specs.output.ListedNames.{with_listing};
 ghost use Rattle.ud_laws.specs.output.ListedNames.{ExtendsTable, AreAlikeBy, ServesAsLister};
 ghost use Rattle.ud_model.specs.declared.amount.Amount.{Amount};
 ghost use Rattle.ud_model.specs.declared.cond.Cond.{Cond};
+ghost use Rattle.ud_model.specs.declared.kind.Kind.{Kind};
 
 /// The list of `-s` is complete: it has every symbol that counts for the text.
 ///
@@ -61,4 +63,20 @@ pub fn law_more_never_turns()
     ensures cond { (t u : List Argument) → ExtendsTable t u → (e : Expression) (rules : Rules) →
         tree_cond e t rules ≢ Cond.Unknown →
         (tree_cond e u rules ≡ tree_cond e t rules) ⊎ (tree_cond e u rules ≡ Cond.Unknown) }
+{}
+
+/// A symbol that is at least N decides only what each number from N on decides.
+///
+/// Suppose one table has the least values of some symbols, and another one has numbers from there
+/// on in their place. A value that the first table decides is the same by the second one. A
+/// directive that the first table decides is decided alike by the second one (unifdef-tree(1),
+/// `-D`).
+pub fn law_least_decides_as_each()
+    ensures value { (t u : List Argument) → ChoosesNumbers t u →
+        (strict : Bool) (e : Expression) (n : ℤ) → value_of t strict e ≡ Amount.Exactly n →
+        value_of u strict e ≡ Amount.Exactly n }
+    ensures cond { (t u : List Argument) → ChoosesNumbers t u →
+        (kind : Kind) (after : List ℕ) (rules : Rules) →
+        (condition_of kind after t rules).cond ≢ Cond.Unknown →
+        condition_of kind after u rules ≡ condition_of kind after t rules }
 {}

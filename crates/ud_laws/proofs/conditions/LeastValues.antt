@@ -1,0 +1,265 @@
+-- Least values: what is decided by the least value of a symbol is decided alike by each number from
+-- there on.
+use Rattle.std.proofs.Common.{◌≡◌, ◌≢◌, ℕ, ◌==◌, List, [], ◌∷◌, drop, if◌then◌else◌, Bool, true, false, ◌&&◌, ◌||◌, Option, Some, None, is_some, option_and_then, ◌⊎◌, inl, inr, ℤ, ◌≤ℤ◌, refl, sym, ◌∙◌, ap, ap₂, subst, int_lt, arith}
+use Rattle.std.proofs.lemmas.Option.{none-some, same_Some}
+use Rattle.std.proofs.lemmas.Bool.{false≢true, eqb-true}
+use Rattle.ud_model.specs.text.Bytes.{is_identifier, starts_with_byte}
+use Rattle.ud_model.specs.conditions.Table.{Argument, Entry, entry_in}
+use Rattle.ud_model.specs.conditions.Constants.{is_constant}
+use Rattle.ud_model.specs.conditions.Symbols.{defined_text, text_in, ResolvesTo, at_text, by_name, resolve}
+use Rattle.ud_model.specs.conditions.Expressions.{Expression, constant, named, is_defined, unary, binary, parens}
+use Rattle.ud_model.specs.conditions.Parsing.{expression_of}
+use Rattle.ud_model.specs.conditions.Values.{fits, fit, text_value, constant_in, amount_from, end_value, end_has_u, defined_name_value, name_value_by, name_value, name_has_u, defined_value_by, defined_value, number_of, has_unsigned, value_of}
+use Rattle.ud_model.specs.conditions.Conditions.{Rules, mentions_listed, undefined_by, calls_undefined, truth_of, tree_cond, tree_cond_if, expression_cond, ifdef_by, ifdef_decision, decision_by_test, condition_of}
+use Rattle.ud_model.specs.declared.amount.Amount.{Amount}
+use Rattle.ud_model.specs.declared.amount.Amount.TheVariants.{Exactly, AtLeast}
+use Rattle.ud_model.specs.declared.cond.Cond.TheVariants.{Unknown}
+use Rattle.ud_model.specs.declared.kind.Kind.{Kind}
+use Rattle.ud_model.specs.declared.kind.Test.{Test}
+use Rattle.ud_model.proofs.conditions.SymbolLemmas.{end_found, end_is}
+use Rattle.ud_laws.specs.conditions.LeastValues.{IsNumberFrom, Chooses, same, number, ChoosesNumbers}
+use Rattle.ud_laws.proofs.conditions.Refining.{Refines, stays_refines, unary_refines, binary_refines}
+
+-- 1. Texts.
+
+-- A constant is no name.
+constant_no_name : (w : List ℕ) → is_constant w ≡ true → is_identifier w ≡ false
+constant_no_name w c = grind arith
+
+sign_no_name : (b : ℕ) (w : List ℕ) → (b == 45) ≡ true → is_identifier (b ∷ w) ≡ false
+sign_no_name b w e = subst (λ (n : ℕ). is_identifier (n ∷ w) ≡ false) (sym (eqb-true b 45 e)) refl
+
+mark_no_name : (w : List ℕ) → starts_with_byte 0 w ≡ true → is_identifier w ≡ false
+mark_no_name [] e = refl
+mark_no_name (b ∷ w) e = subst (λ (n : ℕ). is_identifier (n ∷ w) ≡ false) (sym (eqb-true b 0 e)) refl
+
+neither : (c k : Bool) (x y : Option ℤ) (z : ℤ) → c ≡ false → k ≡ false → (if c then x else if k then y else None) ≡ Some z → ⊥
+neither c k x y z d l e = grind arith
+
+value_no_name : (w : List ℕ) (z : ℤ) → text_value false w ≡ Some z → is_identifier w ≡ false
+value_no_name [] z e = refl
+value_no_name (b ∷ w) z e = by (b == 45) (is_constant (b ∷ w)) refl refl
+  where
+    by : (c k : Bool) → (b == 45) ≡ c → is_constant (b ∷ w) ≡ k → is_identifier (b ∷ w) ≡ false
+    by true k c i = sign_no_name b w c
+    by false true c i = constant_no_name (b ∷ w) i
+    by false false c i = absurd (neither (b == 45) (is_constant (b ∷ w)) _ _ z c i e)
+
+least_text : (w : List ℕ) (z : ℤ) → end_value false (Some w) ≡ AtLeast z → (starts_with_byte 0 w ≡ true) × (text_value false (constant_in w) ≡ Some z)
+least_text w z e = grind arith
+
+number_text : (w : List ℕ) (z : ℤ) → end_value false (Some w) ≡ Exactly z → (starts_with_byte 0 w ≡ false) × (text_value false (constant_in w) ≡ Some z)
+number_text w z e = grind arith
+
+number_no_name : (w : List ℕ) (z : ℤ) → end_value false (Some w) ≡ Exactly z → is_identifier w ≡ false
+number_no_name w z e = let p = number_text w z e in
+    value_no_name w z (ap (text_value false) (sym (ap (λ (b : Bool). if b then drop 1 w else w) p.0)) ∙ p.1)
+
+least_no_name : (w : List ℕ) (z : ℤ) → end_value false (Some w) ≡ AtLeast z → is_identifier w ≡ false
+least_no_name w z e = mark_no_name w (least_text w z e).0
+
+value_fits : (w : List ℕ) (z : ℤ) → text_value false w ≡ Some z → fits false z ≡ true
+value_fits w z e = grind arith
+
+-- Beside a `u`, a text has its value if that isn't below 0.
+fits_text : (u : Bool) (w : List ℕ) → text_value u w ≡ option_and_then (fit u) (text_value false w)
+fits_text u w = grind arith
+
+-- A number from the least value on refines it.
+from_refines : (u : Bool) (n k : ℤ) → n ≤ℤ k → fits false k ≡ true → Refines (amount_from true (fit u n)) (amount_from false (fit u k))
+from_refines u n k l f = grind arith
+
+text_from : (u least : Bool) (w : List ℕ) (z : ℤ) → (starts_with_byte 0 w ≡ least) × (text_value false (constant_in w) ≡ Some z) → end_value u (Some w) ≡ amount_from least (fit u z)
+text_from u least w z h = ap₂ (λ (b : Bool) (o : Option ℤ). amount_from b o) h.0 (fits_text u (constant_in w) ∙ ap (λ (o : Option ℤ). option_and_then (fit u) o) h.1)
+
+-- The text of the one table, and the one of the other.
+abbrev Turns : List ℕ → List ℕ → Type 0
+Turns v w = (v ≡ w) ⊎ IsNumberFrom v w
+
+refines_itself : (a : Amount) → Refines a a
+refines_itself a = stays_refines a a (inr refl)
+
+turns_refines : (u : Bool) (v w : List ℕ) → Turns v w → Refines (end_value u (Some v)) (end_value u (Some w))
+turns_refines u v w (inl e) = subst (λ x. Refines (end_value u (Some v)) (end_value u (Some x))) e (refines_itself (end_value u (Some v)))
+turns_refines u v w (inr p) =
+    subst (λ x. Refines x (end_value u (Some w))) (sym (text_from u true v p.from (least_text v p.from p.is_least)))
+    (subst (λ y. Refines (amount_from true (fit u p.from)) y) (sym (text_from u false w p.number (number_text w p.number p.is_number)))
+    (from_refines u p.from p.number p.above (value_fits (constant_in w) p.number (number_text w p.number p.is_number).1)))
+
+turns_sign : (v w : List ℕ) → Turns v w → end_has_u (Some w) ≡ end_has_u (Some v)
+turns_sign v w (inl e) = ap (λ (x : List ℕ). end_has_u (Some x)) (sym e)
+turns_sign v w (inr p) = p.sign
+
+-- 2. Tables.
+
+-- A defined name has such texts by both tables.
+abbrev Texts : Option (List ℕ) → Option (List ℕ) → Type 0
+Texts None o = o ≡ None
+Texts (Some v) o = (w : List ℕ) × Turns v w × (o ≡ Some w)
+
+texts_itself : (o : Option (List ℕ)) → Texts o o
+texts_itself None = refl
+texts_itself (Some v) = (v, inl refl, refl)
+
+entry_texts : (e f : Option Entry) → Chooses e f → Texts (text_in e) (text_in f)
+entry_texts e _ same = texts_itself (text_in e)
+entry_texts _ _ (number {text = text} p) = (text, inr p, refl)
+
+module _ (t u : List Argument) (h : ChoosesNumbers t u) where
+  texts : (n : List ℕ) → Texts (defined_text t n) (defined_text u n)
+  texts n = entry_texts (entry_in t n) (entry_in u n) (h n)
+
+  texts_at : (n : List ℕ) (o : Option (List ℕ)) → defined_text t n ≡ o → Texts o (defined_text u n)
+  texts_at n o e = subst (λ x. Texts x (defined_text u n)) e (texts n)
+
+  turns_name : (v w : List ℕ) → Turns v w → is_identifier v ≡ true → v ≡ w
+  turns_name v w (inl e) i = e
+  turns_name v w (inr p) i = absurd (false≢true (sym (least_no_name v p.from p.is_least) ∙ i))
+
+  turns_no_name : (v w : List ℕ) → Turns v w → is_identifier v ≡ false → is_identifier w ≡ false
+  turns_no_name v w (inl e) i = ap is_identifier (sym e) ∙ i
+  turns_no_name v w (inr p) i = number_no_name w p.number p.is_number
+
+  ends_over : (n v : List ℕ) → ResolvesTo t n v → (w : List ℕ) × Turns v w × ResolvesTo u n w
+  ends_over n v (at_text _ _ d i) = let x = texts_at n (Some v) d in (x.0, x.1, at_text n x.0 x.2 (turns_no_name v x.0 x.1 i))
+  ends_over n v (by_name _ m _ d i e) =
+      let x = texts_at n (Some m) d in let y = ends_over m v e in
+      (y.0, y.1, by_name n m y.0 (x.2 ∙ ap (λ (k : List ℕ). Some k) (sym (turns_name m x.0 x.1 i))) i y.2)
+
+  text_back : (n w : List ℕ) (o : Option (List ℕ)) → defined_text t n ≡ o → defined_text u n ≡ Some w → (v : List ℕ) × Turns v w × (defined_text t n ≡ Some v)
+  text_back n w None e d = absurd (none-some w (sym (texts_at n None e) ∙ d))
+  text_back n w (Some v) e d = let x = texts_at n (Some v) e in (v, subst (λ k. Turns v k) (same_Some x.0 w (sym x.2 ∙ d)) x.1, e)
+
+  back_name : (v w : List ℕ) → Turns v w → is_identifier w ≡ true → v ≡ w
+  back_name v w (inl e) i = e
+  back_name v w (inr p) i = absurd (false≢true (sym (number_no_name w p.number p.is_number) ∙ i))
+
+  back_no_name : (v w : List ℕ) → Turns v w → is_identifier w ≡ false → is_identifier v ≡ false
+  back_no_name v w (inl e) i = ap is_identifier e ∙ i
+  back_no_name v w (inr p) i = least_no_name v p.from p.is_least
+
+  ends_back : (n w : List ℕ) → ResolvesTo u n w → (v : List ℕ) × ResolvesTo t n v
+  ends_back n w (at_text _ _ d i) = let x = text_back n w (defined_text t n) refl d in (x.0, at_text n x.0 x.2 (back_no_name x.0 w x.1 i))
+  ends_back n w (by_name _ m _ d i e) =
+      let x = text_back n m (defined_text t n) refl d in let y = ends_back m w e in
+      (y.0, by_name n m y.0 (x.2 ∙ ap (λ (k : List ℕ). Some k) (back_name x.0 m x.1 i)) i y.1)
+
+  ends_by : (n : List ℕ) (o p : Option (List ℕ)) → resolve t n ≡ o → resolve u n ≡ p → Texts o p
+  ends_by n None None d e = refl
+  ends_by n None (Some w) d e = let x = ends_back n w (end_is u n w e) in absurd (none-some x.0 (sym d ∙ end_found t n x.0 x.1))
+  ends_by n (Some v) p d e = let x = ends_over n v (end_is t n v d) in (x.0, x.1, sym e ∙ end_found u n x.0 x.2)
+
+  ends : (n : List ℕ) → Texts (resolve t n) (resolve u n)
+  ends n = ends_by n (resolve t n) (resolve u n) refl refl
+
+  end_refines : (b : Bool) (o p : Option (List ℕ)) → Texts o p → Refines (end_value b o) (end_value b p)
+  end_refines b None p x = tt
+  end_refines b (Some v) p x = subst (λ k. Refines (end_value b (Some v)) (end_value b k)) (sym x.2) (turns_refines b v x.0 x.1)
+
+  end_sign : (o p : Option (List ℕ)) → Texts o p → end_has_u p ≡ end_has_u o
+  end_sign None p x = ap end_has_u x
+  end_sign (Some v) p x = ap end_has_u x.2 ∙ turns_sign v x.0 x.1
+
+  value_by : (b : Bool) (o p : Option (List ℕ)) (e f : Option Entry) → Chooses e f → Refines (end_value b o) (end_value b p) → Refines (name_value_by b o e) (name_value_by b p f)
+  value_by b o p None _ same r = tt
+  value_by b o p (Some x) _ same r = defined_as x.value
+    where
+      defined_as : (v : Option (List ℕ)) → Refines (defined_name_value b o v) (defined_name_value b p v)
+      defined_as None = refl
+      defined_as (Some v) = r
+  value_by b o p _ _ (number k) r = r
+
+  name_refines : (b : Bool) (n : List ℕ) → Refines (name_value t b n) (name_value u b n)
+  unfolding name_value
+  name_refines b n = value_by b (resolve t n) (resolve u n) (entry_in t n) (entry_in u n) (h n) (end_refines b (resolve t n) (resolve u n) (ends n))
+
+  name_sign : (n : List ℕ) → name_has_u u n ≡ name_has_u t n
+  unfolding name_has_u
+  name_sign n = end_sign (resolve t n) (resolve u n) (ends n)
+
+  defined_by : (e f : Option Entry) → Chooses e f → defined_value_by f ≡ defined_value_by e
+  defined_by e _ same = refl
+  defined_by _ _ (number p) = refl
+
+  defined_alike : (n : List ℕ) → defined_value u n ≡ defined_value t n
+  unfolding defined_value
+  defined_alike n = defined_by (entry_in t n) (entry_in u n) (h n)
+
+  listed_by : (e f : Option Entry) → Chooses e f → is_some f ≡ is_some e
+  listed_by e _ same = refl
+  listed_by _ _ (number p) = refl
+
+  undefined_alike : (e f : Option Entry) → Chooses e f → undefined_by f ≡ undefined_by e
+  undefined_alike e _ same = refl
+  undefined_alike _ _ (number p) = refl
+
+  ifdef_alike : (e f : Option Entry) → Chooses e f → ifdef_by f ≡ ifdef_by e
+  ifdef_alike e _ same = refl
+  ifdef_alike _ _ (number p) = refl
+
+  -- 3. Expressions.
+
+  sign_alike : (e : Expression) → has_unsigned u e ≡ has_unsigned t e
+  sign_alike (named n a) = name_sign n
+  sign_alike (unary o x) = sign_alike x
+  sign_alike (binary o x y) = ap₂ (λ (a : Bool) (b : Bool). a || b) (sign_alike x) (sign_alike y)
+  sign_alike (parens x) = sign_alike x
+  sign_alike _ = refl
+
+  mentions_alike : (e : Expression) → mentions_listed u e ≡ mentions_listed t e
+  mentions_alike (constant w) = refl
+  mentions_alike (named n a) = listed_by (entry_in t n) (entry_in u n) (h n)
+  mentions_alike (is_defined n p) = listed_by (entry_in t n) (entry_in u n) (h n)
+  mentions_alike (unary o x) = mentions_alike x
+  mentions_alike (binary o x y) = ap₂ (λ (a : Bool) (b : Bool). a || b) (mentions_alike x) (mentions_alike y)
+  mentions_alike (parens x) = mentions_alike x
+
+  calls_alike : (e : Expression) → calls_undefined u e ≡ calls_undefined t e
+  calls_alike (named n a) = ap (λ (b : Bool). a && b) (undefined_alike (entry_in t n) (entry_in u n) (h n))
+  calls_alike (unary o x) = calls_alike x
+  calls_alike (binary o x y) = ap₂ (λ (a : Bool) (b : Bool). a || b) (calls_alike x) (calls_alike y)
+  calls_alike (parens x) = calls_alike x
+  calls_alike _ = refl
+
+  number_refines : (s b : Bool) (e : Expression) → Refines (number_of t s b e) (number_of u s b e)
+  number_refines s b (constant w) = refines_itself (number_of t s b (constant w))
+  number_refines s b (named n a) = name_refines b n
+  number_refines s b (is_defined n p) = subst (λ (o : Option ℤ). Refines (amount_from false (defined_value t n)) (amount_from false o)) (sym (defined_alike n)) (refines_itself (amount_from false (defined_value t n)))
+  number_refines s b (unary o x) = let p = number_of t s b x in let q = number_of u s b x in
+      stays_refines (number_of t s b (unary o x)) (number_of u s b (unary o x)) (unary_refines b o p q (number_refines s b x))
+  number_refines s b (binary o x y) =
+      stays_refines (number_of t s b (binary o x y)) (number_of u s b (binary o x y))
+      (binary_refines s s b o (number_of t s b x) (number_of u s b x) (number_of t s b y) (number_of u s b y) (λ r. r) (number_refines s b x) (number_refines s b y))
+  number_refines s b (parens x) = number_refines s b x
+
+  value_refines : (s : Bool) (e : Expression) → Refines (value_of t s e) (value_of u s e)
+  value_refines s e = subst (λ (b : Bool). Refines (value_of t s e) (number_of u s b e)) (sym (sign_alike e)) (number_refines s (has_unsigned t e) e)
+
+  -- A known value is the same for each number.
+  pub value_alike : (s : Bool) (e : Expression) (n : ℤ) → value_of t s e ≡ Exactly n → value_of u s e ≡ Exactly n
+  value_alike s e n v = subst (λ (a : Amount). Refines a (value_of u s e)) v (value_refines s e)
+
+  cond_by : (a b : Amount) → Refines a b → truth_of a ≢ Unknown → truth_of b ≡ truth_of a
+  cond_by a b r n = grind (arith, int_lt)
+
+  tree_alike : (e : Expression) (r : Rules) → tree_cond e t r ≢ Unknown → tree_cond e u r ≡ tree_cond e t r
+  tree_alike e r n = grind (arith, calls_alike, mentions_alike, cond_by, value_refines)
+
+  tree_if_alike : (o : Option Expression) (r : Rules) → tree_cond_if o t r ≢ Unknown → tree_cond_if o u r ≡ tree_cond_if o t r
+  tree_if_alike None r n = refl
+  tree_if_alike (Some e) r n = tree_alike e r n
+
+  text_alike : (text : List ℕ) (r : Rules) → expression_cond text t r ≢ Unknown → expression_cond text u r ≡ expression_cond text t r
+  unfolding expression_cond
+  text_alike text r n = tree_if_alike (expression_of text) r n
+
+  name_alike : (o : Option (List ℕ)) → ifdef_decision o u ≡ ifdef_decision o t
+  name_alike None = refl
+  name_alike (Some n) = ifdef_alike (entry_in t n) (entry_in u n) (h n)
+
+  test_alike : (p : Test) (text : List ℕ) (r : Rules) → (decision_by_test p text t r).cond ≢ Unknown → decision_by_test p text u r ≡ decision_by_test p text t r
+  test_alike p text r n = grind (arith, text_alike, name_alike)
+
+  -- A decided directive is decided alike for each number.
+  pub condition_alike : (k : Kind) (text : List ℕ) (r : Rules) → (condition_of k text t r).cond ≢ Unknown → condition_of k text u r ≡ condition_of k text t r
+  condition_alike k text r n = grind (arith, test_alike)
