@@ -59,6 +59,17 @@ test_refused_arguments() {
 0:-D1A src:Bad symbol: -D1A
 0:-Udefined src:Bad symbol: -Udefined
 0:-iXA src:Bad symbol: -iXA
+0:-iDA>=5 src:Bad symbol: -iDA>=5
+0:-UA>=5 src:Bad symbol: -UA>=5
+0:-D>=5 src:Bad symbol: -D>=5
+0:-DA>= src:Bad symbol: -DA>=; only a least number is taken: write -D'A>=N'
+0:-DA>=B src:Bad symbol: -DA>=B; only a least number is taken: write -D'A>=N'
+0:-D A>5 src:Bad symbol: -DA>5; only a least number is taken: write -D'A>=N'
+0:-DB -DA<=5 src:Bad symbol: -DA<=5; only a least number is taken: write -D'A>=N'
+0:-DA==5 src:Bad symbol: -DA==5; only a least number is taken: write -D'A>=N'
+0:-DA!=5 src:Bad symbol: -DA!=5; only a least number is taken: write -D'A>=N'
+0:-DA>=-5u src:Bad symbol: -DA>=-5u; only a least number is taken: write -D'A>=N'
+0:-DA>=9223372036854775808 src:Bad symbol: -DA>=9223372036854775808; only a least number is taken: write -D'A>=N'
 0:-x3 src:Bad exit mode: 3
 0:-x 3 src:Bad exit mode: 3
 0:-x-x1 src:Bad exit mode: -x1

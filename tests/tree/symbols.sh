@@ -122,3 +122,34 @@ test_no_symbol() {
     run 0 $words
   done
 }
+
+# least STATUS OPTIONS TEXT OUTPUT: a run with these options makes this output of the text.
+least() {
+  alone src/n.c "$3"
+  run "$1" -q $2 src
+  is src/n.c "$4"
+}
+
+# A symbol that is at least a number.
+test_least_values() {
+  local stays='#if V > 5\na\n#endif\n#if V == 5\n#endif\n#if V < 9\n#endif\n#if V >= 6\n#endif\n'
+  least 1 '-DV>=5' '#if V >= 3\na\n#else\nb\n#endif\n' 'a\n'
+  least 0 '-DV>=5' "$stays" "$stays"
+  stays='#if V + 1 > 3\n#endif\n#if V & 1\n#endif\n#if V == W\n#endif\n#if V >= V\n#endif\n'
+  least 0 '-DV>=5 -DW>=7' "$stays" "$stays"
+  least 1 '-DV>=5' '#if V < 5\na\n#elif V < 7\nb\n#endif\n' '#if   V < 7\nb\n#endif\n'
+  least 1 '-DV>=5 -p' '#if 5 > V || W\na\n#endif\n' '#if W\na\n#endif\n'
+  least 1 '-DV>=5' '#if !defined(V) || V < 4\na\n#endif\nz\n' 'z\n'
+  least 1 '-p -DV>=0x10101000L' '#if V >= 0x10100000L && !defined(LIBRESSL)\na\n#endif\n' \
+    '#if !defined(LIBRESSL)\na\n#endif\n'
+  least 0 '-DV>=0' '#if V\na\n#endif\n' '#if V\na\n#endif\n'
+  least 1 '-DV>=1' '#if V && !(!V)\na\n#endif\n#ifdef V\nb\n#endif\n' 'a\nb\n'
+  least 1 '-DV>=5 -DV=7' '#if V == 7\na\n#endif\n' 'a\n'
+  least 1 '-DV>=5 -DW=V' '#if W != 4 && 3 < W\na\n#endif\n' 'a\n'
+  least 0 '-DV>=-1' '#if V < 0u\na\n#endif\n' '#if V < 0u\na\n#endif\n'
+  least 1 '-DV>=-1' '#if V < -1\na\n#endif\n' ''
+  least 1 '-DV>=5u' '#if V > -1\na\n#endif\n#if V > 4\nb\n#endif\n' '#if V > -1\na\n#endif\nb\n'
+  put src/n.c '#if V > 5\na\n#endif\n'
+  run 0 -r '-DV>=5' src
+  prints 'src/n.c:1: #if V > 5'
+}

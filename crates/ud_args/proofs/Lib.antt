@@ -10,5 +10,6 @@ pub mod ProgramLemmas
 pub mod ParsedArgLemmas
 pub mod OptionLemmas
 pub mod PlanLemmas
+pub mod LeastLemmas
 pub mod TreeLemmas
 pub mod OperandLemmas

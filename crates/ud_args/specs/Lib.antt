@@ -3,4 +3,5 @@ pub mod ParsedArgs
 pub mod SymbolStorage
 pub mod ParsedSettings
 pub mod Plans
+pub mod LeastSymbols
 pub mod TreeWords

@@ -7,8 +7,10 @@ use Rattle.std.specs.List.{filter_map, list_any}
 use Rattle.ud_model.specs.text.Bytes.{hyphen}
 use Rattle.ud_model.specs.answer.CommandLine.{ParsedArg, has_letter, takes_argument}
 use Rattle.ud_model.specs.answer.CommandLine.{parse_symbol}
+use Rattle.ud_model.specs.answer.CommandLine as args
 use Rattle.ud_args.specs.CommandLines.{Parsed, flag, option, operand, unknown, lacking, late}
 use Rattle.ud_args.specs.CommandLines.{as_arg, parsed_words}
+use Rattle.ud_args.specs.LeastSymbols.{definition_for, is_other_relation}
 use Rattle.ud_args.specs.declared.programs.Program.TheVariants.{UnifdefTree}
 
 -- `given_in words`: what the words give, in reading order.
@@ -48,7 +50,7 @@ has_symbols gs = list_any names_symbol gs
 
 -- `symbol_of g`: the name of the symbol in the option `g`, if it is valid.
 abbrev pub symbol_of : Parsed → Option (List ℕ)
-symbol_of (option c n a) = option_map (λ s. s.name) (parse_symbol c a)
+symbol_of (option c n a) = option_map (λ s. s.name) (parse_symbol c (definition_for c a))
 symbol_of _ = None
 
 -- `has_name names n`: `n` is one of the names.
@@ -70,9 +72,14 @@ is_unifdef_option (flag c) = has_letter (codes "bcKklst") c
 is_unifdef_option (option c n a) = takes_argument c
 is_unifdef_option _ = false
 
+-- `unifdef_arg g`: the option or operand `g`, in terms of unifdef(1).
+abbrev pub unifdef_arg : Parsed → ParsedArg
+unifdef_arg (option c n a) = args.option c n (definition_for c a)
+unifdef_arg g = as_arg g
+
 -- `unifdef_args gs`: the options of unifdef(1), in order.
 abbrev pub unifdef_args : List Parsed → List ParsedArg
-unifdef_args gs = map as_arg (filter is_unifdef_option gs)
+unifdef_args gs = map unifdef_arg (filter is_unifdef_option gs)
 
 -- `option_word c a`: the option `c` and its argument as one word.
 abbrev pub option_word : ℕ → List ℕ → List ℕ
@@ -89,6 +96,18 @@ word_or _ n w = w
 abbrev pub word_at : ℕ → List Parsed → List ℕ
 word_at n [] = []
 word_at n (g ∷ gs) = word_or g n (word_at n gs)
+
+-- `relation_or g later`: the option `g` as one word if it is `-D` with a relation that gives no
+-- least value, else `later`.
+abbrev pub relation_or : Parsed → Option (List ℕ) → Option (List ℕ)
+relation_or (option c n a) later =
+    if is_other_relation c a then Some (option_word c a) else later
+relation_or _ later = later
+
+-- `first_relation gs`: the first such option, as one word, if any.
+abbrev pub first_relation : List Parsed → Option (List ℕ)
+first_relation [] = None
+first_relation (g ∷ gs) = relation_or g (first_relation gs)
 
 -- `pattern_of g`: the pattern of the option `g`, if it is `-g`.
 abbrev pub pattern_of : Parsed → Option (List ℕ)

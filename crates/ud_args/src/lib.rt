@@ -6,10 +6,11 @@
 //!
 //! `command_line` reads the words, one option or operand after another, by the letters of
 //! `programs`. `options` returns the setting of each, or its fault, and `parse` adds the setting to
-//! the plan of a run. `tree_words` is for unifdef-tree alone.
+//! the plan of a run. `tree_words` and `least` are for unifdef-tree alone.
 #![tactic(auto)]
 
 mod command_line;
+mod least;
 mod options;
 mod parse;
 mod plans;
@@ -21,6 +22,7 @@ pub use command_line::ParsedArg;
 pub use parse::{display_name, input_of, plan};
 pub use plans::Plan;
 pub use tree_words::{
-    given_by, has_flag, has_symbols, paths, patterns, plan_among, symbol_names, word_at,
+    first_relation, given_by, has_flag, has_symbols, paths, patterns, plan_among, symbol_names,
+    word_at,
 };
 pub use usage::Usage;

@@ -6,16 +6,21 @@
 //! The arguments are read twice, by `input_of` before the file is opened and by `plan` inside
 //! `tool`. Rejected: handing the plan to `tool`, where a caller could pass another one.
 
-ghost use Rattle.std.specs.Prelude.{◌≡◌, ◌++◌, ◌∷◌, [], List, None, IsSome, OnOk, IfOk, IfErr};
+ghost use Rattle.std.specs.Prelude.{◌≡◌, ◌++◌, ◌∷◌, [], List, Some, None, IsSome, OnOk, IfOk};
+ghost use Rattle.std.specs.Prelude.{IfErr, IfSome, IfNone, false};
 ghost use Rattle.ud_model.specs.conditions.Table.{Argument};
 ghost use Rattle.ud_cond.specs.symbols.SymbolTable.{TableRepresents};
+ghost use Rattle.ud_cond.specs.CondViews.{argument_for};
 ghost use Rattle.ud_model.specs.answer.CommandLine.{ParsedArg as GivenInWords};
 ghost use Rattle.ud_model.specs.answer.CommandLine.{argument_in};
-ghost use Rattle.ud_args.specs.ParsedArgs.{parsed_arg};
-ghost use Rattle.ud_args.specs.ParsedSettings.{IsSetting, IsUsageOf, as_argument};
+ghost use Rattle.ud_args.specs.ParsedArgs.{as_parsed, parsed_arg};
+ghost use Rattle.ud_args.specs.ParsedSettings.{IsSetting, IsUsageOf, SetsSymbol, as_argument};
+ghost use Rattle.ud_args.specs.LeastSymbols.{least_argument};
+ghost use Rattle.ud_args.specs.TreeWords.{unifdef_arg};
 ghost use Rattle.ud_args.specs.Plans.{PlanRepresents};
 
 use crate::command_line::ParsedArg;
+use crate::least::{LeastSymbol, least_symbol, least_value};
 use crate::options::{Setting, Symbol, parse_arg, with_flag};
 use crate::usage::Usage;
 use std::alloc::Global;
@@ -87,6 +92,8 @@ impl Plan {
 /// A plan in the making, from options and operands.
 #[derive(Drop)]
 pub(crate) struct PlanDraft {
+    /// The allocator that memory comes from.
+    alloc: Global,
     /// The settings so far.
     settings: Settings,
     /// The calls for symbols so far.
@@ -114,6 +121,7 @@ impl PlanDraft {
         ensures { PlanRepresents result [] }
     {
         PlanDraft {
+            alloc,
             settings: Settings::default(),
             calls: SymbolCalls::new(alloc),
             operand: None,
@@ -136,6 +144,66 @@ impl PlanDraft {
             Err(fault) => Err(fault),
             Ok(setting) => self.set(setting),
         }
+    }
+
+    /// Adds the next option or operand of unifdef-tree(1), as `apply` adds one of unifdef(1).
+    ///
+    /// # Errors
+    /// As `apply`.
+    pub(crate) fn apply_in_tree(&mut self, given: ParsedArg<'_>) -> Result<(), Usage>
+        ensures ok { (gs : List GivenInWords) → PlanRepresents self.old gs →
+            OnOk result (PlanRepresents self.new (gs ++ unifdef_arg (as_parsed given.entry) ∷ [])) }
+        ensures err { (gs : List GivenInWords) → PlanRepresents self.old gs →
+            (more : List GivenInWords)
+            → IfErr result (IsUsageOf (gs ++ unifdef_arg (as_parsed given.entry) ∷ more)) }
+    {
+        match least_in(given) {
+            Some(symbol) => self.apply_least(symbol),
+            None => self.apply(given),
+        }
+    }
+
+    /// Adds a symbol with its least value.
+    ///
+    /// # Errors
+    /// `TooManyFiles` after an operand. `OutOfMemory` if an allocation fails.
+    fn apply_least(&mut self, least: LeastSymbol<'_>) -> Result<(), Usage>
+        ensures ok { (gs : List GivenInWords) (g : GivenInWords) → PlanRepresents self.old gs →
+            SetsSymbol g (least_argument least.entry) →
+            OnOk result (PlanRepresents self.new (gs ++ g ∷ [])) }
+        ensures err { (gs : List GivenInWords) (g : GivenInWords) → PlanRepresents self.old gs →
+            SetsSymbol g (least_argument least.entry) → (more : List GivenInWords) →
+            IfErr result (IsUsageOf (gs ++ g ∷ more)) }
+    {
+        if self.operand.is_some() {
+            return Err(Usage::TooManyFiles);
+        }
+        let Ok(value) = least_value(self.alloc, least.number) else {
+            return Err(Usage::OutOfMemory);
+        };
+        self.define(least.name, value.as_slice())
+    }
+
+    /// Adds a symbol that is defined as `value`. The draft has no operand yet.
+    ///
+    /// # Errors
+    /// `OutOfMemory` if an allocation fails.
+    fn define<'a>(&mut self, name: &'a [u8], value: &'a [u8]) -> Result<(), Usage>
+        ensures ok { (gs : List GivenInWords) (g : GivenInWords) → PlanRepresents self.old gs →
+            self.old.operand ≡ None → SetsSymbol g (argument_for name.now (Some value.now) false) →
+            OnOk result (PlanRepresents self.new (gs ++ g ∷ [])) }
+        ensures err { (g : GivenInWords) →
+            SetsSymbol g (argument_for name.now (Some value.now) false) →
+            IfErr result (λ u. (u ≡ Usage.OutOfMemory) × IsSome (argument_in g)) }
+    {
+        let value = Some(value);
+        let symbol = Symbol {
+            name,
+            value,
+            ignoring: false,
+        };
+        let setting = Setting::Symbol { symbol };
+        self.set(setting)
     }
 
     /// Adds a setting to the draft, which has no operand yet.
@@ -200,4 +268,21 @@ impl PlanDraft {
             Err(_) => Err(Usage::OutOfMemory),
         }
     }
+}
+
+/// Returns the symbol of an option that gives the least value of one.
+fn least_in<'a>(given: ParsedArg<'a>) -> Option<LeastSymbol<'a>>
+    ensures symbol { IfSome result (λ l. SetsSymbol (unifdef_arg (as_parsed given.entry))
+        (least_argument l)) }
+    ensures none { IfNone result (unifdef_arg (as_parsed given.entry) ≡ parsed_arg given.entry) }
+{
+    let ParsedArg::WithArgument {
+        letter,
+        argument,
+        ..
+    } = given
+    else {
+        return None;
+    };
+    least_symbol(letter, argument.as_bytes())
 }

@@ -7,8 +7,10 @@ ghost use Rattle.ud_args.specs.Plans.{PlanRepresents};
 ghost use Rattle.ud_args.specs.TreeWords.{given_in, has_flag, has_symbols, paths_in, patterns_in};
 ghost use Rattle.ud_args.specs.TreeWords.{symbol_of, symbol_names};
 ghost use Rattle.ud_args.specs.TreeWords.{is_unifdef_option, unifdef_args, option_word, word_at};
+ghost use Rattle.ud_args.specs.TreeWords.{first_relation};
 
 use crate::command_line::{CommandLine, ParsedArg};
+use crate::least::{is_other_relation, least_symbol};
 use crate::options::parse_symbol;
 use crate::plans::{Plan, PlanDraft};
 use crate::programs::Program;
@@ -75,8 +77,11 @@ fn symbol_of<'a>(given: ParsedArg<'a>) -> Option<&'a [u8]>
     else {
         return None;
     };
-    let symbol = parse_symbol(letter, argument.as_bytes())?;
-    Some(symbol.name)
+    let argument = argument.as_bytes();
+    match least_symbol(letter, argument) {
+        Some(symbol) => Some(symbol.name),
+        None => Some(parse_symbol(letter, argument)?.name),
+    }
 }
 
 /// Returns the names of the symbols, in the order of their first options, each once.
@@ -159,7 +164,7 @@ pub fn plan_among(alloc: Global, given: &[ParsedArg<'_>]) -> Result<Plan, Usage>
     let mut draft = PlanDraft::new(alloc);
     for item in given {
         if is_unifdef_option(*item) {
-            draft.apply(*item)?;
+            draft.apply_in_tree(*item)?;
         }
     }
     draft.into_plan()
@@ -185,6 +190,28 @@ pub fn word_at(alloc: Global, given: &[ParsedArg<'_>], number: usize) -> Result<
         }
     }
     Ok(String::new(alloc))
+}
+
+/// Returns, as one word, the first `-D` with a relation that gives no least value, if any.
+///
+/// # Errors
+/// Fails if memory runs out.
+pub fn first_relation(alloc: Global, given: &[ParsedArg<'_>]) -> Result<Option<String>, AllocError>
+    ensures { IfOk result (λ word. option_map string_bytes word ≡
+        first_relation (parsed given.now)) }
+{
+    for item in given {
+        if let ParsedArg::WithArgument {
+            letter,
+            argument,
+            ..
+        } = *item
+            && is_other_relation(letter, argument.as_bytes())
+        {
+            return Ok(Some(option_word(alloc, letter, argument)?));
+        }
+    }
+    Ok(None)
 }
 
 /// Returns an option and its argument as one word.

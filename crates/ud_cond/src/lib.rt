@@ -19,6 +19,7 @@ mod token_flags;
 pub use conditions::{Answer, Rules, condition};
 pub use expressions::residuals::residual;
 pub use expressions::tokens::{NextToken, Token, next_token};
+pub use expressions::values::is_number;
 pub use list_names::names;
 pub use list_names::names_iter::Names;
 pub use symbols::{Entry, SymbolCalls, SymbolFault, Symbols};

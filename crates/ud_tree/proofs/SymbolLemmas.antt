@@ -7,8 +7,9 @@ use Rattle.ud_model.specs.answer.CommandLine.{argument_in, parse_symbol, takes_a
 use Rattle.ud_model.specs.conditions.Conditions.{is_listed}
 use Rattle.ud_model.specs.conditions.Table.{Argument, Entry, entry_from}
 use Rattle.ud_cond.specs.symbols.SymbolTable.{TableRepresents}
-use Rattle.ud_args.specs.CommandLines.{Parsed, flag, option, operand, unknown, lacking, late, as_arg}
-use Rattle.ud_args.specs.TreeWords.{has_name, is_unifdef_option, names_with, symbol_names, symbol_of, unifdef_args}
+use Rattle.ud_args.specs.CommandLines.{Parsed, flag, option, operand, unknown, lacking, late}
+use Rattle.ud_args.specs.LeastSymbols.{definition_for}
+use Rattle.ud_args.specs.TreeWords.{has_name, is_unifdef_option, names_with, symbol_names, symbol_of, unifdef_arg, unifdef_args}
 use Rattle.ud_args.proofs.TreeLemmas.{bytes_eq-turned}
 
 -- A name is equal to itself.
@@ -20,25 +21,25 @@ symbol_taken : (c : ℕ) (a : List ℕ) {s : Argument} → parse_symbol c a ≡ 
 symbol_taken c a some = grind (arith, some)
 
 -- The symbols of the options are those of unifdef(1).
-arguments-taken : (g : Parsed) (gs : List Parsed) → filter_map argument_in (unifdef_args (g ∷ gs)) ≡ cons_option (argument_in (as_arg g)) (filter_map argument_in (unifdef_args gs))
+arguments-taken : (g : Parsed) (gs : List Parsed) → filter_map argument_in (unifdef_args (g ∷ gs)) ≡ cons_option (argument_in (unifdef_arg g)) (filter_map argument_in (unifdef_args gs))
 arguments-taken (flag c) gs = by (is_unifdef_option (flag c)) refl
   where
     by : (b : Bool) → is_unifdef_option (flag c) ≡ b → filter_map argument_in (unifdef_args (flag c ∷ gs)) ≡ filter_map argument_in (unifdef_args gs)
     by true is = rw is refl
     by false is = rw is refl
-arguments-taken (option c n a) gs = by (parse_symbol c a) refl (takes_argument c) refl
+arguments-taken (option c n a) gs = by (parse_symbol c (definition_for c a)) refl (takes_argument c) refl
   where
-    by : (s : Option Argument) → parse_symbol c a ≡ s → (b : Bool) → takes_argument c ≡ b →
-        filter_map argument_in (unifdef_args (option c n a ∷ gs)) ≡ cons_option (parse_symbol c a) (filter_map argument_in (unifdef_args gs))
+    by : (s : Option Argument) → parse_symbol c (definition_for c a) ≡ s → (b : Bool) → takes_argument c ≡ b →
+        filter_map argument_in (unifdef_args (option c n a ∷ gs)) ≡ cons_option (parse_symbol c (definition_for c a)) (filter_map argument_in (unifdef_args gs))
     by s some true is = rw is refl
     by None none false is = rw (is, none) refl
-    by (Some s) some false is = absurd (true≢false (sym (symbol_taken c a some) ∙ is))
+    by (Some s) some false is = absurd (true≢false (sym (symbol_taken c (definition_for c a) some) ∙ is))
 arguments-taken (operand n w) gs = refl
 arguments-taken (unknown c) gs = refl
 arguments-taken (lacking c) gs = refl
 arguments-taken (late n w) gs = refl
 
-symbol_named : (g : Parsed) → symbol_of g ≡ option_map (λ s. s.name) (argument_in (as_arg g))
+symbol_named : (g : Parsed) → symbol_of g ≡ option_map (λ s. s.name) (argument_in (unifdef_arg g))
 symbol_named (flag c) = refl
 symbol_named (option c n a) = refl
 symbol_named (operand n w) = refl
@@ -71,12 +72,12 @@ symbol_entry : (gs : List Parsed) (n : List ℕ) (e : Option Entry) → has_name
     is_some (entry_from e (filter_map argument_in (unifdef_args gs)) n) ≡ true
 symbol_entry [] n e has = absurd (true≢false (sym has))
 symbol_entry (g ∷ gs) n e has =
-    subst (λ xs. is_some (entry_from e xs n) ≡ true) (sym (arguments-taken g gs)) (by (argument_in (as_arg g)) refl (λ f. symbol_entry gs n f))
+    subst (λ xs. is_some (entry_from e xs n) ≡ true) (sym (arguments-taken g gs)) (by (argument_in (unifdef_arg g)) refl (λ f. symbol_entry gs n f))
   where
     rest : List Argument
     rest = filter_map argument_in (unifdef_args gs)
 
-    by : (a : Option Argument) → argument_in (as_arg g) ≡ a → ((f : Option Entry) → has_name (filter_map symbol_of gs) n ≡ true → is_some (entry_from f rest n) ≡ true) →
+    by : (a : Option Argument) → argument_in (unifdef_arg g) ≡ a → ((f : Option Entry) → has_name (filter_map symbol_of gs) n ≡ true → is_some (entry_from f rest n) ≡ true) →
         is_some (entry_from e (cons_option a rest) n) ≡ true
     by None none later = later e (grind (arith, has, symbol_named g, none))
     by (Some s) some later = named (bytes_eq s.name n) refl

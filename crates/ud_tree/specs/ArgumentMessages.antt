@@ -2,6 +2,7 @@
 --
 --   in_its_place c           what to use instead of the option `c` of unifdef(1), version 2.12
 --   mode_of word             the exit mode in an argument of `-x`
+--   symbol_in word           the name of a symbol in an option as one word
 --   pattern_advice f text    what to write in place of the argument `text` of `-g`
 --   argument_message f       the message of the fault `f`
 --   bad_argument_line word   the line of an argument that isn't UTF-8
@@ -14,11 +15,13 @@
 use Rattle.std.specs.Prelude.{◌≡◌, ◌⊎◌, ℕ, ◌==◌, ◌≤◌, ◌<◌, List, [], ◌++◌, drop, take, length}
 use Rattle.std.specs.Prelude.{codes, nat_eq, string_bytes, encode_utf8, if◌then◌else◌}
 use Rattle.std.specs.List.{starts_with}
+use Rattle.ud_model.specs.text.Bytes.{leading_word}
 use Rattle.ud_io.specs.Streams.{Stream, Sends}
 use Rattle.ud_tree.specs.declared.arguments.ArgumentFault.{ArgumentFault}
 use Rattle.ud_tree.specs.declared.arguments.ArgumentFault.TheVariants.{UnknownOption}
 use Rattle.ud_tree.specs.declared.arguments.ArgumentFault.TheVariants.{MissingArgument, BadSymbol}
-use Rattle.ud_tree.specs.declared.arguments.ArgumentFault.TheVariants.{BadMode, BadPattern}
+use Rattle.ud_tree.specs.declared.arguments.ArgumentFault.TheVariants.{BadRelation, BadMode}
+use Rattle.ud_tree.specs.declared.arguments.ArgumentFault.TheVariants.{BadPattern}
 use Rattle.ud_tree.specs.declared.arguments.ArgumentFault.TheVariants.{BesideNames, SymbolsAndNames}
 use Rattle.ud_tree.specs.declared.arguments.ArgumentFault.TheVariants.{PruningAndComplement}
 use Rattle.ud_tree.specs.declared.arguments.ArgumentFault.TheVariants.{PruningAndPlain}
@@ -53,6 +56,16 @@ in_its_place c =
 abbrev pub mode_of : List ℕ → List ℕ
 mode_of word = if starts_with nat_eq word (codes "-x") then drop 2 word else word
 
+-- `symbol_in word`: the word bytes after an option's letter, which name a symbol.
+abbrev pub symbol_in : List ℕ → List ℕ
+symbol_in word = leading_word (drop 2 word)
+
+-- `relation_advice word`: what follows the option `word` in the message that it has a relation that
+-- gives no least value.
+abbrev pub relation_advice : List ℕ → List ℕ
+relation_advice word =
+    codes "; only a least number is taken: write -D'" ++ symbol_in word ++ codes ">=N'"
+
 -- `pattern_advice fault text`: what follows the argument `text` of `-g` in the message that it has
 -- this fault: what to write in its place.
 abbrev pub pattern_advice : PatternFault → List ℕ → List ℕ
@@ -70,6 +83,8 @@ argument_message (UnknownOption c) =
 argument_message (MissingArgument c) =
     line_of (codes "Option -" ++ encode_utf8 c ++ codes " needs an argument")
 argument_message (BadSymbol word) = line_of (codes "Bad symbol: " ++ string_bytes word)
+argument_message (BadRelation word) = line_of (codes "Bad symbol: " ++ string_bytes word ++
+    relation_advice (string_bytes word))
 argument_message (BadMode word) =
     line_of (codes "Bad exit mode: " ++ mode_of (string_bytes word))
 argument_message (BadPattern word f) = line_of (codes "Bad pattern: " ++ string_bytes word ++

@@ -20,7 +20,7 @@ use Rattle.ud_model.specs.answer.CommandLine as args
 use Rattle.ud_args.specs.Plans.{PlanRepresents, with_unpadded}
 use Rattle.ud_args.specs.CommandLines.{Parsed, unknown, lacking, late}
 use Rattle.ud_args.specs.TreeWords.{first_fault, has_flag, has_symbols, unifdef_args, word_at}
-use Rattle.ud_args.specs.TreeWords.{patterns_in, paths_in, symbol_names}
+use Rattle.ud_args.specs.TreeWords.{patterns_in, paths_in, symbol_names, first_relation}
 use Rattle.ud_tree.specs.PatternFaults.{first_bad}
 use Rattle.ud_tree.specs.declared.arguments.Task.{Task}
 use Rattle.ud_tree.specs.declared.arguments.Task.TheVariants.{Replace, Diff, Names}
@@ -30,7 +30,8 @@ use Rattle.ud_tree.specs.declared.arguments.Request.TheVariants.{Help, Version, 
 use Rattle.ud_tree.specs.declared.arguments.ArgumentFault.{ArgumentFault}
 use Rattle.ud_tree.specs.declared.arguments.ArgumentFault.TheVariants.{UnknownOption}
 use Rattle.ud_tree.specs.declared.arguments.ArgumentFault.TheVariants.{MissingArgument, BadSymbol}
-use Rattle.ud_tree.specs.declared.arguments.ArgumentFault.TheVariants.{BadMode, BadPattern}
+use Rattle.ud_tree.specs.declared.arguments.ArgumentFault.TheVariants.{BadRelation, BadMode}
+use Rattle.ud_tree.specs.declared.arguments.ArgumentFault.TheVariants.{BadPattern}
 use Rattle.ud_tree.specs.declared.arguments.ArgumentFault.TheVariants.{BesideNames, SymbolsAndNames}
 use Rattle.ud_tree.specs.declared.arguments.ArgumentFault.TheVariants.{PruningAndComplement}
 use Rattle.ud_tree.specs.declared.arguments.ArgumentFault.TheVariants.{PruningAndPlain}
@@ -86,10 +87,11 @@ shows_diffs gs = has_flag (codes "n") gs || has_flag (codes "d") gs
 -- `IsArgumentsOf gs args`: `args` has what is given: the options of unifdef(1), each other option,
 -- the patterns and the paths. `-r` asks for the conditions that still name a symbol or, with `-s`,
 -- for those whose names can't all be listed. With `-p`, no spaces replace the lost bytes of a
--- keyword. The options are compatible, and ask for something. No pattern has a fault. Either paths
--- are given, or `-0`.
+-- keyword. The options are compatible, and ask for something. No `-D` has a relation that gives no
+-- least value, and no pattern has a fault. Either paths are given, or `-0`.
 pub record IsArgumentsOf (gs : List Parsed) (args : Arguments) : Type 0 where
   pub fitting : AreFitting gs
+  pub relations : first_relation gs ≡ None
   pub plan : PlanRepresents (with_unpadded false args.plan.run) (unifdef_args gs)
   pub prunes : args.plan.prunes ≡ has_flag (codes "p") gs
   pub unpadded : args.plan.run.settings.unpadded ≡ has_flag (codes "p") gs
@@ -138,14 +140,16 @@ abbrev pub IsBadWord : (ℕ → UsageFault) → List Parsed → List ℕ → Typ
 IsBadWord fault gs w = (n : ℕ) × HasUsage gs (fault n) × (w ≡ word_at n gs)
 
 -- `IsFaultIn gs f`: `f` is the first fault of the words. Or it is a fault of two incompatible
--- options, of the options of unifdef(1), of the first pattern that has one, or of the paths. Or
--- nothing is asked for, or memory ran out.
+-- options, of the first `-D` with a relation that gives no least value, of the options of
+-- unifdef(1), of the first pattern that has one, or of the paths. Or nothing is asked for, or
+-- memory ran out.
 abbrev pub IsFaultIn : List Parsed → ArgumentFault → Type 0
 IsFaultIn gs (UnknownOption c) = (first_fault gs ≡ Some (unknown c)) ⊎
     HasUsage gs (unknown_option c)
 IsFaultIn gs (MissingArgument c) = (first_fault gs ≡ Some (lacking c)) ⊎
     HasUsage gs (missing_argument c)
 IsFaultIn gs (BadSymbol w) = IsBadWord bad_symbol_in gs (string_bytes w)
+IsFaultIn gs (BadRelation w) = first_relation gs ≡ Some (string_bytes w)
 IsFaultIn gs (BadMode w) = IsBadWord bad_mode_in gs (string_bytes w)
 IsFaultIn gs (BadPattern w f) =
     first_bad (patterns_in gs) ≡ Some (record { text = string_bytes w; fault = f })

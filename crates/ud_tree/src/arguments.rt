@@ -6,7 +6,7 @@ ghost use Rattle.ud_args.specs.ParsedArgs.{parsed};
 ghost use Rattle.ud_args.specs.ParsedSettings.{IsUsageOf};
 ghost use Rattle.ud_args.specs.Plans.{with_unpadded};
 ghost use Rattle.ud_args.specs.TreeWords.{given_in, first_fault, has_flag, patterns_in};
-ghost use Rattle.ud_args.specs.TreeWords.{unifdef_args};
+ghost use Rattle.ud_args.specs.TreeWords.{first_relation, unifdef_args};
 ghost use Rattle.ud_tree.specs.PatternFaults.{first_bad};
 ghost use Rattle.ud_tree.specs.Requests.{IsRequestOf, IsArgumentsOf, IsFaultIn};
 ghost use Rattle.ud_tree.specs.Requests.{AreFitting, HasNoChange, LeavesLines, decides, is_one_of};
@@ -15,8 +15,8 @@ ghost use Rattle.ud_tree.specs.Requests.{shows_diffs, task_of};
 use crate::patterns::faults::{PatternFault, first_bad};
 use std::alloc::Global;
 use ud_args::{
-    ParsedArg, Plan, Usage, given_by, has_flag, has_symbols, paths, patterns, plan_among,
-    symbol_names, word_at,
+    ParsedArg, Plan, Usage, first_relation, given_by, has_flag, has_symbols, paths, patterns,
+    plan_among, symbol_names, word_at,
 };
 use ud_replace::TextPlan;
 
@@ -100,6 +100,8 @@ pub enum ArgumentFault {
     MissingArgument(char),
     /// An argument of `-D`, `-U` or `-i` that names no symbol, with its option.
     BadSymbol(String),
+    /// An argument of `-D` with a relation that gives no least value, with its option.
+    BadRelation(String),
     /// An argument of `-x` that is no exit mode.
     BadMode(String),
     /// An argument of `-g` that isn't taken, and why.
@@ -129,9 +131,10 @@ pub enum ArgumentFault {
 /// Returns what the arguments, without the program's name, ask for.
 ///
 /// # Errors
-/// The first fault of the words from left to right. Else incompatible options, the first fault of
-/// the options of unifdef, the first fault of a pattern, or a fault of the paths. `OutOfMemory` if
-/// memory can't be allocated. Nothing was done.
+/// The first fault of the words from left to right. Else incompatible options, the first `-D` with
+/// a relation that gives no least value, the first fault of the options of unifdef, the first fault
+/// of a pattern, or a fault of the paths. `OutOfMemory` if memory can't be allocated. Nothing was
+/// done.
 pub fn parse_arguments(alloc: Global, words: &[String]) -> Result<Request, ArgumentFault>
     ensures request { IfOk result (IsRequestOf (given_in (map string_bytes words.now))) }
     ensures fault { IfErr result (IsFaultIn (given_in (map string_bytes words.now))) }
@@ -270,13 +273,17 @@ fn beside_squeezing(given: &[ParsedArg<'_>]) -> Option<char>
 /// Returns the arguments of a run, whose options are compatible.
 ///
 /// # Errors
-/// The first fault of the options of unifdef, the first fault of a pattern, or a fault of the
-/// paths. `OutOfMemory` if memory can't be allocated.
+/// The first `-D` with a relation that gives no least value, the first fault of the options of
+/// unifdef, the first fault of a pattern, or a fault of the paths. `OutOfMemory` if memory can't be
+/// allocated.
 fn run_of(alloc: Global, given: &[ParsedArg<'_>]) -> Result<Arguments, ArgumentFault>
     requires { AreFitting (parsed given.now) }
     ensures run { IfOk result (IsArgumentsOf (parsed given.now)) }
     ensures fault { IfErr result (IsFaultIn (parsed given.now)) }
 {
+    if let Some(fault) = relation_fault(alloc, given) {
+        return Err(fault);
+    }
     let run = match plan_among(alloc, given) {
         Ok(run) => run,
         Err(usage) => return Err(option_fault(alloc, given, usage)),
@@ -314,6 +321,18 @@ fn run_of(alloc: Global, given: &[ParsedArg<'_>]) -> Result<Arguments, ArgumentF
         has_symbols: has_symbols(given),
         names: symbols,
     })
+}
+
+/// Returns the fault of the first `-D` with a relation that gives no least value, if any.
+fn relation_fault(alloc: Global, given: &[ParsedArg<'_>]) -> Option<ArgumentFault>
+    ensures fault { IfSome result (IsFaultIn (parsed given.now)) }
+    ensures right { IfNone result (first_relation (parsed given.now) ≡ None) }
+{
+    match first_relation(alloc, given) {
+        Ok(None) => None,
+        Ok(Some(word)) => Some(ArgumentFault::BadRelation(word)),
+        Err(_) => Some(ArgumentFault::OutOfMemory),
+    }
 }
 
 /// Returns the plan for each text: the run over it, the passes over its output, and whether diffs

@@ -8,12 +8,13 @@ use std::io::Write;
 use ud_io::{Watched, send, send_parts};
 
 /// A line for each option.
-const OPTIONS: [&[u8]; 26] = [
+const OPTIONS: [&[u8]; 27] = [
     b"  -0            read the paths from standard input, each ended by a null byte",
     b"  -B            leave out blank lines that only stood there because of removed lines",
     b"  -b            leave removed lines blank",
     b"  -c            complement: keep what would be removed, and remove what would be kept",
     b"  -Dsym[=val]   take a symbol as defined, as 1 or as val",
+    b"  '-Dsym>=num'  take a symbol as defined, with a value that is num or more",
     b"  -d            print a diff of what is changed, with which patch -R undoes it",
     b"  -g pattern    select files by name, in place of the usual sources and headers; +pattern",
     b"                selects others too, !pattern leaves out files or directories, and",

@@ -10,7 +10,8 @@ ghost use Rattle.std.specs.List.{flat_map};
 ghost use Rattle.unifdef.specs.RunMessages.{fault_message};
 ghost use Rattle.ud_replace.specs.Calls.{met};
 ghost use Rattle.ud_tree.specs.ArgumentMessages.{IsCut, RefusesArgument, argument_message};
-ghost use Rattle.ud_tree.specs.ArgumentMessages.{in_its_place, mode_of, pattern_advice};
+ghost use Rattle.ud_tree.specs.ArgumentMessages.{in_its_place, mode_of, pattern_advice, symbol_in};
+ghost use Rattle.ud_tree.specs.ArgumentMessages.{relation_advice};
 ghost use Rattle.ud_tree.specs.Messages.{IsFailureOf, IsTextMessage, fault_line, locked_line};
 ghost use Rattle.ud_tree.specs.Reports.{KeepsScreen, ReportsOf, ReportsOne, Says, Tells, TellsOf};
 ghost use Rattle.ud_tree.specs.Reports.{counted, new_report};
@@ -36,6 +37,7 @@ use ud_cond::Rules;
 use ud_engine::RunFault;
 use ud_io::{Watched, send, send_parts};
 use ud_model::Settings;
+use ud_model::bytes::word_len;
 use ud_passes::{Listing, Remaining};
 use ud_replace::Lookup;
 use unifdef::report_result;
@@ -432,6 +434,9 @@ pub fn report_argument_fault<E: Write>(alloc: Global, err: &mut Watched<E>, faul
         ArgumentFault::BadSymbol(word) => {
             report_line(alloc, err, &[b"Bad symbol: ", word.as_bytes()]);
         }
+        ArgumentFault::BadRelation(word) => {
+            report_bad_relation(alloc, err, word.as_bytes());
+        }
         ArgumentFault::BadMode(word) => {
             report_line(alloc, err, &[b"Bad exit mode: ", mode_of(word.as_bytes())]);
         }
@@ -477,6 +482,24 @@ pub fn report_argument_fault<E: Write>(alloc: Global, err: &mut Watched<E>, faul
         }
         ArgumentFault::OutOfMemory => report_line(alloc, err, &[b"Out of memory"]),
     }
+}
+
+/// Writes the message of an option with a relation that gives no least value.
+fn report_bad_relation<E: Write>(alloc: Global, err: &mut Watched<E>, word: &[u8])
+    ensures { Sends (stream_of E.contents err.old) (stream_of E.contents err.new)
+        (line_of (codes "Bad symbol: " ++ word.now ++ relation_advice word.now)) }
+{
+    report_line(
+        alloc,
+        err,
+        &[
+            b"Bad symbol: ",
+            word,
+            b"; only a least number is taken: write -D'",
+            symbol_in(word),
+            b">=N'",
+        ],
+    );
 }
 
 /// Writes the message of a fault of an argument of `-g`.
@@ -541,6 +564,16 @@ fn mode_of(word: &[u8]) -> &[u8]
         return &word[2..];
     }
     word
+}
+
+/// Returns the name of a symbol in an option as one word.
+fn symbol_in(word: &[u8]) -> &[u8]
+    ensures { result.now ≡ symbol_in word.now }
+{
+    match word {
+        [_, _, argument @ ..] => &argument[..word_len(argument)],
+        _ => b"",
+    }
 }
 
 /// Returns what to use instead of an option of unifdef(1), version 2.12, that isn't one here.

@@ -3,7 +3,7 @@
 //! `ud_model.specs.conditions.Values` defines the numbers (C11 6.10.1p4 and 6.5), and
 //! `specs.expressions.Evaluation` the facts that are kept beside them.
 
-ghost use Rattle.std.specs.Prelude.{◌≡◌, Some, option_and_then, option_map, true, false};
+ghost use Rattle.std.specs.Prelude.{◌≡◌, Some, option_and_then, option_map, is_some, true, false};
 ghost use Rattle.ud_model.specs.conditions.Table.{entry_in};
 ghost use Rattle.ud_model.specs.conditions.Symbols.{resolve, defined_text};
 ghost use Rattle.ud_model.specs.conditions.Values as spec;
@@ -136,6 +136,14 @@ fn text_value(unsigned: bool, text: &[u8]) -> Option<i64>
             }
         }
     }
+}
+
+/// Returns whether the text, as the value of a symbol, is a known number: a constant, or a `-` and
+/// a constant.
+pub fn is_number(text: &[u8]) -> bool
+    ensures { result ≡ is_some (spec.text_value (spec.text_has_u text.now) text.now) }
+{
+    text_value(text_has_u(text), text).is_some()
 }
 
 /// Returns whether the constant of such a text has a `u`.

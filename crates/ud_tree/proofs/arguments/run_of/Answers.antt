@@ -20,6 +20,7 @@ padded plan gs p = record {
 pub returns-clause-run : goal.returns-clause-run
 returns-clause-run c = record {
   fitting = search rules;
+  relations = search rules;
   plan = search (rules, padded);
   prunes = search rules;
   unpadded = search rules;
