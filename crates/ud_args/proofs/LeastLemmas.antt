@@ -31,14 +31,14 @@ least_is c a h = grind (arith, eqb-true)
 
 least_parsed : (a : List ℕ) (l : LeastSymbol) → is_name (leading_word a) ≡ true → l.name.now ≡ leading_word a → l.number.now ≡ drop 2 (skip_word a) →
     parse_define false (least_definition a) ≡ Some (least_argument l)
-least_parsed a l h n k = grind (arith, name_word a (0 ∷ drop 2 (skip_word a)), value_word a (0 ∷ drop 2 (skip_word a)))
+least_parsed a l h n k = grind (arith, name_word a (255 ∷ drop 2 (skip_word a)), value_word a (255 ∷ drop 2 (skip_word a)))
 
 least_sets : (c : ℕ) (a : List ℕ) (l : LeastSymbol) → IsLeastOf c a l → parse_symbol c (definition_for c a) ≡ Some (least_argument l)
 least_sets c a l h = let p = least_is c a h.is in
     ap (λ (b : List ℕ). parse_symbol c b) (ap (λ (t : Bool). if t then least_definition a else a) h.is)
     ∙ ap (λ (d : ℕ). parse_symbol d (least_definition a)) p.0 ∙ least_parsed a l p.1 h.name h.number
 
--- the option defines the symbol, with a zero byte before the number
+-- the option defines the symbol, with a byte 255 before the number
 pub sets_least : (c n : ℕ) (a : List ℕ) (l : LeastSymbol) → IsLeastOf c a l → SetsSymbol (option c n (definition_for c a)) (least_argument l)
 sets_least c n a l h = record {
   letter = c;

@@ -24,10 +24,10 @@ has_least a = is_name (leading_word a) && starts_with_byte 62 (skip_word a) &&
 abbrev pub is_least : ℕ → List ℕ → Bool
 is_least c a = has_letter (codes "D") c && has_least a
 
--- `least_definition a`: the argument of `-D` in terms of unifdef(1), where a zero byte before the
+-- `least_definition a`: the argument of `-D` in terms of unifdef(1), where a byte 255 before the
 -- value of a symbol says that it is the least one.
 abbrev pub least_definition : List ℕ → List ℕ
-least_definition a = leading_word a ++ equals_sign ∷ 0 ∷ drop 2 (skip_word a)
+least_definition a = leading_word a ++ equals_sign ∷ 255 ∷ drop 2 (skip_word a)
 
 -- `definition_for c a`: the argument of the option `c` in terms of unifdef(1).
 abbrev pub definition_for : ℕ → List ℕ → List ℕ
@@ -46,7 +46,7 @@ is_other_relation c a = has_letter (codes "D") c && is_name (leading_word a) &&
 
 -- `least_argument l`: the symbol `l`, as one of the definitions.
 abbrev pub least_argument : LeastSymbol → Argument
-least_argument l = argument_for l.name.now (Some (0 ∷ l.number.now)) false
+least_argument l = argument_for l.name.now (Some (255 ∷ l.number.now)) false
 
 -- `IsLeastOf c a l`: the option `c` with the argument `a` gives the least value of the symbol
 -- `l`.

@@ -1,7 +1,7 @@
 //! The option `-D` with the least value of a symbol (unifdef-tree(1)).
 //!
-//! In terms of unifdef(1), the value of such a symbol is a zero byte and the number. No word of a
-//! command line has a zero byte. `specs/LeastSymbols.antt` defines the argument.
+//! In terms of unifdef(1), the value of such a symbol is a byte 255 and the number. No argument
+//! has this byte, since arguments are UTF-8. `specs/LeastSymbols.antt` defines the option.
 
 ghost use Rattle.std.specs.Prelude.{◌≡◌, ◌∷◌, IfOk, IfSome, IfNone, false};
 ghost use Rattle.ud_args.specs.LeastSymbols.{IsLeastOf, is_least, is_other_relation, has_relation};
@@ -60,9 +60,9 @@ fn has_relation(bytes: &[u8]) -> bool
 /// # Errors
 /// Fails if memory runs out.
 pub(crate) fn least_value(alloc: Global, number: &[u8]) -> Result<Vec<u8>, AllocError>
-    ensures { IfOk result (λ value. value.items ≡ 0 ∷ number.now) }
+    ensures { IfOk result (λ value. value.items ≡ 255 ∷ number.now) }
 {
-    let mut value = Vec::from_slice(alloc, b"\0")?;
+    let mut value = Vec::from_slice(alloc, b"\xff")?;
     value.extend_from_slice(number)?;
     Ok(value)
 }

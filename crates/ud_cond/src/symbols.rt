@@ -217,7 +217,7 @@ impl Symbols {
         }
     }
 
-    /// Defines `name` as `value`, which may be empty. If a zero byte precedes the constant in
+    /// Defines `name` as `value`, which may be empty. If a byte 255 precedes the constant in
     /// `value`, the symbol may be any number from that constant on.
     ///
     /// If `ignoring`, the sections that `name` controls are plain text.

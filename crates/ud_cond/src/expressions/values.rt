@@ -161,7 +161,7 @@ fn end_value(unsigned: bool, text: &[u8]) -> Amount
     ensures { result ≡ spec.end_value unsigned (Some text.now) }
 {
     match text {
-        [0, rest @ ..] => at_least(text_value(unsigned, rest)),
+        [255, rest @ ..] => at_least(text_value(unsigned, rest)),
         _ => exactly(text_value(unsigned, text)),
     }
 }
@@ -171,7 +171,7 @@ fn end_has_u(text: &[u8]) -> bool
     ensures { result ≡ spec.end_has_u (Some text.now) }
 {
     match text {
-        [0, rest @ ..] => text_has_u(rest),
+        [255, rest @ ..] => text_has_u(rest),
         _ => text_has_u(text),
     }
 }

@@ -29,9 +29,9 @@ constant_no_name w c = grind arith
 sign_no_name : (b : ℕ) (w : List ℕ) → (b == 45) ≡ true → is_identifier (b ∷ w) ≡ false
 sign_no_name b w e = subst (λ (n : ℕ). is_identifier (n ∷ w) ≡ false) (sym (eqb-true b 45 e)) refl
 
-mark_no_name : (w : List ℕ) → starts_with_byte 0 w ≡ true → is_identifier w ≡ false
+mark_no_name : (w : List ℕ) → starts_with_byte 255 w ≡ true → is_identifier w ≡ false
 mark_no_name [] e = refl
-mark_no_name (b ∷ w) e = subst (λ (n : ℕ). is_identifier (n ∷ w) ≡ false) (sym (eqb-true b 0 e)) refl
+mark_no_name (b ∷ w) e = subst (λ (n : ℕ). is_identifier (n ∷ w) ≡ false) (sym (eqb-true b 255 e)) refl
 
 neither : (c k : Bool) (x y : Option ℤ) (z : ℤ) → c ≡ false → k ≡ false → (if c then x else if k then y else None) ≡ Some z → ⊥
 neither c k x y z d l e = grind arith
@@ -45,10 +45,10 @@ value_no_name (b ∷ w) z e = by (b == 45) (is_constant (b ∷ w)) refl refl
     by false true c i = constant_no_name (b ∷ w) i
     by false false c i = absurd (neither (b == 45) (is_constant (b ∷ w)) _ _ z c i e)
 
-least_text : (w : List ℕ) (z : ℤ) → end_value false (Some w) ≡ AtLeast z → (starts_with_byte 0 w ≡ true) × (text_value false (constant_in w) ≡ Some z)
+least_text : (w : List ℕ) (z : ℤ) → end_value false (Some w) ≡ AtLeast z → (starts_with_byte 255 w ≡ true) × (text_value false (constant_in w) ≡ Some z)
 least_text w z e = grind arith
 
-number_text : (w : List ℕ) (z : ℤ) → end_value false (Some w) ≡ Exactly z → (starts_with_byte 0 w ≡ false) × (text_value false (constant_in w) ≡ Some z)
+number_text : (w : List ℕ) (z : ℤ) → end_value false (Some w) ≡ Exactly z → (starts_with_byte 255 w ≡ false) × (text_value false (constant_in w) ≡ Some z)
 number_text w z e = grind arith
 
 number_no_name : (w : List ℕ) (z : ℤ) → end_value false (Some w) ≡ Exactly z → is_identifier w ≡ false
@@ -69,7 +69,7 @@ fits_text u w = grind arith
 from_refines : (u : Bool) (n k : ℤ) → n ≤ℤ k → fits false k ≡ true → Refines (amount_from true (fit u n)) (amount_from false (fit u k))
 from_refines u n k l f = grind arith
 
-text_from : (u least : Bool) (w : List ℕ) (z : ℤ) → (starts_with_byte 0 w ≡ least) × (text_value false (constant_in w) ≡ Some z) → end_value u (Some w) ≡ amount_from least (fit u z)
+text_from : (u least : Bool) (w : List ℕ) (z : ℤ) → (starts_with_byte 255 w ≡ least) × (text_value false (constant_in w) ≡ Some z) → end_value u (Some w) ≡ amount_from least (fit u z)
 text_from u least w z h = ap₂ (λ (b : Bool) (o : Option ℤ). amount_from b o) h.0 (fits_text u (constant_in w) ∙ ap (λ (o : Option ℤ). option_and_then (fit u) o) h.1)
 
 -- The text of the one table, and the one of the other.

@@ -150,7 +150,7 @@ text_after b c text z e = grind arith
 end_lasts : (b c : Bool) (x y : Option (List ℕ)) → ((v : List ℕ) → x ≡ Some v → y ≡ Some v) → Lasts (end_value b x) (end_value c y)
 end_lasts b c None y h = inl refl
 end_lasts b c (Some v) y h = subst (λ o. Lasts (end_value b (Some v)) (end_value c o)) (sym (h v refl))
-    (after_lasts (starts_with_byte 0 v) (text_value b (constant_in v)) (text_value c (constant_in v)) (text_after b c (constant_in v)))
+    (after_lasts (starts_with_byte 255 v) (text_value b (constant_in v)) (text_value c (constant_in v)) (text_after b c (constant_in v)))
 
 module _ (t u : List Argument) (more : ExtendsTable t u) where
   text_more : (n v : List ℕ) (o : Option Entry) → entry_in t n ≡ o → text_in o ≡ Some v → defined_text u n ≡ Some v

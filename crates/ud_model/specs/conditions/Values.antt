@@ -16,8 +16,8 @@
 --
 -- The least number is -2^63, or 0 if the expression has a `u`. A result out of this range is
 -- unknown: C gives no value there, or not the one that whole numbers give. Under `strict`, `&&` and
--- `||` are unknown if an operand is. A zero byte before a symbol's constant means that the symbol
--- is at least that number. No word of a command line has this byte.
+-- `||` are unknown if an operand is. A byte 255 before a symbol's constant means that the symbol is
+-- at least that number. No argument has this byte, since it isn't UTF-8.
 --
 -- Example: with A as 5, `-A / 2` is -2, `~A < 0u` is unknown, and `X && !A` is 0 unless `strict`.
 -- With A as 5 or more, `A > 4` is 1, and `A > 5` and `A + 1 > 5` are unknown.
@@ -194,15 +194,15 @@ abbrev pub text_has_u : List ℕ → Bool
 text_has_u [] = false
 text_has_u (b ∷ w) = if b == 45 then has_u w else has_u (b ∷ w)
 
--- `constant_in text`: the text without a zero byte at its beginning.
+-- `constant_in text`: the text without a byte 255 at its beginning.
 abbrev pub constant_in : List ℕ → List ℕ
-constant_in text = if starts_with_byte 0 text then drop 1 text else text
+constant_in text = if starts_with_byte 255 text then drop 1 text else text
 
 -- `end_value u end`: the value of the text that a name resolves to, if any.
 abbrev pub end_value : Bool → Option (List ℕ) → Amount
 end_value u None = Anything
 end_value u (Some text) =
-    amount_from (starts_with_byte 0 text) (text_value u (constant_in text))
+    amount_from (starts_with_byte 255 text) (text_value u (constant_in text))
 
 -- `defined_name_value u end value`: the value of a listed name that resolves to `end`. An undefined
 -- name, whose `value` is None, is 0.
