@@ -78,6 +78,7 @@ def findings(path, text):
             yield number, "an item's comment begins with a verb or a noun"
         before = comment
     yield from bare_items(path, lines)
+    yield from unended_comments(path, lines)
     if path.endswith(".md"):
         yield from long_sentences(lines)
 
@@ -124,6 +125,17 @@ def bare_items(path, lines):
             yield number, f"no line says what `{found[1]}` is"
         bare = line.strip()
         above = above if bare.startswith("#[") or bare in ("mutual", "abbrev mutual") else bare
+
+
+def unended_comments(path, lines):
+    """Yields each comment of a definition that ends without a period. A row of an index may."""
+    if not re.search(r"/specs/.*\.antt$", path):
+        return
+    for number, (line, after) in enumerate(zip(lines, [*lines[1:], ""]), 1):
+        text = re.match(r"\s*--(.*)", line)
+        if text and not re.match(r"\s*--", after) and not text[1].startswith("   "):
+            if not re.search(r"[.:?!][`)]?$", text[1]):
+                yield number, "a comment ends with a period"
 
 
 def main():

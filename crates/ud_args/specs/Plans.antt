@@ -10,15 +10,15 @@ use Rattle.ud_model.specs.answer.CommandLine.{options_of, operand_of}
 use Rattle.ud_cond.specs.symbols.SymbolTable.{TableRepresents}
 use Rattle.ud_args.specs.declared.parse.Operand as declared
 
--- `PlanState`: a plan, as callers see it
+-- `PlanState`: a plan, as callers see it.
 pub record PlanState : Type 0 where
   pub settings : Settings
   pub symbols : List Argument
-  -- the operand's index, counted from 0
+  -- the operand's index, counted from 0.
   pub operand : Option ℕ
 
 -- `IsPlanOf args plan`: the arguments have no fault, and the plan has their settings, symbols and
--- operand
+-- operand.
 pub record IsPlanOf (args : List (List ℕ)) (plan : PlanState) : Type 0 where
   pub right : usage_fault args ≡ None
   pub said : plan.settings ≡ (options_of args).settings
@@ -26,23 +26,23 @@ pub record IsPlanOf (args : List (List ℕ)) (plan : PlanState) : Type 0 where
   pub index : plan.operand ≡ operand_of args
 
 -- `PlanRepresents plan gs`: the options and operands `gs` have no fault, and the plan has their
--- settings, symbols and operand
+-- settings, symbols and operand.
 pub record PlanRepresents (plan : PlanState) (gs : List ParsedArg) : Type 0 where
   pub right : first_fault gs ≡ None
   pub said : plan.settings ≡ settings_in gs
   pub represents : TableRepresents plan.symbols (filter_map argument_in gs)
   pub index : plan.operand ≡ operand_index (operand_in gs)
 
--- `with_unpadded unpadded plan`: the plan, without spaces for lost bytes if `unpadded`
+-- `with_unpadded unpadded plan`: the plan, without spaces for lost bytes if `unpadded`.
 abbrev pub with_unpadded : Bool → PlanState → PlanState
 with_unpadded unpadded plan =
     record plan { settings = record plan.settings { unpadded = unpadded } }
 
--- `ForOptionsOf plan P`: `P` is true of the options that the plan represents
+-- `ForOptionsOf plan P`: `P` is true of the options that the plan represents.
 abbrev pub ForOptionsOf : PlanState → (Options → Type 0) → Type 0
 ForOptionsOf plan P =
     (o : Options) → o.settings ≡ plan.settings → TableRepresents plan.symbols o.table → P o
 
--- `as_operand o`: the code's operand, as one of the definitions
+-- `as_operand o`: the code's operand, as one of the definitions.
 abbrev pub as_operand : declared.Operand → Operand
 as_operand o = record { index = o.index; name = o.name.now }

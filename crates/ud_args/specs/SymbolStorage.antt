@@ -3,7 +3,7 @@ use Rattle.std.specs.Prelude.{◌≡◌, List, [], ◌∷◌, ◌++◌, None, Is
 use Rattle.ud_model.specs.answer.CommandLine.{ParsedArg, first_fault, argument_in}
 
 -- `StoresSymbol gs`: one of the options `gs` defines or undefines a symbol, without a fault up to
--- that option
+-- that option.
 pub record StoresSymbol (gs : List ParsedArg) : Type 0 where
   pub before : List ParsedArg
   pub symbol : ParsedArg

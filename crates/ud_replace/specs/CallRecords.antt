@@ -3,10 +3,10 @@ use Rattle.std.specs.Prelude.{map}
 use Rattle.ud_replace.specs.declared.call.DirectoryWalk.{DirectoryWalk}
 use Rattle.ud_replace.specs.declared.call.DirectoryWalk.TheVariants.{Met, Followed, Listed}
 use Rattle.ud_replace.specs.declared.call.DirectoryCall.{DirectoryCall}
-use Rattle.ud_replace.specs.declared.call.DirectoryCall.TheVariants.{Read, OpenToWrite, Create, Append}
-use Rattle.ud_replace.specs.declared.call.DirectoryCall.TheVariants.{SetModeAndOwner, Sync, Look}
-use Rattle.ud_replace.specs.declared.call.DirectoryCall.TheVariants.{Rename, Overwrite, Remove}
-use Rattle.ud_replace.specs.declared.call.DirectoryCall.TheVariants.{Sample, Walk}
+use Rattle.ud_replace.specs.declared.call.DirectoryCall.TheVariants.{Read, OpenToWrite, Create}
+use Rattle.ud_replace.specs.declared.call.DirectoryCall.TheVariants.{Append, SetModeAndOwner, Sync}
+use Rattle.ud_replace.specs.declared.call.DirectoryCall.TheVariants.{Look, Rename, Overwrite}
+use Rattle.ud_replace.specs.declared.call.DirectoryCall.TheVariants.{Remove, Sample, Walk}
 use Rattle.ud_replace.specs.Calls.{Call, was_read, asked, made, appended, given, synced, looked}
 use Rattle.ud_replace.specs.Calls.{renamed, overwrote, removed, sampled, walked}
 use Rattle.ud_replace.specs.Calls.{WalkCall, met, followed, listed}

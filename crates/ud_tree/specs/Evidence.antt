@@ -50,67 +50,68 @@ pub record AreFacts {M : Type 0} (S : Shown M) (found : M) (facts : Facts) : Typ
 -- `Looking F N`: evidence of the calls that look. `F` are files and directories that are open for
 -- reading, and `N` are the names in a directory.
 pub record Looking (F N : Type 0) : Type 1 where
-  -- `looked path facts`: a look at the path found these facts
+  -- `looked path facts`: a look at the path found these facts.
   pub looked : List ℕ → Facts → Type 0
-  -- `lacks path`: a look at the path found nothing there
+  -- `lacks path`: a look at the path found nothing there.
   pub lacks : List ℕ → Type 0
-  -- `followed path facts`: a look at what the path leads to found these facts
+  -- `followed path facts`: a look at what the path leads to found these facts.
   pub followed : List ℕ → Facts → Type 0
-  -- `unfollowed path`: a look at what the path leads to failed
+  -- `unfollowed path`: a look at what the path leads to failed.
   pub unfollowed : List ℕ → Type 0
-  -- `opened file path facts`: the file was opened at the path after a look found these facts
+  -- `opened file path facts`: the file was opened at the path after a look found these facts.
   pub opened : F → List ℕ → Facts → Type 0
-  -- `entered file path`: a directory was opened at the path
+  -- `entered file path`: a directory was opened at the path.
   pub entered : F → List ℕ → Type 0
-  -- `closed path`: the user may not open the directory at the path
+  -- `closed path`: the user may not open the directory at the path.
   pub closed : List ℕ → Type 0
-  -- `shows file facts`: these were the facts about the open file
+  -- `shows file facts`: these were the facts about the open file.
   pub shows : F → Facts → Type 0
-  -- `numbers file path`: the path leads into the open directory by its number, if `/proc` is there
+  -- `numbers file path`: the path leads into the open directory by its number, if `/proc` is there.
   pub numbers : F → List ℕ → Type 0
-  -- `lists names path`: these are the names in the directory at the path
+  -- `lists names path`: these are the names in the directory at the path.
   pub lists : N → List ℕ → Type 0
-  -- `unread names`: the bytes of the names that weren't read yet; `None` if unknown
+  -- `unread names`: the bytes of the names that weren't read yet; `None` if unknown.
   pub unread : N → Option (List ℕ)
 
 -- `Changing O W`: evidence of the calls that change. `O` are files that were there, open for
 -- reading and writing, and `W` are new ones.
 pub record Changing (O W : Type 0) : Type 1 where
-  -- `updates file path facts`: the file was opened at the path after a look found these facts
+  -- `updates file path facts`: the file was opened at the path after a look found these facts.
   pub updates : O → List ℕ → Facts → Type 0
-  -- `shows file facts`: these were the facts about it
+  -- `shows file facts`: these were the facts about it.
   pub shows : O → Facts → Type 0
-  -- `locks file`: this run has locked it
+  -- `locks file`: this run has locked it.
   pub locks : O → Type 0
-  -- `lacks_locks file`: its file system has no locks
+  -- `lacks_locks file`: its file system has no locks.
   pub lacks_locks : O → Type 0
-  -- `looks_beside file path facts`: a look at the path found these facts while the file was so
+  -- `looks_beside file path facts`: a look at the path found these facts while the file was so.
   pub looks_beside : O → List ℕ → Facts → Type 0
-  -- `starts start file`: `start` is the file at its start
+  -- `starts start file`: `start` is the file at its start.
   pub starts : O → O → Type 0
-  -- `cuts before len file`: what followed the first `len` bytes was cut off
+  -- `cuts before len file`: what followed the first `len` bytes was cut off.
   pub cuts : O → ℕ → O → Type 0
-  -- `syncs file`: its bytes are on the disk
+  -- `syncs file`: its bytes are on the disk.
   pub syncs : O → Type 0
-  -- `creates file path`: the new file was created at the path, where there was nothing
+  -- `creates file path`: the new file was created at the path, where there was nothing.
   pub creates : W → List ℕ → Type 0
-  -- `shows_new file facts`: these were the facts about it
+  -- `shows_new file facts`: these were the facts about it.
   pub shows_new : W → Facts → Type 0
-  -- `locks_new file`: this run has locked it
+  -- `locks_new file`: this run has locked it.
   pub locks_new : W → Type 0
-  -- `is_lockless file`: its file system has no locks
+  -- `is_lockless file`: its file system has no locks.
   pub is_lockless : W → Type 0
-  -- `appends before bytes count file`: so many first bytes of `bytes` were appended
+  -- `appends before bytes count file`: so many first bytes of `bytes` were appended.
   pub appends : W → List ℕ → ℕ → W → Type 0
-  -- `sets_owner file owner group answer`: setting this owner, if any, and the group was answered so
+  -- `sets_owner file owner group answer`: setting this owner, if any, and the group was answered
+  -- so.
   pub sets_owner : W → Option ℕ → ℕ → Result Unit Error → Type 0
-  -- `sets_mode file mode`: this mode was set
+  -- `sets_mode file mode`: this mode was set.
   pub sets_mode : W → ℕ → Type 0
-  -- `syncs_new file`: its bytes are on the disk
+  -- `syncs_new file`: its bytes are on the disk.
   pub syncs_new : W → Type 0
-  -- `renames from to`: the new file at the first path was given the second one
+  -- `renames from to`: the new file at the first path was given the second one.
   pub renames : List ℕ → List ℕ → Type 0
-  -- `removes path`: the file at the path was removed
+  -- `removes path`: the file at the path was removed.
   pub removes : List ℕ → Type 0
 
 -- `is_same a b`: both are the same file, by its device and its number there.

@@ -70,11 +70,11 @@ AreRooted w = All (λ d. IsRooted (scope_of w).paths (string_bytes d.path) d.roo
 
 -- `Place`: what a walk looks at.
 pub data Place : Type 0 where
-  -- `named path`: a path of the command line
+  -- `named path`: a path of the command line.
   named : List ℕ → Place
-  -- `given path`: a path of the input
+  -- `given path`: a path of the input.
   given : List ℕ → Place
-  -- `inside path name`: the path of a name in a directory
+  -- `inside path name`: the path of a name in a directory.
   inside : List ℕ → List ℕ → Place
 
 -- `path_of p`: the path of the place.

@@ -5,7 +5,7 @@ use Rattle.ud_model.specs.conditions.Constants.{constant_parts, constant_sign}
 use Rattle.ud_model.specs.conditions.Values.{constant_value}
 
 -- `IsOneDigit w z`: the word is a constant without a `u` that denotes `z`, and begins neither like
--- a name nor with a `-` or a byte 255
+-- a name nor with a `-` or a byte 255.
 pub record IsOneDigit (w : List ℕ) (z : ℤ) : Type 0 where
   pub sign : constant_sign (constant_parts w) ≡ Some false
   pub value : constant_value w ≡ Some z

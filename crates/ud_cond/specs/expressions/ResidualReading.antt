@@ -31,13 +31,13 @@ use Rattle.ud_cond.specs.expressions.Evaluation.{constant_value_of, name_value_o
 use Rattle.ud_cond.specs.expressions.Evaluation.{unary_value_of, binary_value_of, value_of_tree}
 use Rattle.ud_cond.specs.expressions.Evaluation.{cond_of_value}
 
--- `is_joining o`: the operator is `&&` or `||`
+-- `is_joining o`: the operator is `&&` or `||`.
 abbrev pub is_joining : Operator → Bool
 is_joining And = true
 is_joining Or = true
 is_joining o = false
 
--- `is_not o`: the operator is `!`
+-- `is_not o`: the operator is `!`.
 abbrev pub is_not : Operator → Bool
 is_not Not = true
 is_not o = false
@@ -56,11 +56,11 @@ pub record Kept : Type 0 where
   pub flags : List Bool
 
 -- `value_by v n`: the value `v` with its own least number, where `n` is the number in an expression
--- with a `u`
+-- with a `u`.
 abbrev pub value_by : Value → Amount → Value
 value_by v n = if v.unsigned then record v { number = n } else v
 
--- `leaf rules v n alone flags`: an operand of its own
+-- `leaf rules v n alone flags`: an operand of its own.
 abbrev pub leaf : Rules → Value → Amount → Bool → List Bool → Kept
 leaf rules v n alone flags = record {
   value = v;
@@ -72,7 +72,7 @@ leaf rules v n alone flags = record {
   flags = flags;
 }
 
--- `unary_kept rules o a`: a prefix operator and its operand
+-- `unary_kept rules o a`: a prefix operator and its operand.
 abbrev pub unary_kept : Rules → Operator → Kept → Kept
 unary_kept rules Not a = record {
   value = unary_value_of false Not a.value;
@@ -86,7 +86,7 @@ unary_kept rules Not a = record {
 unary_kept rules o a = leaf rules (unary_value_of false o a.value) (unary_amount true o a.number)
     a.alone (replicate (suc (length a.flags)) true)
 
--- `joined_kept rules o a b`: `&&` or `||` between two operands
+-- `joined_kept rules o a b`: `&&` or `||` between two operands.
 abbrev pub joined_kept : Rules → Operator → Kept → Kept → Kept
 joined_kept rules o a b = record {
   value = binary_value_of rules.strict false o a.value b.value;
@@ -102,7 +102,7 @@ joined_kept rules o a b = record {
       else a.flags ++ true ∷ b.flags;
 }
 
--- `binary_kept rules o a b`: an operator between two operands
+-- `binary_kept rules o a b`: an operator between two operands.
 abbrev pub binary_kept : Rules → Operator → Kept → Kept → Kept
 binary_kept rules And a b = joined_kept rules And a b
 binary_kept rules Or a b = joined_kept rules Or a b
@@ -110,7 +110,7 @@ binary_kept rules o a b = leaf rules (binary_value_of rules.strict false o a.val
     (binary_amount rules.strict true o a.number b.number) false
     (replicate (length a.flags + suc (length b.flags)) true)
 
--- `parens_kept a`: parentheses around a part
+-- `parens_kept a`: parentheses around a part.
 abbrev pub parens_kept : Kept → Kept
 parens_kept a = record a {
   left_alone = true;
@@ -118,13 +118,13 @@ parens_kept a = record a {
   flags = not (a.lost && a.left_alone) ∷ a.flags ++ not (a.lost && a.left_alone) ∷ [];
 }
 
--- `defined_flags p`: the flags of `defined` and a name, in parentheses if `p`
+-- `defined_flags p`: the flags of `defined` and a name, in parentheses if `p`.
 abbrev pub defined_flags : Bool → List Bool
 defined_flags false = true ∷ true ∷ []
 defined_flags true = true ∷ true ∷ true ∷ true ∷ []
 
 module _ (table : List Argument) (rules : Rules) where
-  -- `kept_meaning table rules`: the record of each part of an expression
+  -- `kept_meaning table rules`: the record of each part of an expression.
   abbrev pub kept_meaning : Meaning Kept
   kept_meaning = record {
     constant = λ w. leaf rules (constant_value_of w) (constant_value_of w).number false (true ∷ []);
@@ -137,7 +137,7 @@ module _ (table : List Argument) (rules : Rules) where
     parens = parens_kept;
   }
 
-  -- `kept_of_tree table rules e`: the record of the tree `e`
+  -- `kept_of_tree table rules e`: the record of the tree `e`.
   abbrev pub kept_of_tree : Expression → Kept
   kept_of_tree e = record {
     value = value_of_tree table rules.strict false e;
@@ -149,16 +149,17 @@ module _ (table : List Argument) (rules : Rules) where
     flags = keeps table rules e;
   }
 
--- `kept_meaning_of r`: the record of each part, by the table and the rules of `r`
+-- `kept_meaning_of r`: the record of each part, by the table and the rules of `r`.
 abbrev pub kept_meaning_of : Residuals → Meaning Kept
 kept_meaning_of r = kept_meaning r.symbols.now (as_rules r.rules)
 
--- `are_all_kept fs`: the residual has each of the tokens with the flags `fs`
+-- `are_all_kept fs`: the residual has each of the tokens with the flags `fs`.
 abbrev pub are_all_kept : List Bool → Bool
 are_all_kept [] = true
 are_all_kept (f ∷ fs) = f && are_all_kept fs
 
--- `lost_len fs`: the number of tokens before the first one that the residual has, by the flags `fs`
+-- `lost_len fs`: the number of tokens before the first one that the residual has, by the flags
+-- `fs`.
 abbrev pub lost_len : List Bool → ℕ
 lost_len [] = 0
 lost_len (true ∷ fs) = 0
@@ -171,7 +172,7 @@ KeepsWhole whole old start end new = (front middle back : List Bool) →
     old ≡ front ++ middle ++ back → start ≡ length front → end ≡ length front + length middle →
     whole ≡ are_all_kept middle → new ≡ front ++ replicate (length middle) true ++ back
 
--- `part_of k n`: the part `k`, whose flags begin at `n`
+-- `part_of k n`: the part `k`, whose flags begin at `n`.
 abbrev pub part_of : Kept → ℕ → Part
 part_of k n = record {
   value = k.value;
@@ -185,7 +186,7 @@ part_of k n = record {
   kept = n + lost_len k.flags;
 }
 
--- `kept_keeping`: a program keeps such parts, and notes the flags
+-- `kept_keeping`: a program keeps such parts, and notes the flags.
 abbrev pub kept_keeping : Keeping Kept Part (List Bool)
 kept_keeping = record { part = part_of; flags = λ k. k.flags; notes = λ fs. Some fs }
 

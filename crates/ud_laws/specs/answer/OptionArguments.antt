@@ -12,10 +12,10 @@ use Rattle.ud_model.specs.aids.LettersThen.{IsOptionWord}
 -- `AreOptions args`: each of `args` is a word of options, or the option-argument of the one before.
 pub data AreOptions : List (List ℕ) → Type 0 where
   no_options : AreOptions []
-  -- a word whose options have their arguments
+  -- a word whose options have their arguments.
   whole_word : {w : List ℕ} {c : ℕ} {cs : List ℕ} {args : List (List ℕ)} → IsOptionWord w c cs →
       (letters_give 0 (c ∷ cs)).waits ≡ None → AreOptions args → AreOptions (w ∷ args)
-  -- a word whose last option has the next word as its argument
+  -- a word whose last option has the next word as its argument.
   two_words : {w : List ℕ} {c : ℕ} {cs : List ℕ} {d : ℕ} {v : List ℕ} {args : List (List ℕ)} →
       IsOptionWord w c cs → (letters_give 0 (c ∷ cs)).waits ≡ Some d →
       AreOptions args → AreOptions (w ∷ v ∷ args)

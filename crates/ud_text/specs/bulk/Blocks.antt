@@ -7,7 +7,7 @@ use Rattle.ud_text.specs.bulk.BulkLexemes.{is_significant}
 use Rattle.ud_text.specs.declared.bulk.blocks.Block.{Block}
 
 -- `significant_bits bytes`: the bit mask of the significant bytes, the lowest bit for the first
--- byte
+-- byte.
 abbrev pub significant_bits : List ℕ → ℕ
 significant_bits bytes = mask_l (map is_significant bytes)
 

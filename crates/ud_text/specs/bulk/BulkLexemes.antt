@@ -25,43 +25,43 @@ use Rattle.ud_model.specs.aids.LexStates.{LexState, in_text, next_state, opens_c
 use Rattle.ud_text.specs.bulk.BulkStates.{bulk_state_after, HasNoStop, NoNewlineInBlock, code_state}
 
 -- `is_significant b`: outside comments and literals `b` may matter: `/`, a quote, a backslash or
--- `#`
+-- `#`.
 abbrev pub is_significant : ℕ → Bool
 is_significant b = (b == slash) || is_quote b || (b == backslash) || (b == number_sign)
 
--- `NoSignificant bytes`: none of the bytes is significant
+-- `NoSignificant bytes`: none of the bytes is significant.
 abbrev pub NoSignificant : List ℕ → Type 0
 NoSignificant [] = Unit {0}
 NoSignificant (b ∷ bytes) = (is_significant b ≡ false) × NoSignificant bytes
 
--- `NoHash bytes`: none of the bytes is a `#`
+-- `NoHash bytes`: none of the bytes is a `#`.
 abbrev pub NoHash : List ℕ → Type 0
 NoHash [] = Unit {0}
 NoHash (b ∷ bytes) = ((b == number_sign) ≡ false) × NoHash bytes
 
--- `is_star_pair a b`: a star before a slash or a backslash
+-- `is_star_pair a b`: a star before a slash or a backslash.
 abbrev pub is_star_pair : ℕ → ℕ → Bool
 is_star_pair a b = (a == star) && ((b == slash) || (b == backslash))
 
--- `NoStarPair bytes`: no two neighbours are a star pair
+-- `NoStarPair bytes`: no two neighbours are a star pair.
 abbrev pub NoStarPair : List ℕ → Type 0
 NoStarPair [] = Unit {0}
 NoStarPair (a ∷ []) = Unit {0}
 NoStarPair (a ∷ b ∷ bytes) = (is_star_pair a b ≡ false) × NoStarPair (b ∷ bytes)
 
--- `IsLineStart bytes`: a line begins after `bytes`, which end with a newline or are empty
+-- `IsLineStart bytes`: a line begins after `bytes`, which end with a newline or are empty.
 pub data IsLineStart : List ℕ → Type 0 where
   at_start : IsLineStart []
   after_newline : (prefix : List ℕ) → IsLineStart (prefix ++ newline ∷ [])
 
 -- `LastLineStarts bytes n`: the last line of `bytes` begins after the first `n` of them, or at the
--- end if the bytes end a line
+-- end if the bytes end a line.
 pub record LastLineStarts (bytes : List ℕ) (n : ℕ) : Type 0 where
   pub within : n ≤ length bytes
   pub begins : IsLineStart (take n bytes)
   pub one_line : NoNewline (drop n bytes)
 
--- `NoComment w bytes`: read from the lexer state `w`, no slash in `bytes` begins a comment
+-- `NoComment w bytes`: read from the lexer state `w`, no slash in `bytes` begins a comment.
 abbrev pub NoComment : LexState → List ℕ → Type 0
 NoComment w [] = Unit {0}
 NoComment w (b ∷ bytes) = (opens_comment w b ≡ false) × NoComment (next_state w b) bytes
@@ -82,12 +82,12 @@ pub record LineLexeme (white : Bool) (bytes : List ℕ) : Type 0 where
   pub quiet : HasNoStop (code_state white) bytes
   pub no_newline : NoNewlineInBlock (code_state white) bytes
 
--- `may_splice a b`: a newline directly after `a` and `b` may end a splice
+-- `may_splice a b`: a newline directly after `a` and `b` may end a splice.
 abbrev pub may_splice : ℕ → ℕ → Bool
 may_splice a b = (b == backslash) ||
     ((b == carriage_return) && ((a == backslash) || (a == carriage_return)))
 
--- `IsSplice bytes`: a backslash and the ending that it deletes (C11 5.1.1.2, phase 2)
+-- `IsSplice bytes`: a backslash and the ending that it deletes (C11 5.1.1.2, phase 2).
 pub data IsSplice : List ℕ → Type 0 where
   splice_newline : IsSplice (backslash ∷ newline ∷ [])
   splice_return_feed : IsSplice (backslash ∷ carriage_return ∷ newline ∷ [])

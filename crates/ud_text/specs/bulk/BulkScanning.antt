@@ -13,27 +13,27 @@ use Rattle.ud_model.specs.declared.kind.Mode.{Mode}
 use Rattle.ud_model.specs.declared.kind.Mode.TheVariants.{Plain}
 use Rattle.ud_text.specs.scan.ScannerState.{ScannerState, ScannerRepresents}
 
--- `line_in_mode mode line`: the line in this mode
+-- `line_in_mode mode line`: the line in this mode.
 abbrev pub line_in_mode : Mode → Line → (Mode × Line)
 line_in_mode mode line = (mode, line)
 
--- `lines_in_mode mode n lines`: the lines, numbered from `n` on, each in this mode
+-- `lines_in_mode mode n lines`: the lines, numbered from `n` on, each in this mode.
 abbrev pub lines_in_mode : Mode → ℕ → List (List ℕ) → List (Mode × Line)
 lines_in_mode mode n lines = map (line_in_mode mode) (numbered_from n lines)
 
 -- `HaveNoDirective mode before lines`: read in this mode after the readings `before`, no line has a
--- directive or a split keyword
+-- directive or a split keyword.
 abbrev pub HaveNoDirective : Mode → List Reading → List Line → Type 0
 HaveNoDirective mode before [] = Unit {0}
 HaveNoDirective mode before (line ∷ lines) =
     (content_of (scan_after before mode line) ≡ text) ×
     HaveNoDirective mode (before ++ next_reading before mode line ∷ []) lines
 
--- `AreWholeLines bytes`: the bytes end with a newline, or are empty
+-- `AreWholeLines bytes`: the bytes end with a newline, or are empty.
 abbrev pub AreWholeLines : List ℕ → Type 0
 AreWholeLines bytes = partial_line bytes ≡ []
 
--- `ArePlainText bytes`: the bytes are whole lines, and read in plain mode none has a directive
+-- `ArePlainText bytes`: the bytes are whole lines, and read in plain mode none has a directive.
 pub record ArePlainText (bytes : List ℕ) : Type 0 where
   pub ends : AreWholeLines bytes
   pub texts : (n : ℕ) (before : List Reading) →

@@ -21,7 +21,7 @@ use Rattle.ud_text.specs.declared.scan.lexer.Lexer.{Lexer}
 -- lines before `line` are skipped, and lead to `kept`.
 pub record ReadTo (start : BulkState) (bytes : List ℕ) (line : ℕ) (kept : BulkState) (at : ℕ)
     (now : BulkState) : Type 0 where
-  -- the lines before `line`, the bytes from there up to `at`, and the others
+  -- the lines before `line`, the bytes from there up to `at`, and the others.
   pub prefix : List ℕ
   pub mid : List ℕ
   pub rest : List ℕ
@@ -39,7 +39,7 @@ pub record ReadOutside (start : BulkState) (bytes : List ℕ) (line : ℕ) (kept
     (begins : Bool) (at : ℕ) : Type 0 where
   pub now_white : Bool
   pub so_far : ReadTo start bytes line kept at (code_state now_white)
-  -- the bytes from `line` up to `base`, and from there up to `at`
+  -- the bytes from `line` up to `base`, and from there up to `at`.
   pub before : List ℕ
   pub plain : List ℕ
   pub mid_is : so_far.mid ≡ before ++ plain
@@ -47,20 +47,20 @@ pub record ReadOutside (start : BulkState) (bytes : List ℕ) (line : ℕ) (kept
   pub base_leads : bulk_state_after kept before ≡ code_state begins
   pub no_comment : NoComment in_text plain
 
--- `bulk_state_of lexer`: the state at the beginning of a line, if the lexer is there
+-- `bulk_state_of lexer`: the state at the beginning of a line, if the lexer is there.
 abbrev pub bulk_state_of : Lexer → BulkState
 bulk_state_of lexer = line_state (lex_state_of lexer.state) lexer.white
 
--- `InOrder p bytes`: the positions of `p` are in order, and lie within the bytes
+-- `InOrder p bytes`: the positions of `p` are in order, and lie within the bytes.
 abbrev pub InOrder : Progress → List ℕ → Type 0
 InOrder p bytes = (p.line.at ≤ p.at) × (p.base ≤ p.at) × (p.at ≤ length bytes)
 
--- `ReadBy start bytes p`: the bytes are read up to `p`
+-- `ReadBy start bytes p`: the bytes are read up to `p`.
 abbrev pub ReadBy : BulkState → List ℕ → Progress → Type 0
 ReadBy start bytes p = ReadOutside start bytes p.line.at (bulk_state_of p.line.lexer) p.base
     p.begins p.at
 
--- `SkippedBy start bytes line`: the lines before `line` are skipped
+-- `SkippedBy start bytes line`: the lines before `line` are skipped.
 abbrev pub SkippedBy : BulkState → List ℕ → LineStart → Type 0
 SkippedBy start bytes line = Skipped start (take line.at bytes) (bulk_state_of line.lexer)
 
@@ -79,7 +79,7 @@ LeavesBlock bytes line at white result =
     ReadTo start bytes line.at (bulk_state_of line.lexer) at (block_state white) →
     MatchResult result (λ q. ReadBy start bytes q) (λ stop. SkippedBy start bytes stop)
 
--- `ReadsOnOrStops bytes p result`: a step from `p` reads on, or stops at the beginning of a line
+-- `ReadsOnOrStops bytes p result`: a step from `p` reads on, or stops at the beginning of a line.
 abbrev pub ReadsOnOrStops : List ℕ → Progress → Result Progress LineStart → Type 0
 ReadsOnOrStops bytes p result =
     (start : BulkState) → ReadBy start bytes p →

@@ -7,7 +7,7 @@ use Rattle.ud_model.specs.declared.limits.TheConstants.{LINE_BYTES}
 use Rattle.ud_text.specs.lines.LinesState.{LinesState, UpToNewline}
 
 -- `IsFirstLine chunk line`: `line` is the first line of `chunk`, whole, and no longer than a line
--- may be
+-- may be.
 pub record IsFirstLine (chunk line : List ℕ) : Type 0 where
   pub prefix : UpToNewline chunk (length line) true
   pub bytes : line ≡ take (length line) chunk

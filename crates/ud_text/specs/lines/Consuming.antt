@@ -12,16 +12,16 @@ use Rattle.ud_model.specs.declared.limits.TheConstants.{LINE_BYTES}
 use Rattle.ud_text.specs.lines.LinesState.{LinesState, UpToNewline}
 use Rattle.ud_text.specs.bulk.BulkScanning.{AreWholeLines}
 
--- `is_newline b`: the byte ends a line
+-- `is_newline b`: the byte ends a line.
 abbrev pub is_newline : ℕ → Bool
 is_newline b = b == newline
 
--- `EachFits texts`: no line has more bytes than a line may have
+-- `EachFits texts`: no line has more bytes than a line may have.
 abbrev pub EachFits : List (List ℕ) → Type 0
 EachFits texts = AllByRecursion (λ text. length text ≤ LINE_BYTES) texts
 
 -- `FirstIsLong bytes`: the first line of the bytes, if they have a whole one, has more bytes than a
--- line may have
+-- line may have.
 abbrev pub FirstIsLong : List ℕ → Type 0
 FirstIsLong bytes = (used : ℕ) → UpToNewline bytes used true → LINE_BYTES < used
 

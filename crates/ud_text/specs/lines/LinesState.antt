@@ -12,7 +12,7 @@ use Rattle.ud_text.specs.declared.lines.fault.TextFault.TheVariants.{TooManyLine
 
 -- `LinesState`: the bytes of the line so far; whether it has its newline; how many lines were
 -- consumed before it; whether the text has ended; the error after which the lines are fused; and
--- the number of the last line that the text may have
+-- the number of the last line that the text may have.
 pub record LinesState : Type 0 where
   pub held : List ℕ
   pub whole : Bool
@@ -21,7 +21,7 @@ pub record LinesState : Type 0 where
   pub fault : Option TextFault
   pub last_line : ℕ
 
--- `untaken last`: the lines before the first byte of a text that may have `last` lines
+-- `untaken last`: the lines before the first byte of a text that may have `last` lines.
 abbrev pub untaken : ℕ → LinesState
 untaken last = record {
   held = [];
@@ -33,7 +33,7 @@ untaken last = record {
 }
 
 -- `LinesRepresent lines text`: `text` was taken so far: it is the consumed lines, and the buffered
--- bytes
+-- bytes.
 pub record LinesRepresent (lines : LinesState) (text : List ℕ) : Type 0 where
   pub consumed : List (List ℕ)
   pub cut : split_lines text ≡ (if lines.whole
@@ -42,7 +42,7 @@ pub record LinesRepresent (lines : LinesState) (text : List ℕ) : Type 0 where
   pub count : lines.before ≡ length consumed
 
 -- `UpToNewline chunk used whole`: the first `used` bytes of `chunk` end with its first newline if
--- `whole`; otherwise they are all of `chunk`, which has no newline
+-- `whole`; otherwise they are all of `chunk`, which has no newline.
 pub record UpToNewline (chunk : List ℕ) (used : ℕ) (whole : Bool) : Type 0 where
   pub within : used ≤ length chunk
   pub all : whole ≡ false → (used ≡ length chunk) × NoNewline chunk
@@ -50,12 +50,12 @@ pub record UpToNewline (chunk : List ℕ) (used : ℕ) (whole : Bool) : Type 0 w
       (take used chunk ≡ prefix ++ 10 ∷ [])
 
 -- `with_fault lines fault`: the lines after an error: the buffered bytes stay, and the lines are
--- fused
+-- fused.
 abbrev pub with_fault : LinesState → TextFault → LinesState
 with_fault lines fault = record lines { fault = Some fault }
 
 -- `BreaksLimit lines chunk fault`: the chunk exceeds a limit: it has a byte for a line after the
--- last one, or else more bytes of the line than fit
+-- last one, or else more bytes of the line than fit.
 abbrev pub BreaksLimit : LinesState → List ℕ → TextFault → Type 0
 BreaksLimit lines chunk (TooManyLines line) =
     (line ≡ lines.before + 1) × (lines.last_line ≤ lines.before) ×
@@ -71,15 +71,15 @@ abbrev pub HasCapacity : ℕ → LinesState → ℕ → Type 0
 HasCapacity room lines left = room < LINE_BYTES → length lines.held + left ≤ room
 
 -- `IsComplete lines`: a line can be read: it has its newline, or the text has ended and has bytes
--- after its last newline
+-- after its last newline.
 abbrev pub IsComplete : LinesState → Type 0
 IsComplete lines = (lines.whole ≡ true) ⊎ ((lines.closed ≡ true) × (0 < length lines.held))
 
--- `IsLineOf body ending number line`: the line has this body, this ending and this number
+-- `IsLineOf body ending number line`: the line has this body, this ending and this number.
 abbrev pub IsLineOf : List ℕ → List ℕ → ℕ → Line → Type 0
 IsLineOf body ending number line = record { body = body; ending = ending; number = number } ≡ line
 
--- `IsLastLine text line`: the line is the last one of the text
+-- `IsLastLine text line`: the line is the last one of the text.
 abbrev pub IsLastLine : List ℕ → Line → Type 0
 IsLastLine text line = (earlier : List Line) × (lines_of text ≡ earlier ++ line ∷ [])
 

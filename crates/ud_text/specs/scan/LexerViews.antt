@@ -9,7 +9,7 @@ use Rattle.ud_text.specs.declared.scan.lexer.LexState.{LexState}
 use Rattle.ud_text.specs.declared.scan.lexer.LexState.TheVariants.{Text, Slash, Block, Star}
 use Rattle.ud_text.specs.declared.scan.lexer.LexState.TheVariants.{ToLineEnd, Literal, Backslash}
 
--- `lex_state_of state`: the lexer's state
+-- `lex_state_of state`: the lexer's state.
 abbrev pub lex_state_of : LexState → TextPlace
 lex_state_of Text = in_text
 lex_state_of Slash = at_slash
@@ -20,7 +20,7 @@ lex_state_of (Literal quote) = in_literal quote
 lex_state_of (Backslash quote) = at_backslash quote
 
 -- `shown_in borrowed masked`: the masked bytes of a line: the borrowed ones or, if there are none,
--- `masked`
+-- `masked`.
 abbrev pub shown_in : Option (Bor (List ℕ)) → List ℕ → List ℕ
 shown_in None masked = masked
 shown_in (Some bytes) masked = bytes.now

@@ -12,7 +12,7 @@ use Rattle.ud_text.specs.scan.ScannerState.{ScannerState, ScannerRepresents}
 use Rattle.ud_text.specs.contracts.scan.scanner.Scanner.{the_row}
 
 -- `ScansLine H scanner mode line`: if the scanner represents some readings, it then represents
--- these and the line's reading
+-- these and the line's reading.
 abbrev pub ScansLine : RattleType → MutBor ScannerState → Mode → TextLine → Fml
 ScansLine H scanner mode line =
     Rests (the_row H) scanner (λ new. (before : List Reading) →

@@ -30,32 +30,32 @@ use Rattle.ud_text.specs.scan.LexerViews.{lex_state_of}
 use Rattle.ud_text.specs.declared.scan.scanner.ScanState.{ScanState}
 use Rattle.ud_text.specs.declared.scan.scanner.LineFlags.{LineFlags}
 
--- `ends_in_block readings`: a block comment is open at the end of the last of these readings
+-- `ends_in_block readings`: a block comment is open at the end of the last of these readings.
 abbrev pub ends_in_block : List Reading → Bool
 ends_in_block [] = false
 ends_in_block (r ∷ []) = is_in_block r.scan.comment
 ends_in_block (r ∷ q ∷ readings) = ends_in_block (q ∷ readings)
 
--- `ScannerState`: the state that is carried from line to line
+-- `ScannerState`: the state that is carried from line to line.
 pub record ScannerState : Type 0 where
   -- the lexer's state after the spliced text of the C run, and whether its last logical line is
-  -- white except for a slash at the end
+  -- white except for a slash at the end.
   pub state : TextPlace
   pub white : Bool
-  -- the last line of the C run joins the next one
+  -- the last line of the C run joins the next one.
   pub joins : Bool
 
--- `initial_scanner_state`: the state of a C run without lines
+-- `initial_scanner_state`: the state of a C run without lines.
 abbrev pub initial_scanner_state : ScannerState
 initial_scanner_state = record { state = in_text; white = true; joins = false }
 
--- `ScannerRepresents scan_state before`: the carried state represents the readings `before`
+-- `ScannerRepresents scan_state before`: the carried state represents the readings `before`.
 pub record ScannerRepresents (scan_state : ScannerState) (before : List Reading) : Type 0 where
   pub reads : LexesTo (spliced_text (c_run_of before)) scan_state.state scan_state.white
   pub joins_is : scan_state.joins ≡ joins (c_run_of before)
   pub block_is : is_block (kind_in_state scan_state.state) ≡ ends_in_block before
 
--- `scanner_state_of c`: the state that the program carries
+-- `scanner_state_of c`: the state that the program carries.
 abbrev pub scanner_state_of : ScanState → ScannerState
 scanner_state_of c = record {
   state = lex_state_of c.lexer.state;
@@ -64,7 +64,7 @@ scanner_state_of c = record {
       c.joins;
 }
 
--- `scan_with masked facts`: the scan with these masked bytes and these facts
+-- `scan_with masked facts`: the scan with these masked bytes and these facts.
 abbrev pub scan_with : List ℕ → LineFlags → LineScan
 scan_with masked facts = record {
   masked = masked;
@@ -76,28 +76,28 @@ scan_with masked facts = record {
 }
 
 -- `ReadsNext mode old line new`: if `old` represents some readings, `new` represents them and the
--- line's reading in this mode
+-- line's reading in this mode.
 abbrev pub ReadsNext : Mode → ScanState → Line → ScanState → Type 0
 ReadsNext mode old line new =
     (before : List Reading) → ScannerRepresents (scanner_state_of old) before →
     ScannerRepresents (scanner_state_of new) (before ++ next_reading before mode line ∷ [])
 
 -- `IsNextScan mode old line scan`: after readings that `old` represents, `scan` is the scan of the
--- line in this mode
+-- line in this mode.
 abbrev pub IsNextScan : Mode → ScanState → Line → LineScan → Type 0
 IsNextScan mode old line scan =
     (before : List Reading) → ScannerRepresents (scanner_state_of old) before →
     scan ≡ scan_after before mode line
 
 -- `StaysAfter state line`: if `state` represents some readings, it also represents them and the
--- line's reading in any mode
+-- line's reading in any mode.
 abbrev pub StaysAfter : ScannerState → Line → Type 0
 StaysAfter state line =
     (mode : Mode) → (before : List Reading) → ScannerRepresents state before →
     ScannerRepresents state (before ++ next_reading before mode line ∷ [])
 
 -- `IsScanOf state line scan`: after readings that `state` represents, `scan` is the scan of the
--- line in any mode
+-- line in any mode.
 abbrev pub IsScanOf : ScannerState → Line → LineScan → Type 0
 IsScanOf state line scan =
     (mode : Mode) → (before : List Reading) → ScannerRepresents state before →
