@@ -14,7 +14,7 @@ after it has "gives:", the status and, after two spaces, the output. Under EXAMP
 commands, each of which changes its text.
 
 In docs/LIBRARY.md and the `///` and `//!` comments of all crates, the lines of a ```rust block must
-be consecutive lines of a source of crates/example_library, which is proved and run. Those of a
+be consecutive lines of a source of crates/test_examples, which is proved and run. Those of a
 ```text block, or of one without a language, must be consecutive lines of its stdout.
 """
 import difflib
@@ -121,7 +121,7 @@ def stripped(text):
 
 def quote(examples):
     """Looks for the code of the library's examples in the crate."""
-    library = TOP / "crates" / "example_library"
+    library = TOP / "crates" / "test_examples"
     code = "".join(stripped(it.read_text(encoding="utf-8")) for it in library.glob("src/**/*.rt"))
     printed = stripped((library / "stdout").read_text(encoding="utf-8"))
     pages = {examples.page: examples.text}

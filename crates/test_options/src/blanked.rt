@@ -4,8 +4,8 @@ use crate::arguments::has_flag;
 use crate::finding::Finding;
 use crate::lines::{ending_of, lines_of, may_be_edited};
 use crate::runs::run_with;
-use fuzz_texts::Case;
 use std::alloc::{AllocError, Global};
+use test_texts::Case;
 
 /// Checks the lines under `-b`, and under `-b -c`, if nothing is listed and the text ends in a
 /// newline.

@@ -3,8 +3,8 @@
 use crate::blanked::check_places;
 use crate::listed::check_unlisted;
 use crate::shared::check_shares;
-use fuzz_texts::Case;
 use std::alloc::{AllocError, Global};
+use test_texts::Case;
 
 /// The result of a check of a case.
 #[derive(Clone, Copy, Debug, PartialEq, Eq)]

@@ -4,8 +4,8 @@
 use crate::arguments::{has_value, may_go_on};
 use crate::finding::Finding;
 use crate::runs::{Run, run_with};
-use fuzz_texts::Case;
 use std::alloc::{AllocError, Global};
+use test_texts::Case;
 
 /// Names that are frequent in the texts, and one that isn't there.
 const NAMES: [&str; 6] = ["A", "B", "C", "X", "Y", "NOWHERE"];

@@ -1,8 +1,8 @@
 //! Runs of the tool over memory.
 
 use crate::arguments::with_more;
-use fuzz_texts::{Case, Chunks};
 use std::alloc::{AllocError, Global};
+use test_texts::{Case, Chunks};
 use unifdef::{Watched, tool};
 
 /// The output, the message and the status of a run.

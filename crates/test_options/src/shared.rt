@@ -8,8 +8,8 @@ use crate::arguments::has_flag;
 use crate::finding::Finding;
 use crate::lines::{lines_of, may_be_edited};
 use crate::runs::{Run, has_usage, run_with};
-use fuzz_texts::Case;
 use std::alloc::{AllocError, Global};
+use test_texts::Case;
 
 /// Checks the run and the run with `-c`, if no other option lists or changes lines.
 pub(crate) fn check_shares(alloc: Global, case: &Case) -> Result<Finding, AllocError> {

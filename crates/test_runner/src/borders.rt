@@ -5,8 +5,8 @@ use crate::case::Behavior;
 use crate::mismatch::{Mismatch, Way};
 use crate::outcome::Outcome;
 use crate::running::run;
-use ref_unifdef::answer_to;
 use std::alloc::{AllocError, Global};
+use test_reference::answer_to;
 use test_streams::parted;
 
 /// Bytes that stop a run, and some that only seem to, each after some plain bytes of its line.

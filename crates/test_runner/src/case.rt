@@ -1,8 +1,8 @@
 //! A case: arguments, an input, how the streams behave, and the outcome that must follow.
 
 use crate::outcome::Outcome;
-use ref_unifdef::Answer;
 use std::alloc::Global;
+use test_reference::Answer;
 use test_streams::{CountedSink, CountedSource, Sink, Source};
 
 /// How a reader and a writer behave.

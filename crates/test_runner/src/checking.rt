@@ -5,9 +5,9 @@ use crate::failing::{failing_flush, failing_reads, failing_writes};
 use crate::mismatch::{Mismatch, Way};
 use crate::outcome::Outcome;
 use crate::running::{run, run_over};
-use ref_unifdef::answer_to;
 use std::alloc::{AllocError, Global};
 use std::io::Read;
+use test_reference::answer_to;
 
 /// Runs a case, and finds the first way in which its outcome isn't the expected one.
 ///

@@ -3,8 +3,8 @@
 
 use crate::outcome::copy;
 use memchr::memrchr;
-use ref_unifdef::{Answer, answer_to};
 use std::alloc::{AllocError, Global};
+use test_reference::{Answer, answer_to};
 use ud_args::{display_name, plan};
 
 /// The exit status after a fault.

@@ -6,8 +6,8 @@ use crate::expected::{after_bytes, unflushed, within_room};
 use crate::mismatch::{Mismatch, Way};
 use crate::outcome::Outcome;
 use crate::running::run;
-use ref_unifdef::{Answer, answer_to};
 use std::alloc::{AllocError, Global};
+use test_reference::{Answer, answer_to};
 use unifdef::plan;
 
 /// Finds the first of the last places at which a failing read has an unexpected outcome.

@@ -2,10 +2,10 @@
 //! rely on.
 
 use crate::options::differing_seed;
-use fuzz_texts::{Case, agree, case_of, smallest};
 use std::alloc::Global;
 use std::io;
 use std::process::ExitCode;
+use test_texts::{Case, agree, case_of, smallest};
 
 /// Runs `count` cases from the seed `first` on, as the arguments say: the first seed, the number of
 /// seeds, and `options` for the checks of options in place of the reference.

@@ -18,7 +18,7 @@ pub(crate) fn differing_check(
             args.push(String::from_str(alloc, word.as_str())?)?;
         }
         let text = Vec::from_slice(alloc, case.input.as_slice())?;
-        let found = differing(alloc, &fuzz_texts::Case { args, text, seed })?;
+        let found = differing(alloc, &test_texts::Case { args, text, seed })?;
         if found.is_some() {
             return Ok(found);
         }
@@ -38,7 +38,7 @@ pub(crate) fn differing_seed(
 ) -> Result<Option<(u64, &'static str)>, AllocError> {
     for at in 0..count {
         let seed = first.wrapping_add(at);
-        if let Some(name) = differing(alloc, &fuzz_texts::case_of(alloc, seed)?)? {
+        if let Some(name) = differing(alloc, &test_texts::case_of(alloc, seed)?)? {
             return Ok(Some((seed, name)));
         }
     }
@@ -46,7 +46,7 @@ pub(crate) fn differing_seed(
 }
 
 /// Returns the name of the first check that differs on a case.
-fn differing(alloc: Global, case: &fuzz_texts::Case) -> Result<Option<&'static str>, AllocError> {
+fn differing(alloc: Global, case: &test_texts::Case) -> Result<Option<&'static str>, AllocError> {
     for (finding, name) in findings(alloc, case)?.iter().zip(CHECKS) {
         if *finding == Finding::Differs {
             return Ok(Some(name));

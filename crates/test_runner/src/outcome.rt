@@ -1,8 +1,8 @@
 //! The outcome of a run: the tool's answer, and the numbers of calls of its streams.
 
-use ref_unifdef::Answer;
 use std::alloc::{AllocError, Global};
 use std::fmt;
+use test_reference::Answer;
 
 /// An answer, and numbers of calls. A number that isn't checked is `None`.
 #[derive(Drop)]

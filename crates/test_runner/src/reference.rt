@@ -1,10 +1,10 @@
 //! The reference as a program, which scripts run beside ./unifdef.
 
-use ref_unifdef::answer_to;
 use std::io::{self, Read, Write};
 use std::process::ExitCode;
+use test_reference::answer_to;
 
-/// Reads all of standard input, and answers as `ref_unifdef` does.
+/// Reads all of standard input, and answers as `test_reference` does.
 ///
 /// An operand is the input's name in messages, and isn't opened.
 ///

@@ -2,9 +2,9 @@
 
 use crate::case::Behavior;
 use crate::outcome::Outcome;
-use ref_unifdef::Answer;
 use std::alloc::{AllocError, Global};
 use std::io::Read;
+use test_reference::Answer;
 use unifdef::{Watched, tool};
 
 /// Runs the tool over streams that behave so.

@@ -2,8 +2,8 @@
 
 use crate::case::Case;
 use crate::chunks::Chunks;
-use ref_unifdef::{Answer, answer_to};
 use std::alloc::{AllocError, Global};
+use test_reference::{Answer, answer_to};
 use unifdef::{Watched, tool};
 
 /// Returns whether the tool, which reads the case's text in chunks, gives the reference's answer.

@@ -1,7 +1,7 @@
 -- A section reads its groups one level deeper, and after each line less of the text is left.
 use Rattle.std.proofs.Common.{◌+◌, ◌*◌, ◌-◌, ◌≤◌, length}
 use Rattle.ud_model.specs.declared.limits.TheConstants.{OPEN_SECTIONS}
-use Rattle.ref_unifdef.proofs.reading.Reader.+reading.Given as goal
+use Rattle.test_reference.proofs.reading.Reader.+reading.Given as goal
 
 abbrev pub decreases-position : goal.decreases-position
 decreases-position l = 2 * (OPEN_SECTIONS - l.level) + 1

@@ -5,7 +5,7 @@ use Rattle.std.specs.Prelude.{ℕ, ◌==◌, if◌then◌else◌}
 use Rattle.ud_model.specs.answer.Printing.{Judged}
 use Rattle.ud_model.specs.declared.verdict.Verdict.{Verdict}
 use Rattle.ud_model.specs.declared.verdict.Verdict.TheVariants.{Remove}
-use Rattle.example_library.specs.declared.outline.Outline.{Outline}
+use Rattle.test_examples.specs.declared.outline.Outline.{Outline}
 
 -- `outline_verdict length verdict`: the verdict in an outline of a line whose keyword has `length`
 -- bytes. A text line has no keyword.

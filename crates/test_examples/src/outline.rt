@@ -1,7 +1,7 @@
 //! A printer of its own: the directives that are left, without the text between them.
 
 ghost use Rattle.std.specs.Prelude.{◌≡◌};
-ghost use Rattle.example_library.specs.Outlines.{outline_verdict};
+ghost use Rattle.test_examples.specs.Outlines.{outline_verdict};
 
 use ud_model::Verdict;
 use ud_sections::{Pieces, Show, Step};
@@ -14,7 +14,7 @@ pub(crate) struct Outline<S> {
 }
 
 impl<S: Show> Outline<S> {
-    ghost use Rattle.example_library.specs.Outlines.{inner_of};
+    ghost use Rattle.test_examples.specs.Outlines.{inner_of};
 
     /// The outline of a printer at the beginning of a text.
     pub(crate) fn new(inner: S) -> Outline<S>
@@ -26,7 +26,7 @@ impl<S: Show> Outline<S> {
 
 impl<S: Show> Show for Outline<S> {
     ghost use Rattle.std.specs.Prelude.{map};
-    ghost use Rattle.example_library.specs.Outlines.{outlined};
+    ghost use Rattle.test_examples.specs.Outlines.{outlined};
 
     ghost represents = { λ o before. S.represents o.inner (map outlined before) };
 

@@ -3,7 +3,7 @@ use Rattle.std.proofs.Common.{refl, subst, sym}
 use Rattle.ud_model.specs.text.Lines.{NoNewline}
 use Rattle.ud_text.proofs.lemmas.lines.NewlineLemmas.{no_newline_front, up_to_newline-none}
 use Rattle.ud_text.proofs.lemmas.scan.MaskLemmas.{no_newline-take}
-use Rattle.ref_unifdef.proofs.cutting.cut_line.Goals as goal
+use Rattle.test_reference.proofs.cutting.cut_line.Goals as goal
 
 pub returns-in_default-clause-one_line : goal.returns-in_default-clause-one_line
 returns-in_default-clause-one_line c = ((up_to_newline-none c.args.text.now c.in_default.ensures).all refl).1
