@@ -58,15 +58,6 @@ struct Place<'t> {
     until: usize,
 }
 
-/// A line that was read.
-#[derive(Clone, Copy)]
-struct Taken<'t> {
-    /// The mention that began on the line or before it, if any.
-    begun: Option<Begun<'t>>,
-    /// The line joins the next one.
-    goes_on: bool,
-}
-
 /// Returns whether a mention of this class, with the text `after`, names a symbol.
 fn names_listed(symbols: &Symbols, class: Class, after: &[u8]) -> bool
     ensures { (calls : List Argument) → TableRepresents symbols.now calls →
@@ -211,8 +202,8 @@ impl Search {
         self.append(name, symbols, begun)
     }
 
-    /// Ends the mention of a line, unless the line joins the next one. Returns the place after the
-    /// line.
+    /// Ends the mention of a line, which `place` has, unless it goes on with the next line. Returns
+    /// the place after the line.
     ///
     /// # Errors
     /// Fails if memory runs out.
@@ -220,7 +211,7 @@ impl Search {
         &mut self,
         name: &[u8],
         symbols: &Symbols,
-        taken: Taken<'t>,
+        goes_on: bool,
         place: Place<'t>,
     ) -> Result<Place<'t>, AllocError>
         requires room { place.number + 1 < 2 ^ 64 }
@@ -229,22 +220,18 @@ impl Search {
         ensures number { IfOk result (λ p. p.number ≡ place.entry.number + 1) }
         ensures until { IfOk result (λ p. p.until ≡ place.entry.until) }
         ensures ended { IfOk result (λ p. (calls : List Argument) →
-            TableRepresents symbols.now calls → EndsLine symbols.now calls name.now taken.entry.begun
-            taken.entry.goes_on self.old self.new p.begun) }
+            TableRepresents symbols.now calls → EndsLine symbols.now calls name.now place.entry.begun
+            goes_on self.old self.new p.begun) }
     {
         let number = place.number + 1;
-        if taken.goes_on {
-            return Ok(Place {
-                number,
-                begun: taken.begun,
-                until: place.until,
-            });
+        if goes_on {
+            return Ok(Place { number, ..place });
         }
-        self.end(name, symbols, taken.begun)?;
+        self.end(name, symbols, place.begun)?;
         Ok(Place {
             number,
             begun: None,
-            until: place.until,
+            ..place
         })
     }
 
@@ -281,20 +268,17 @@ impl Search {
                 until,
             }),
             Stretch::TooLong(_) => {
-                let taken = Taken {
-                    begun: place.begun,
-                    goes_on: false,
-                };
-                Ok(self.end_line(name, symbols, taken, Place { until, ..place })?)
+                Ok(self.end_line(name, symbols, false, Place { until, ..place })?)
             }
             Stretch::Fitting(line, scan) => {
                 let after = &mut self.after;
                 let begun = take_line(place.begun, &scan, &line, place.number, symbols, after)?;
-                let taken = Taken {
+                let place = Place {
                     begun,
-                    goes_on: scan.joins_after,
+                    until,
+                    ..place
                 };
-                Ok(self.end_line(name, symbols, taken, Place { until, ..place })?)
+                Ok(self.end_line(name, symbols, scan.joins_after, place)?)
             }
         }
     }
