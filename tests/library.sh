@@ -38,15 +38,6 @@ for chunk in 1 7 64 65536; do
   filters+=("$work/filter$chunk")
 done
 
-# The function of C.md.
-{
-  printf '#include <stdio.h>\n#include <string.h>\n#include <unifdef.h>\n'
-  awk '/^```/ { inside = $0 == "```c"; next } inside' docs/C.md
-  printf 'int main(int argc, char **argv) {\n'
-  printf '    return argc != 2 ? 3 : strip_file(argv[1], strlen(argv[1]), stdin, stdout);\n}\n'
-} > "$work/page.c"
-build page "$work/page.c"
-
 # gives STATUS OUTPUT PROGRAM..: what a program must give. An hour is a guard against hanging.
 gives() {
   local status=0
@@ -58,16 +49,13 @@ gives() {
 }
 
 # A read error is no end of the text. A fault and a full output end an endless text.
-for program in "$work/page" "$work/filter65536"; do
-  gives 1 x "$program" -DA < <(printf '#ifdef A\nx\n#endif\n')
-  gives 2 '' "$program" -DA < "$work"
-  gives 2 x "$program" -DA < <(echo x; yes '#endif' 2> /dev/null)
-  status=0
-  yes 2> /dev/null | timeout 3600 "$program" -DA > /dev/full 2> "$work/err" ||
-    status=${PIPESTATUS[1]}
-  [ "$status" -eq 2 ] || fail "$program with a full output: status $status"
-done
-gives 2 '' "$work/filter65536" -DA < "$work"
+filter=$work/filter65536
+gives 1 x "$filter" -DA < <(printf '#ifdef A\nx\n#endif\n')
+gives 2 x "$filter" -DA < <(echo x; yes '#endif' 2> /dev/null)
+status=0
+yes 2> /dev/null | timeout 3600 "$filter" -DA > /dev/full 2> "$work/err" || status=${PIPESTATUS[1]}
+[ "$status" -eq 2 ] || fail "the filter with a full output: status $status"
+gives 2 '' "$filter" -DA < "$work"
 [ "$(cat "$work/err")" = 'filter: Read error' ]
 
 # C++, with the warnings that its compiler has for C's null pointers.
