@@ -5,3 +5,4 @@ pub mod DefinedOperands
 pub mod Keepings
 pub mod Digits
 pub mod ResidualReading
+pub mod PackedAmounts

@@ -58,6 +58,7 @@ impl Keeper for Scope<'_> {
         PackedValue::of(unary(self, operator, operand.value()))
     }
 
+    #[inline(always)]
     fn binary(
         &self,
         operator: Operator,

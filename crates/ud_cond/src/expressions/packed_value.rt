@@ -1,21 +1,31 @@
 //! Values packed for the stacks of a long expression, which saves a third of their memory.
 
-ghost use Rattle.std.specs.Prelude.{◌≡◌, Some, None, if◌then◌else◌};
-ghost use Rattle.ud_model.specs.conditions.Values.{amount_from};
+ghost use Rattle.std.specs.Prelude.{◌≡◌};
+ghost use Rattle.ud_cond.specs.expressions.PackedAmounts.{amount_of};
 
 use crate::expressions::values::Value;
 use std::marker::Model;
 use ud_model::Amount;
+
+/// How a number is known. The variants come in the order of those of `Amount`, so none is computed.
+#[derive(Clone, Copy, Default)]
+enum Kind {
+    /// It isn't known.
+    #[default]
+    Unknown,
+    /// It is this number.
+    Whole,
+    /// It is this number or a greater one.
+    Least,
+}
 
 /// A left operand that takes no more memory than its number and facts.
 #[derive(Default, Drop)]
 pub(crate) struct PackedValue {
     /// The number or the least one, if it is known.
     number: i64,
-    /// `true` if the number is known, or the least one that it may be.
-    is_known: bool,
-    /// `true` if the number is the least one.
-    is_least: bool,
+    /// How the number is known.
+    kind: Kind,
     /// `true` if a constant in the operand, or one that a symbol in it resolves to, has a `u`.
     has_u: bool,
     /// `true` if the operand names a symbol of the table.
@@ -25,14 +35,13 @@ pub(crate) struct PackedValue {
 }
 
 impl Model for PackedValue {
-    ghost use Rattle.std.specs.Prelude.{Some, None, if◌then◌else◌};
-    ghost use Rattle.ud_model.specs.conditions.Values.{amount_from};
     ghost use Rattle.ud_cond.specs.declared.expressions.values.Value as declared;
+    ghost use Rattle.ud_cond.specs.expressions.PackedAmounts.{amount_of};
 
     ghost Value = { declared.Value };
 
     ghost view = { λ o. record {
-      number = amount_from o.is_least (if o.is_known then Some o.number else None);
+      number = amount_of o.kind o.number;
       unsigned = o.has_u;
       listed = o.is_listed;
       calls_undefined = o.calls_undefined;
@@ -44,11 +53,10 @@ impl PackedValue {
     pub(crate) fn of(value: Value) -> PackedValue
         ensures { result ≡ value }
     {
-        let (number, is_known, is_least) = pack(value.number);
+        let (kind, number) = pack(value.number);
         PackedValue {
             number,
-            is_known,
-            is_least,
+            kind,
             has_u: value.unsigned,
             is_listed: value.listed,
             calls_undefined: value.calls_undefined,
@@ -60,12 +68,10 @@ impl PackedValue {
         ensures { result ≡ self.now }
     {
         Value {
-            number: if !self.is_known {
-                Amount::Anything
-            } else if self.is_least {
-                Amount::AtLeast(self.number)
-            } else {
-                Amount::Exactly(self.number)
+            number: match self.kind {
+                Kind::Unknown => Amount::Anything,
+                Kind::Whole => Amount::Exactly(self.number),
+                Kind::Least => Amount::AtLeast(self.number),
             },
             unsigned: self.has_u,
             listed: self.is_listed,
@@ -74,14 +80,14 @@ impl PackedValue {
     }
 }
 
-/// Returns the fields that pack what is known of a number: the number or the least one, whether it
-/// is known, and whether it is the least one.
-fn pack(amount: Amount) -> (i64, bool, bool)
-    ensures { amount ≡ amount_from result.2 (if result.1 then Some result.0 else None) }
+/// Returns how a number is known, and this number.
+#[inline(always)]
+fn pack(amount: Amount) -> (Kind, i64)
+    ensures { amount ≡ amount_of result.0 result.1 }
 {
     match amount {
-        Amount::Anything => (0, false, false),
-        Amount::Exactly(number) => (number, true, false),
-        Amount::AtLeast(least) => (least, true, true),
+        Amount::Anything => (Kind::Unknown, 0),
+        Amount::Exactly(number) => (Kind::Whole, number),
+        Amount::AtLeast(least) => (Kind::Least, least),
     }
 }

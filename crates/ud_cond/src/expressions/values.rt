@@ -369,7 +369,6 @@ fn mirrored(operator: Operator) -> Operator
 }
 
 /// Applies a binary operator to two operands, known or not.
-#[inline(always)]
 fn apply_binary(
     strict: bool,
     unsigned: bool,
@@ -395,6 +394,24 @@ pub(crate) fn binary_amount(
     a: Amount,
     b: Amount,
 ) -> Amount
+    ensures { result ≡ spec.binary_amount strict unsigned operator a b }
+{
+    match (a, b) {
+        (Amount::Exactly(a), Amount::Exactly(b)) => {
+            exactly(apply_binary_known(unsigned, operator, a, b))
+        }
+        (Amount::Exactly(known), Amount::Anything) | (Amount::Anything, Amount::Exactly(known)) => {
+            exactly(short_circuits(strict, operator, known))
+        }
+        (Amount::Anything, Amount::Anything) => Amount::Anything,
+        _ => least_binary(strict, unsigned, operator, a, b),
+    }
+}
+
+/// Returns the value of a binary operator between operands, one of which is known to be at least a
+/// number.
+#[inline(never)]
+fn least_binary(strict: bool, unsigned: bool, operator: Operator, a: Amount, b: Amount) -> Amount
     ensures { result ≡ spec.binary_amount strict unsigned operator a b }
 {
     let first = counted(operator, a, b);
