@@ -51,7 +51,7 @@ test_small_stack() {
   is src/plain.c 'yes\n'
   for words in -DA '-p -r -DA'; do
     put src/plain.c "$text$(repeat x 9000)\n"
-    within 1 -s 650 $words src
+    within 1 -s 700 $words src
     is src/plain.c "yes\n$(repeat x 9000)\n"
   done
   for kind in '(A)' '!A' '- A'; do
