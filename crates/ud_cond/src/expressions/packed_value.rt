@@ -7,16 +7,16 @@ use crate::expressions::values::Value;
 use std::marker::Model;
 use ud_model::Amount;
 
-/// How a number is known. The variants come in the order of those of `Amount`, so none is computed.
+/// How a number bounds a value. The variants have the order of `Amount`, so packing copies a byte.
 #[derive(Clone, Copy, Default)]
-enum Kind {
-    /// It isn't known.
+enum Bound {
+    /// The value may be any number.
     #[default]
-    Unknown,
-    /// It is this number.
-    Whole,
-    /// It is this number or a greater one.
-    Least,
+    Unbounded,
+    /// The value is the number.
+    Exact,
+    /// The value is the number or a greater one.
+    Lower,
 }
 
 /// A left operand that takes no more memory than its number and facts.
@@ -24,8 +24,8 @@ enum Kind {
 pub(crate) struct PackedValue {
     /// The number or the least one, if it is known.
     number: i64,
-    /// How the number is known.
-    kind: Kind,
+    /// How the number bounds the value.
+    bound: Bound,
     /// `true` if a constant in the operand, or one that a symbol in it resolves to, has a `u`.
     has_u: bool,
     /// `true` if the operand names a symbol of the table.
@@ -41,7 +41,7 @@ impl Model for PackedValue {
     ghost Value = { declared.Value };
 
     ghost view = { λ o. record {
-      number = amount_of o.kind o.number;
+      number = amount_of o.bound o.number;
       unsigned = o.has_u;
       listed = o.is_listed;
       calls_undefined = o.calls_undefined;
@@ -53,10 +53,10 @@ impl PackedValue {
     pub(crate) fn of(value: Value) -> PackedValue
         ensures { result ≡ value }
     {
-        let (kind, number) = pack(value.number);
+        let (bound, number) = pack(value.number);
         PackedValue {
             number,
-            kind,
+            bound,
             has_u: value.unsigned,
             is_listed: value.listed,
             calls_undefined: value.calls_undefined,
@@ -68,10 +68,10 @@ impl PackedValue {
         ensures { result ≡ self.now }
     {
         Value {
-            number: match self.kind {
-                Kind::Unknown => Amount::Anything,
-                Kind::Whole => Amount::Exactly(self.number),
-                Kind::Least => Amount::AtLeast(self.number),
+            number: match self.bound {
+                Bound::Unbounded => Amount::Anything,
+                Bound::Exact => Amount::Exactly(self.number),
+                Bound::Lower => Amount::AtLeast(self.number),
             },
             unsigned: self.has_u,
             listed: self.is_listed,
@@ -80,14 +80,14 @@ impl PackedValue {
     }
 }
 
-/// Returns how a number is known, and this number.
+/// Returns a number and how it bounds the value.
 #[inline(always)]
-fn pack(amount: Amount) -> (Kind, i64)
+fn pack(amount: Amount) -> (Bound, i64)
     ensures { amount ≡ amount_of result.0 result.1 }
 {
     match amount {
-        Amount::Anything => (Kind::Unknown, 0),
-        Amount::Exactly(number) => (Kind::Whole, number),
-        Amount::AtLeast(least) => (Kind::Least, least),
+        Amount::Anything => (Bound::Unbounded, 0),
+        Amount::Exactly(number) => (Bound::Exact, number),
+        Amount::AtLeast(least) => (Bound::Lower, least),
     }
 }

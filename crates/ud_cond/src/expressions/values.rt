@@ -408,8 +408,7 @@ pub(crate) fn binary_amount(
     }
 }
 
-/// Returns the value of a binary operator between operands, one of which is known to be at least a
-/// number.
+/// Returns the value of a binary operator, if an operand is known to be at least a number.
 #[inline(never)]
 fn least_binary(strict: bool, unsigned: bool, operator: Operator, a: Amount, b: Amount) -> Amount
     ensures { result ≡ spec.binary_amount strict unsigned operator a b }
