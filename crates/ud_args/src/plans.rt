@@ -17,6 +17,7 @@ ghost use Rattle.ud_args.specs.ParsedArgs.{as_parsed, parsed_arg};
 ghost use Rattle.ud_args.specs.ParsedSettings.{IsSetting, IsUsageOf, SetsSymbol, as_argument};
 ghost use Rattle.ud_args.specs.LeastSymbols.{least_argument};
 ghost use Rattle.ud_args.specs.TreeWords.{unifdef_arg};
+ghost use Rattle.ud_args.specs.Drafts.{AddsGiven, FailsAt};
 ghost use Rattle.ud_args.specs.Plans.{PlanRepresents};
 
 use crate::command_line::ParsedArg;
@@ -134,11 +135,8 @@ impl PlanDraft {
     /// The fault of `given`. Or `OutOfMemory`, if `given` is valid and sets a symbol, and the
     /// allocation for it fails. The draft is then useless.
     pub(crate) fn apply(&mut self, given: ParsedArg<'_>) -> Result<(), Usage>
-        ensures ok { (gs : List GivenInWords) → PlanRepresents self.old gs →
-            OnOk result (PlanRepresents self.new (gs ++ parsed_arg given.entry ∷ [])) }
-        ensures err { (gs : List GivenInWords) → PlanRepresents self.old gs →
-            (more : List GivenInWords)
-            → IfErr result (IsUsageOf (gs ++ parsed_arg given.entry ∷ more)) }
+        ensures ok { AddsGiven (parsed_arg given.entry) self.old self.new result }
+        ensures err { FailsAt (parsed_arg given.entry) self.old result }
     {
         match parse_arg(given, self.operand.is_some()) {
             Err(fault) => Err(fault),
@@ -151,11 +149,8 @@ impl PlanDraft {
     /// # Errors
     /// As `apply`.
     pub(crate) fn apply_in_tree(&mut self, given: ParsedArg<'_>) -> Result<(), Usage>
-        ensures ok { (gs : List GivenInWords) → PlanRepresents self.old gs →
-            OnOk result (PlanRepresents self.new (gs ++ unifdef_arg (as_parsed given.entry) ∷ [])) }
-        ensures err { (gs : List GivenInWords) → PlanRepresents self.old gs →
-            (more : List GivenInWords)
-            → IfErr result (IsUsageOf (gs ++ unifdef_arg (as_parsed given.entry) ∷ more)) }
+        ensures ok { AddsGiven (unifdef_arg (as_parsed given.entry)) self.old self.new result }
+        ensures err { FailsAt (unifdef_arg (as_parsed given.entry)) self.old result }
     {
         match least_in(given) {
             Some(symbol) => self.apply_least(symbol),
@@ -168,12 +163,10 @@ impl PlanDraft {
     /// # Errors
     /// `TooManyFiles` after an operand. `OutOfMemory` if an allocation fails.
     fn apply_least(&mut self, least: LeastSymbol<'_>) -> Result<(), Usage>
-        ensures ok { (gs : List GivenInWords) (g : GivenInWords) → PlanRepresents self.old gs →
-            SetsSymbol g (least_argument least.entry) →
-            OnOk result (PlanRepresents self.new (gs ++ g ∷ [])) }
-        ensures err { (gs : List GivenInWords) (g : GivenInWords) → PlanRepresents self.old gs →
-            SetsSymbol g (least_argument least.entry) → (more : List GivenInWords) →
-            IfErr result (IsUsageOf (gs ++ g ∷ more)) }
+        ensures ok { (g : GivenInWords) → SetsSymbol g (least_argument least.entry) →
+            AddsGiven g self.old self.new result }
+        ensures err { (g : GivenInWords) → SetsSymbol g (least_argument least.entry) →
+            FailsAt g self.old result }
     {
         if self.operand.is_some() {
             return Err(Usage::TooManyFiles);
@@ -189,9 +182,9 @@ impl PlanDraft {
     /// # Errors
     /// `OutOfMemory` if an allocation fails.
     fn define<'a>(&mut self, name: &'a [u8], value: &'a [u8]) -> Result<(), Usage>
-        ensures ok { (gs : List GivenInWords) (g : GivenInWords) → PlanRepresents self.old gs →
-            self.old.operand ≡ None → SetsSymbol g (argument_for name.now (Some value.now) false) →
-            OnOk result (PlanRepresents self.new (gs ++ g ∷ [])) }
+        ensures ok { (g : GivenInWords) → self.old.operand ≡ None →
+            SetsSymbol g (argument_for name.now (Some value.now) false) →
+            AddsGiven g self.old self.new result }
         ensures err { (g : GivenInWords) →
             SetsSymbol g (argument_for name.now (Some value.now) false) →
             IfErr result (λ u. (u ≡ Usage.OutOfMemory) × IsSome (argument_in g)) }
@@ -211,9 +204,8 @@ impl PlanDraft {
     /// # Errors
     /// `OutOfMemory` if an allocation for a symbol fails.
     fn set(&mut self, setting: Setting<'_>) -> Result<(), Usage>
-        ensures ok { (gs : List GivenInWords) → (g : GivenInWords) → PlanRepresents self.old gs →
-            self.old.operand ≡ None → IsSetting g setting.entry
-            → OnOk result (PlanRepresents self.new (gs ++ g ∷ [])) }
+        ensures ok { (g : GivenInWords) → self.old.operand ≡ None → IsSetting g setting.entry →
+            AddsGiven g self.old self.new result }
         ensures err { (g : GivenInWords) → IsSetting g setting.entry →
             IfErr result (λ u. (u ≡ Usage.OutOfMemory) × IsSome (argument_in g)) }
     {

@@ -10,17 +10,17 @@ use Rattle.ud_args.proofs.ParsedArgLemmas.{first_fault-behind_operand}
 use Rattle.ud_args.proofs.plans.PlanDraft.apply_least.Goals as goal
 
 pub returns-then-is_some-clause-err : goal.returns-then-is_some-clause-err
-returns-then-is_some-clause-err c = λ gs g p s more.
+returns-then-is_some-clause-err c = λ g s gs p more.
     let scanned : is_some (operand_in gs) ≡ true = grind arith in
     first_fault-behind_operand gs more g p.right scanned
 
 pub returns-in_default-clause-err : goal.returns-in_default-clause-err
-returns-in_default-clause-err c = λ gs g p s more.
+returns-in_default-clause-err c = λ g s gs p more.
     let scanned : is_some (operand_in gs) ≡ false = grind arith in
     stores gs g (least_argument c.args.least) more p.right scanned s
 
 pub returns-clause-err : goal.returns-clause-err
-returns-clause-err c = λ gs g p s more.
+returns-clause-err c = λ g s gs p more.
     let scanned : is_some (operand_in gs) ≡ false = grind arith in
     let puts = stores gs g (least_argument c.args.least) more p.right scanned s in
     IfErr-weaker c.define.result (λ u. (u ≡ OutOfMemory) × IsSome (argument_in g)) (IsUsageOf (gs ++ g ∷ more))
