@@ -25,7 +25,7 @@ pub data Chooses : Option Entry → Option Entry → Type 0 where
       Chooses (Some (record { value = Some least; ignoring = ignoring }))
       (Some (record { value = Some text; ignoring = ignoring }))
 
--- `ChoosesNumbers t u`: the tables have the same entry for each name, but for symbols of which `t`
--- has the least value, `u` may have numbers.
+-- `ChoosesNumbers t u`: the tables have the same entry for each name, but where `t` has the least
+-- value of a symbol, `u` may have a number.
 abbrev pub ChoosesNumbers : List Argument → List Argument → Type 0
 ChoosesNumbers t u = (name : List ℕ) → Chooses (entry_in t name) (entry_in u name)
