@@ -1,7 +1,7 @@
 //! Conditions and names alone, without lines or sections.
 
 ghost use Rattle.std.specs.Prelude.{◌≤◌, length};
-ghost use Rattle.ud_model.specs.declared.limits.TheConstants.{LINE_BYTES};
+ghost use Rattle.ud_model.specs.declared.limits.TheConstants.{MAX_LINE_BYTES};
 
 use anyhow::{Result, ensure};
 use std::alloc::Global;
@@ -46,7 +46,7 @@ pub(crate) fn print_conditions(rt: &impl Print, alloc: Global) -> Result<()> {
 
 /// Prints the condition of an `#if` with this expression, and its names.
 fn print_condition(rt: &impl Print, text: &[u8], symbols: &Symbols) -> Result<()>
-    requires fits { length text.now ≤ LINE_BYTES }
+    requires fits { length text.now ≤ MAX_LINE_BYTES }
 {
     let rules = Rules {
         constants: false,

@@ -1,7 +1,7 @@
 //! The properties of a line that are kept once the line is read.
 
 ghost use Rattle.std.specs.Prelude.{◌+◌, ◌≤◌, length};
-ghost use Rattle.ud_model.specs.declared.limits.TheConstants.{LINE_BYTES};
+ghost use Rattle.ud_model.specs.declared.limits.TheConstants.{MAX_LINE_BYTES};
 
 use std::alloc::{AllocError, Global};
 use ud_cond::{Answer, Rules, Symbols, condition};
@@ -48,7 +48,7 @@ pub(crate) fn classify<'a>(
     names: Vec<u8>,
 ) -> Result<ClassifiedLine<'a>, Cut>
     requires masked { length scan.now.masked.now ≤ length line.body.now }
-    requires fits { length line.body.now ≤ LINE_BYTES }
+    requires fits { length line.body.now ≤ MAX_LINE_BYTES }
 {
     let (role, keyword, answer) = match directive(scan)? {
         None => (None, Span { at: 0, len: 0 }, UNDECIDED),
@@ -75,7 +75,7 @@ pub(crate) fn classify<'a>(
 /// An `#else` is true, and a directive that a continuation cuts is unknown. A directive that joins
 /// the next line opens no plain section.
 fn decide(scan: &Scan<'_>, found: &Directive<'_>, symbols: &Symbols, settings: Settings) -> Answer
-    requires fits { length found.now.after.now ≤ LINE_BYTES }
+    requires fits { length found.now.after.now ≤ MAX_LINE_BYTES }
 {
     if found.kind.role() == Role::ElseGroup {
         return Answer {
@@ -100,7 +100,7 @@ pub(crate) fn list(
     listing: Listing,
     level: usize,
 ) -> Result<Vec<u8>, AllocError>
-    requires fits { length scan.now.masked.now ≤ LINE_BYTES }
+    requires fits { length scan.now.masked.now ≤ MAX_LINE_BYTES }
 {
     let mut names = Vec::new(alloc);
     let mut lister = match listing {

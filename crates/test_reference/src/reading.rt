@@ -3,7 +3,7 @@
 
 ghost use Rattle.std.specs.Prelude.{◌≡◌, ◌<◌, ◌≤◌, length, IfOk, IfSome, OnOk};
 ghost use Rattle.ud_model.specs.text.Lines.{NoNewline};
-ghost use Rattle.ud_model.specs.declared.limits.TheConstants.{LINE_BYTES, OPEN_SECTIONS};
+ghost use Rattle.ud_model.specs.declared.limits.TheConstants.{MAX_LINE_BYTES, MAX_DEPTH};
 
 use crate::classify_line::{ClassifiedLine, classify, list};
 use crate::cutting::cut_line;
@@ -11,7 +11,7 @@ use crate::messages::{Fault, FaultyLine};
 use crate::tree::{Group, Node, Section};
 use std::alloc::{AllocError, Global};
 use ud_cond::Symbols;
-use ud_model::{LINE_BYTES, Mode, OPEN_SECTIONS, Role, Settings, TEXT_LINES};
+use ud_model::{MAX_DEPTH, MAX_LINE_BYTES, MAX_LINES, Mode, Role, Settings};
 use ud_text::{Line, Scanner};
 
 /// The state of reading a text.
@@ -74,7 +74,7 @@ impl<'a> Reader<'a> {
     /// a limit.
     fn next_line(&mut self) -> Option<Line<'a>>
         ensures one_line { IfSome result (λ line. NoNewline line.body.now) }
-        ensures fits { IfSome result (λ line. length line.body.now ≤ LINE_BYTES) }
+        ensures fits { IfSome result (λ line. length line.body.now ≤ MAX_LINE_BYTES) }
         ensures left { length self.new.rest.now ≤ length self.old.rest.now }
         ensures shorter { IfSome result
             (λ line. length self.new.rest.now < length self.old.rest.now) }
@@ -82,12 +82,12 @@ impl<'a> Reader<'a> {
         if self.fault.is_some() || self.rest.is_empty() {
             return None;
         }
-        if self.last >= TEXT_LINES {
-            self.record_fault(TEXT_LINES + 1, Fault::TooManyLines);
+        if self.last >= MAX_LINES {
+            self.record_fault(MAX_LINES + 1, Fault::TooManyLines);
             return None;
         }
         let (line, rest) = cut_line(self.rest, self.last + 1);
-        if line.body.len() + line.ending.len() > LINE_BYTES {
+        if line.body.len() + line.ending.len() > MAX_LINE_BYTES {
             self.record_fault(line.number, Fault::LineTooLong);
             return None;
         }
@@ -119,7 +119,7 @@ impl<'a> Reader<'a> {
     /// of the text or to a fault.
     #[cycle(reading)]
     fn position(&mut self, mode: Mode, level: usize) -> Result<Position<'a>, AllocError>
-        requires { level ≤ OPEN_SECTIONS }
+        requires { level ≤ MAX_DEPTH }
         ensures left { OnOk result (length self.new.rest.now ≤ length self.old.rest.now) }
         ensures shorter { IfOk result (λ position. IfSome position.closer
             (λ r. length self.new.rest.now < length self.old.rest.now)) }
@@ -131,7 +131,7 @@ impl<'a> Reader<'a> {
                     self.lines_read.push(line_read)?;
                     nodes.push(Node::Text)?;
                 }
-                Some(Role::IfGroup) if level == OPEN_SECTIONS => {
+                Some(Role::IfGroup) if level == MAX_DEPTH => {
                     self.record_fault(line_read.line.number, Fault::TooManyLevels);
                 }
                 Some(Role::IfGroup) => {
@@ -159,7 +159,7 @@ impl<'a> Reader<'a> {
         mode: Mode,
         level: usize,
     ) -> Result<Section, AllocError>
-        requires { level < OPEN_SECTIONS }
+        requires { level < MAX_DEPTH }
         ensures left { OnOk result (length self.new.rest.now ≤ length self.old.rest.now) }
     {
         let if_line = first.line.number;

@@ -6,7 +6,7 @@ use std::process::Abort;
 use std::test::Fail;
 use ud_args::Plan;
 use ud_cond::{Answer, Rules, Symbols, condition, names};
-use ud_model::{Cond, Kind, LINE_BYTES};
+use ud_model::{Cond, Kind, MAX_LINE_BYTES};
 
 /// Symbols whose values are symbols.
 const CHAIN: &str = "-DA=B -DB=-7 -DC=D -DD=C -DE=U -UU";
@@ -123,7 +123,7 @@ pub(crate) fn rules_of(plan: &Plan) -> Rules {
 
 /// Compares the condition of an `#if` and of an `#elif`.
 fn check(rt: &impl Abort, plan: &Plan, text: &[u8], cond: Cond) {
-    assert!(rt; text.len() <= LINE_BYTES);
+    assert!(rt; text.len() <= MAX_LINE_BYTES);
     for kind in [Kind::If, Kind::Elif] {
         check_answer(
             rt,
@@ -140,7 +140,7 @@ fn check(rt: &impl Abort, plan: &Plan, text: &[u8], cond: Cond) {
 
 /// Compares the condition of a directive.
 fn check_answer(rt: &impl Abort, plan: &Plan, kind: Kind, text: &[u8], answer: Answer) {
-    assert!(rt; text.len() <= LINE_BYTES);
+    assert!(rt; text.len() <= MAX_LINE_BYTES);
     assert_eq!(rt;
         condition(kind, text, plan.symbols(), rules_of(plan)),
         answer,
@@ -195,7 +195,7 @@ fn a_condition_by_name_asks_for_one_name(rt: HostRuntime) -> Result<(), Fail> {
 
 /// Compares the names of a directive.
 fn check_names(rt: &impl Abort, kind: Kind, text: &[u8], expected: &[&[u8]]) {
-    assert!(rt; text.len() <= LINE_BYTES);
+    assert!(rt; text.len() <= MAX_LINE_BYTES);
     let mut listed = names(kind, text);
     for name in expected {
         assert!(rt; listed.next() == Some(*name));
@@ -235,9 +235,9 @@ fn names_come_in_order(rt: HostRuntime) -> Result<(), Fail> {
 const LONG_TEXTS: &[(&[u8], &[u8], usize, &[u8], usize, Cond)] = &[
     // Parentheses are read to the longest line.
     (b" ", b"(", 32_767, b"A", 32_767, Cond::Yes),
-    (b"", b"(", LINE_BYTES, b"", 0, Cond::Unknown),
+    (b"", b"(", MAX_LINE_BYTES, b"", 0, Cond::Unknown),
     // Operators are read to the longest line.
-    (b"", b"!", LINE_BYTES - 1, b"A", 0, Cond::No),
+    (b"", b"!", MAX_LINE_BYTES - 1, b"A", 0, Cond::No),
     (b"", b"A+", 32_767, b"A ", 0, Cond::Yes),
 ];
 

@@ -3,13 +3,13 @@
 use crate::stepping::is_one_line;
 use std::process::Abort;
 use std::test::Fail;
-use ud_model::{Kind, LINE_BYTES, Mode};
+use ud_model::{Kind, MAX_LINE_BYTES, Mode};
 use ud_sections::{Cut, Directive, Lister, Span, directive};
 use ud_text::{Line, Scanner};
 
 /// Compares the directive of a first line in C mode that ends in a newline.
 fn check(rt: &impl Abort, body: &[u8], expected: Result<Option<Directive<'_>>, Cut>) {
-    assert!(rt; body.len() <= LINE_BYTES);
+    assert!(rt; body.len() <= MAX_LINE_BYTES);
     assert!(rt; is_one_line(body));
     let mut scanner = Scanner::new();
     let line = Line {
@@ -95,7 +95,7 @@ const NAMES: &[(&[u8], &[&[u8]])] = &[
 
 /// Compares the names of a first line in C mode that ends in a newline.
 fn check_names(rt: &impl Abort, body: &[u8], expected: &[&[u8]]) {
-    assert!(rt; body.len() <= LINE_BYTES);
+    assert!(rt; body.len() <= MAX_LINE_BYTES);
     assert!(rt; is_one_line(body));
     let mut scanner = Scanner::new();
     let line = Line {
@@ -104,7 +104,7 @@ fn check_names(rt: &impl Abort, body: &[u8], expected: &[&[u8]]) {
         number: 1,
     };
     let scan = scanner.read(Mode::C, &line);
-    assert!(rt; scan.masked.len() <= LINE_BYTES);
+    assert!(rt; scan.masked.len() <= MAX_LINE_BYTES);
     let mut listed = Lister::names(&scan);
     for name in expected {
         assert!(rt; listed.next() == Some(*name));

@@ -7,7 +7,7 @@ use std::process::Abort;
 use std::test::Fail;
 use ud_args::Plan;
 use ud_cond::{TokenFlags, residual};
-use ud_model::{Cond, LINE_BYTES};
+use ud_model::{Cond, MAX_LINE_BYTES};
 
 /// Symbols of some rows.
 const SOURCES: &str = "-UVMS -UMSWIN -UWIN32 -U_WIN32 -U__alpha__ -DCONFIG_SMP";
@@ -112,7 +112,7 @@ unknown FFFFFFFT  !(B && A) && X
 
 /// Compares the condition and the flags of a residual.
 fn check(rt: &impl Abort, plan: &Plan, text: &[u8], cond: Cond, stays: &[u8]) {
-    assert!(rt; text.len() <= LINE_BYTES);
+    assert!(rt; text.len() <= MAX_LINE_BYTES);
     let mut flags = TokenFlags::new();
     let found = residual(text, plan.symbols(), rules_of(plan), &mut flags);
     assert!(rt;
@@ -141,7 +141,7 @@ fn check_flags(rt: &impl Abort, text: &[u8], flags: &[bool], stays: &[u8]) {
 
 /// Passes if a text has no residual.
 fn check_none(rt: &impl Abort, plan: &Plan, text: &[u8]) {
-    assert!(rt; text.len() <= LINE_BYTES);
+    assert!(rt; text.len() <= MAX_LINE_BYTES);
     let found = residual(text, plan.symbols(), rules_of(plan), &mut TokenFlags::new());
     assert!(rt; found.is_none(), "a residual of {}", text.escape_ascii());
 }

@@ -7,7 +7,7 @@ use memchr::memchr;
 use std::alloc::{AllocError, Global};
 use std::process::Abort;
 use ud_args::{Plan, plan};
-use ud_model::{LINE_BYTES, Mode, Verdict};
+use ud_model::{MAX_LINE_BYTES, Mode, Verdict};
 use ud_sections::{Machine, SectionFault, Step};
 use ud_text::{Line, Scanner};
 
@@ -57,7 +57,7 @@ impl Stepper {
 
     /// Reads the next line, which has this body and ends in a newline.
     pub(crate) fn step(&mut self, rt: &impl Abort, body: &[u8]) -> Result<Step, SectionFault> {
-        assert!(rt; body.len() < LINE_BYTES);
+        assert!(rt; body.len() < MAX_LINE_BYTES);
         assert!(rt; is_one_line(body));
         assert!(rt; self.last < 1_000_000);
         self.last += 1;

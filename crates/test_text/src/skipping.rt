@@ -7,7 +7,7 @@ ghost use Rattle.ud_model.specs.text.Lines.{NoNewline};
 use std::alloc::{AllocError, Global};
 use std::process::Abort;
 use std::test::Fail;
-use ud_model::{LINE_BYTES, Mode};
+use ud_model::{MAX_LINE_BYTES, Mode};
 use ud_sections::directive;
 use ud_text::{Line, Scanner};
 
@@ -114,7 +114,7 @@ fn read_alike(
     ensures { IfOk result (λ n. n ≤ length bytes.now) }
 {
     let end = body_len(bytes);
-    if end > LINE_BYTES {
+    if end > MAX_LINE_BYTES {
         return Err(Fail::new("a line is short"));
     }
     let ending = ending_len(&bytes[end..]);
@@ -139,7 +139,7 @@ fn read_text(rt: &impl Abort, scanner: &mut Scanner, lines: &[u8]) -> Result<usi
             break;
         }
         let end = body_len(rest);
-        if end > LINE_BYTES {
+        if end > MAX_LINE_BYTES {
             return Err(Fail::new("a line is short"));
         }
         let tail = &rest[end..];

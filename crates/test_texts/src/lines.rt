@@ -3,7 +3,7 @@
 use crate::expressions::write_expression;
 use crate::writer::Writer;
 use std::alloc::AllocError;
-use ud_model::LINE_BYTES;
+use ud_model::MAX_LINE_BYTES;
 
 /// Bytes that mean something to a scanner, and some that don't.
 const SCRAPS: [&[u8]; 40] = [
@@ -231,7 +231,7 @@ pub(crate) fn write_long_line(writer: &mut Writer) -> Result<(), AllocError> {
         return write_ending(writer);
     }
     let fill = writer.random.pick(&FILLS);
-    let bytes = LINE_BYTES - 4 + writer.random.below(6);
+    let bytes = MAX_LINE_BYTES - 4 + writer.random.below(6);
     for _ in 0..bytes {
         if writer.text.len().saturating_sub(before) < bytes {
             writer.put(fill)?;

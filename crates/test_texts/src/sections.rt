@@ -3,7 +3,7 @@
 use crate::lines::{Turn, write_directive, write_long_line, write_text_line};
 use crate::writer::Writer;
 use std::alloc::AllocError;
-use ud_model::OPEN_SECTIONS;
+use ud_model::MAX_DEPTH;
 
 /// Writes a text.
 pub(crate) fn write_text(writer: &mut Writer) -> Result<(), AllocError> {
@@ -27,7 +27,7 @@ pub(crate) fn write_text(writer: &mut Writer) -> Result<(), AllocError> {
 /// Writes about as many openers as there may be open sections, then lines, and mostly closes the
 /// sections.
 fn write_deep(writer: &mut Writer) -> Result<(), AllocError> {
-    for _ in 0..OPEN_SECTIONS - 4 + writer.random.below(6) {
+    for _ in 0..MAX_DEPTH - 4 + writer.random.below(6) {
         write_directive(writer, Turn::Opens)?;
     }
     write_lines(writer)

@@ -7,7 +7,7 @@ ghost use Rattle.std.specs.Prelude.{◌≡◌, ◌≤◌, List, length, option_m
 ghost use Rattle.ud_model.specs.text.Bytes.{are_word_bytes, is_identifier};
 ghost use Rattle.ud_model.specs.conditions.Table.{Argument};
 ghost use Rattle.ud_model.specs.conditions.Conditions as spec;
-ghost use Rattle.ud_model.specs.declared.limits.TheConstants.{LINE_BYTES};
+ghost use Rattle.ud_model.specs.declared.limits.TheConstants.{MAX_LINE_BYTES};
 ghost use Rattle.ud_cond.specs.symbols.SymbolTable.{TableRepresents};
 ghost use Rattle.ud_cond.specs.CondViews.{as_rules, as_decision};
 ghost use Rattle.ud_cond.specs.expressions.Evaluation.{cond_of_value};
@@ -66,7 +66,7 @@ pub(crate) fn cond_of_value(rules: Rules, value: Value) -> Cond
 /// Returns the condition of the text of an `#if` or `#elif`.
 #[inline(never)]
 fn expression_cond(text: &[u8], symbols: &Symbols, rules: Rules) -> Cond
-    requires fits { length text.now ≤ LINE_BYTES }
+    requires fits { length text.now ≤ MAX_LINE_BYTES }
     ensures { result ≡ spec.expression_cond text.now symbols.now (as_rules rules) }
 {
     let signed = Scope {
@@ -146,7 +146,7 @@ pub(crate) fn negate(cond: Cond) -> Cond
 /// Returns the decision on a text by the test that makes its condition true.
 #[inline(always)]
 fn condition_by_test(test: Test, text: &[u8], symbols: &Symbols, rules: Rules) -> Answer
-    requires fits { length text.now ≤ LINE_BYTES }
+    requires fits { length text.now ≤ MAX_LINE_BYTES }
     ensures { as_decision result ≡
         spec.decision_by_test test text.now symbols.now (as_rules rules) }
 {
@@ -173,9 +173,9 @@ fn condition_by_test(test: Test, text: &[u8], symbols: &Symbols, rules: Rules) -
 /// Returns the condition of a directive that no continuation cuts, and whether its section is
 /// plain text.
 ///
-/// `text` is what follows the keyword on its masked line, at most `LINE_BYTES`. The result depends
-/// only on the calls that `symbols` represents. Text that isn't understood is unknown, and so are
-/// `#else` and `#endif`. Takes no memory.
+/// `text` is what follows the keyword on its masked line, at most `MAX_LINE_BYTES`. The result
+/// depends only on the calls that `symbols` represents. Text that isn't understood is unknown, and
+/// so are `#else` and `#endif`. Takes no memory.
 ///
 /// (C11 6.10.1; unifdef(1), `-D`, `-U`, `-iD`, `-iU`, `-k` and `-K`)
 ///
@@ -189,7 +189,7 @@ fn condition_by_test(test: Test, text: &[u8], symbols: &Symbols, rules: Rules) -
 /// ```
 #[inline(always)]
 pub fn condition(kind: Kind, text: &[u8], symbols: &Symbols, rules: Rules) -> Answer
-    requires fits { length text.now ≤ LINE_BYTES }
+    requires fits { length text.now ≤ MAX_LINE_BYTES }
     ensures { (calls : List Argument) → TableRepresents symbols.now calls →
         as_decision result ≡ spec.condition_of kind text.now calls (as_rules rules) }
 {

@@ -4,7 +4,7 @@ ghost use Rattle.std.specs.Prelude.{◌≡◌, ◌≤◌, length, is_some, optio
 ghost use Rattle.ud_model.specs.conditions.Parsing.{expression_of};
 ghost use Rattle.ud_model.specs.conditions.Names.{names_of, names_in_tree, name_alone};
 ghost use Rattle.ud_model.specs.conditions.Conditions.{sole_name};
-ghost use Rattle.ud_model.specs.declared.limits.TheConstants.{LINE_BYTES};
+ghost use Rattle.ud_model.specs.declared.limits.TheConstants.{MAX_LINE_BYTES};
 
 use crate::conditions::sole_name;
 use crate::expressions::evaluation::evaluate;
@@ -16,7 +16,7 @@ pub(crate) mod names_iter;
 
 /// Returns whether a text is one expression.
 fn is_expression(text: &[u8]) -> bool
-    requires fits { length text.now ≤ LINE_BYTES }
+    requires fits { length text.now ≤ MAX_LINE_BYTES }
     ensures { result ≡ is_some (expression_of text.now) }
 {
     let scope = Scope {
@@ -29,7 +29,7 @@ fn is_expression(text: &[u8]) -> bool
 
 /// Returns the names of an expression, in order and with repeats; none if `text` isn't one.
 fn expression_names(text: &[u8]) -> Names<'_>
-    requires fits { length text.now ≤ LINE_BYTES }
+    requires fits { length text.now ≤ MAX_LINE_BYTES }
     ensures { result ≡ names_in_tree (expression_of text.now) }
 {
     if is_expression(text) {
@@ -56,7 +56,8 @@ fn single_name(text: &[u8]) -> Names<'_>
 /// arguments. An `#ifdef`, `#ifndef`, `#elifdef` or `#elifndef` has its one name. Text that isn't
 /// understood has no names, nor do `#else` and `#endif`.
 ///
-/// `text` is what follows the keyword on its masked line, at most `LINE_BYTES`. Takes no memory.
+/// `text` is what follows the keyword on its masked line, at most `MAX_LINE_BYTES`. Takes no
+/// memory.
 ///
 /// (unifdef(1), `-s` and `-S`)
 ///
@@ -73,7 +74,7 @@ fn single_name(text: &[u8]) -> Names<'_>
 /// name: LIMIT
 /// ```
 pub fn names(kind: Kind, text: &[u8]) -> Names<'_>
-    requires fits { length text.now ≤ LINE_BYTES }
+    requires fits { length text.now ≤ MAX_LINE_BYTES }
     ensures { result ≡ names_of kind text.now }
 {
     match kind.test() {

@@ -1,28 +1,28 @@
 //! A flag for each token of a text.
 
 ghost use Rattle.std.specs.Prelude.{◌≡◌, ◌<◌, ◌+◌, List, Bool, ◌∷◌, ◌++◌, [], length, replicate};
-ghost use Rattle.ud_model.specs.declared.limits.TheConstants.{LINE_BYTES};
+ghost use Rattle.ud_model.specs.declared.limits.TheConstants.{MAX_LINE_BYTES};
 
 use arrayvec::ArrayVec;
 use std::marker::Model;
-use ud_model::LINE_BYTES;
+use ud_model::MAX_LINE_BYTES;
 
-/// A flag for each token of a text of at most `LINE_BYTES`.
+/// A flag for each token of a text of at most `MAX_LINE_BYTES`.
 #[derive(Drop)]
 pub struct TokenFlags {
     /// The flags, in the order of the tokens.
-    flags: ArrayVec<bool, LINE_BYTES>,
+    flags: ArrayVec<bool, MAX_LINE_BYTES>,
 }
 
 impl Model for TokenFlags {
     ghost use Rattle.std.specs.Prelude.{List, Bool, length, ◌≤◌};
-    ghost use Rattle.ud_model.specs.declared.limits.TheConstants.{LINE_BYTES};
+    ghost use Rattle.ud_model.specs.declared.limits.TheConstants.{MAX_LINE_BYTES};
 
     ghost Value = { List Bool };
 
     ghost view = { λ s. s.flags.items };
 
-    ghost invariant = { λ s. length s.flags.items ≤ LINE_BYTES };
+    ghost invariant = { λ s. length s.flags.items ≤ MAX_LINE_BYTES };
 }
 
 impl TokenFlags {
@@ -58,7 +58,7 @@ impl TokenFlags {
 
     /// Appends a flag.
     pub(crate) fn push(&mut self, flag: bool)
-        requires { length self.old < LINE_BYTES }
+        requires { length self.old < MAX_LINE_BYTES }
         ensures { self.new ≡ self.old ++ flag ∷ [] }
     {
         self.flags.push(flag);

@@ -4,7 +4,7 @@ use Rattle.ud_model.specs.text.Lines.{split_lines}
 use Rattle.ud_model.specs.sections.Items.{Options}
 use Rattle.ud_model.specs.answer.Printing.{Judged}
 use Rattle.ud_model.specs.answer.Outcomes.{lines_so_far}
-use Rattle.ud_model.specs.declared.limits.TheConstants.{TEXT_LINES}
+use Rattle.ud_model.specs.declared.limits.TheConstants.{MAX_LINES}
 use Rattle.ud_text.specs.lines.LinesState.{LinesState, untaken}
 use Rattle.ud_text.specs.lines.LimitFaults.{limit_of}
 use Rattle.ud_sections.specs.sections.SectionFaults.{fault_of}
@@ -29,11 +29,11 @@ pub in_session : {S : Type 0} (represents : S → List Judged → Type 0) (piece
     EngineRepresents represents piece_of e s.options s.pieces [] [] → IsInSession represents piece_of e s
 in_session represents piece_of e h k l = grind arith
 
-pub none_count : (lines : LinesState) → lines ≡ untaken TEXT_LINES → lines.before ≤ TEXT_LINES
+pub none_count : (lines : LinesState) → lines ≡ untaken MAX_LINES → lines.before ≤ MAX_LINES
 none_count lines is = let z = ap (λ (l : LinesState). l.before) is in omega (arith, z)
 
-pub none_begun : (lines : LinesState) → lines ≡ untaken TEXT_LINES →
-    0 < length lines.held → lines.before < TEXT_LINES
+pub none_begun : (lines : LinesState) → lines ≡ untaken MAX_LINES →
+    0 < length lines.held → lines.before < MAX_LINES
 none_begun lines is some = let z = ap (λ (l : LinesState). length l.held) is in omega (arith, z, some)
 
 module _ {S : Type 0} (represents : S → List Judged → Type 0) (piece_of : S → List Judged → Judged → List ℕ) (o : Options) (piece : List Judged → Judged → List ℕ)

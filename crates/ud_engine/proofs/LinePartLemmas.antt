@@ -8,7 +8,7 @@ use Rattle.ud_model.specs.sections.Items.{Options, line_of, next_item}
 use Rattle.ud_model.specs.sections.Faults.{Fault, FaultOf, too_many_lines, line_too_long, Case, Holds}
 use Rattle.ud_model.specs.answer.Printing.{Judged}
 use Rattle.ud_model.specs.answer.Outcomes.{IsLimit, by_lines, by_bytes, lines_so_far, line_so_far, stops, breaks, ReadsSoFar, goes_on}
-use Rattle.ud_model.specs.declared.limits.TheConstants.{LINE_BYTES, TEXT_LINES, OPEN_SECTIONS}
+use Rattle.ud_model.specs.declared.limits.TheConstants.{MAX_LINE_BYTES, MAX_LINES, MAX_DEPTH}
 use Rattle.ud_model.proofs.text.LinesLemmas.{split_lines-append-open, split_lines-append-line, text_of-line_at, numbered_from-next, lines_so_far-append}
 use Rattle.ud_text.specs.lines.LinesState.{LinesRepresent, UpToNewline, BreaksLimit}
 use Rattle.ud_text.specs.declared.lines.fault.TextFault.{TextFault}
@@ -37,13 +37,13 @@ record LimitFault (xs : List (Item Reading)) (x : Item Reading) (f : Fault) : Ty
   fault : FaultOf xs x f
   limit : IsLimit fault.which
 
-past_fault : (xs : List (Item Reading)) (x : Item Reading) (l : Line) (n : ℕ) → line_of x ≡ l → l.number ≡ n → TEXT_LINES < n → LimitFault xs x (too_many_lines n)
+past_fault : (xs : List (Item Reading)) (x : Item Reading) (l : Line) (n : ℕ) → line_of x ≡ l → l.number ≡ n → MAX_LINES < n → LimitFault xs x (too_many_lines n)
 past_fault xs x l n is number past = record {
   fault = grind arith;
   limit = by_lines;
 }
 
-long_fault : (xs : List (Item Reading)) (x : Item Reading) (l : Line) (n : ℕ) → line_of x ≡ l → l.number ≡ n → n ≤ TEXT_LINES → LINE_BYTES < length (text_of l) →
+long_fault : (xs : List (Item Reading)) (x : Item Reading) (l : Line) (n : ℕ) → line_of x ≡ l → l.number ≡ n → n ≤ MAX_LINES → MAX_LINE_BYTES < length (text_of l) →
     LimitFault xs x (line_too_long n)
 long_fault xs x l n is number fits long = record {
   fault = grind arith;
@@ -61,14 +61,14 @@ module _ {S : Type 0} (represents : S → List Judged → Type 0) (piece_of : S 
   -- One line more.
   pub line_taken : (f : EngineState S) (bytes line : List ℕ) (l : Line) (tree : Tree Reading) (more : List ℕ) →
       whole_lines (text ++ bytes) ≡ whole_lines text ++ line ∷ [] → l ≡ line_at (suc (length (whole_lines text))) line →
-      f.symbols ≡ e.symbols → IsOpen f.lines → LinesRepresent f.lines (text ++ bytes) → f.lines.fault ≡ None → f.lines.held ≡ [] → f.lines.before ≤ TEXT_LINES →
+      f.symbols ≡ e.symbols → IsOpen f.lines → LinesRepresent f.lines (text ++ bytes) → f.lines.fault ≡ None → f.lines.held ≡ [] → f.lines.before ≤ MAX_LINES →
       ProcessorRepresents represents piece_of f.printer o piece (h.items ++ next_item o h.items h.tree l ∷ []) tree → PrintsMore o piece h.items h.tree l tree more →
       EngineRepresentsBuffered represents piece_of f o piece (text ++ bytes) (printed ++ more)
   line_taken f bytes line l tree more k m p q r s t u v w = grind (arith, numbered_from-next, lines_more)
 
   -- Bytes without a newline.
   pub open_taken : (f : EngineState S) (bytes : List ℕ) → whole_lines (text ++ bytes) ≡ whole_lines text → f.symbols ≡ e.symbols → f.printer ≡ e.printer →
-      IsOpen f.lines → LinesRepresent f.lines (text ++ bytes) → f.lines.fault ≡ None → (0 < length f.lines.held → f.lines.before < TEXT_LINES) → f.lines.before ≤ TEXT_LINES →
+      IsOpen f.lines → LinesRepresent f.lines (text ++ bytes) → f.lines.fault ≡ None → (0 < length f.lines.held → f.lines.before < MAX_LINES) → f.lines.before ≤ MAX_LINES →
       EngineRepresentsBuffered represents piece_of f o piece (text ++ bytes) (printed ++ [])
   open_taken f bytes lines symbols printer opened took no_fault begun count =
       search rules
@@ -142,17 +142,17 @@ module _ {S : Type 0} (represents : S → List Judged → Type 0) (piece_of : S 
       let fits = r.1 in
       let is = r.0 in
       let to : UpToNewline rest r.2.0 r.2.1 = r.2.2 in
-      let long : LINE_BYTES < length e.lines.held + r.2.0 = r.2.3 in
+      let long : MAX_LINE_BYTES < length e.lines.held + r.2.0 = r.2.3 in
       let short = h.opened.short in
       let m = length-append e.lines.held (take r.2.0 rest) in
       let q = length-take r.2.0 rest in
       let w = to.within in
-      let bytes : LINE_BYTES < length (e.lines.held ++ take r.2.0 rest) = omega (arith, m, q, w, long) in
+      let bytes : MAX_LINE_BYTES < length (e.lines.held ++ take r.2.0 rest) = omega (arith, m, q, w, long) in
       limit_at rest r.2.0 r.2.1 (line_too_long line) to (omega (arith, long, short))
       (long_fault h.items (next_item o h.items h.tree (line_at (suc (length (whole_lines text))) (e.lines.held ++ take r.2.0 rest)))
       (line_at (suc (length (whole_lines text))) (e.lines.held ++ take r.2.0 rest)) line (line_of-next_item o h.items h.tree _)
       (omega (arith, b, is)) (omega (arith, b, k, fits, is))
-      (subst (λ (t : List ℕ). LINE_BYTES < length t) (sym (text_of-line_at (suc (length (whole_lines text))) (e.lines.held ++ take r.2.0 rest))) bytes))
+      (subst (λ (t : List ℕ). MAX_LINE_BYTES < length t) (sym (text_of-line_at (suc (length (whole_lines text))) (e.lines.held ++ take r.2.0 rest))) bytes))
 
   -- The buffered bytes pass no limit.
   no_limit : (w : Case) → IsLimit w → 0 < length e.lines.held → Holds h.items (next_item o h.items h.tree (line_so_far text)) w → ⊥
@@ -170,9 +170,9 @@ module _ {S : Type 0} (represents : S → List Judged → Type 0) (piece_of : S 
       (subst (λ (r : List ℕ). 0 < length r) (rest_is) (some_held (partial_line text) k.some)) k.fault.holds)
 
   -- The text's partial line is no longer than a line may be.
-  pub one_line : length (partial_line text) ≤ LINE_BYTES
-  one_line = subst (λ (r : List ℕ). length r ≤ LINE_BYTES) (sym rest_is) h.opened.short
+  pub one_line : length (partial_line text) ≤ MAX_LINE_BYTES
+  one_line = subst (λ (r : List ℕ). length r ≤ MAX_LINE_BYTES) (sym rest_is) h.opened.short
 
   -- No more sections are open than may be.
-  pub few_sections : depth h.tree ≤ OPEN_SECTIONS
+  pub few_sections : depth h.tree ≤ MAX_DEPTH
   few_sections = grind arith

@@ -10,7 +10,7 @@ use Rattle.ud_model.specs.sections.Items.{Options, reading_of, line_of, mode_aft
 use Rattle.ud_model.specs.sections.Faults.{last_number}
 use Rattle.ud_model.specs.answer.Printing.{judged_lines}
 use Rattle.ud_model.specs.declared.kind.Mode.{Mode}
-use Rattle.ud_model.specs.declared.limits.TheConstants.{TEXT_LINES}
+use Rattle.ud_model.specs.declared.limits.TheConstants.{MAX_LINES}
 use Rattle.ud_model.specs.declared.verdict.Verdict.{Verdict}
 use Rattle.ud_text.specs.scan.ScannerState.{ScannerRepresents}
 use Rattle.ud_text.specs.bulk.BulkScanning as passing
@@ -38,7 +38,7 @@ AreWithin [] = Unit {0}
 AreWithin (l ∷ ls) = IsWithinLimits l × AreWithin ls
 
 -- Lines that fit, with numbers that fit.
-are_within : (n : ℕ) (ls : List (List ℕ)) → EachFits ls → n + length ls ≤ TEXT_LINES → AreWithin (numbered_from (suc n) ls)
+are_within : (n : ℕ) (ls : List (List ℕ)) → EachFits ls → n + length ls ≤ MAX_LINES → AreWithin (numbered_from (suc n) ls)
 are_within n [] fits few = tt
 are_within n (l ∷ ls) fits few =
     grind (arith, common_steps, are_within (suc n) ls fits.1 (omega (arith, few)))
@@ -100,11 +100,11 @@ module _ (o : Options) (old new : LineDecider) (xs : List (Item Reading)) (t : T
   reads_none mode same skips =
       grind (arith, common_steps, append-nil xs, skips.represents 0 (map reading_of xs) h.carries)
 
-  module _ (mode : Mode) (m : mode ≡ mode_after o t) (bytes : List ℕ) (fits : EachFits (whole_lines bytes)) (few : n + length (whole_lines bytes) ≤ TEXT_LINES)
+  module _ (mode : Mode) (m : mode ≡ mode_after o t) (bytes : List ℕ) (fits : EachFits (whole_lines bytes)) (few : n + length (whole_lines bytes) ≤ MAX_LINES)
       (skips : SkipsText mode old.scanner new.scanner bytes) (last : ℕ) (counted : last ≡ n + length (whole_lines bytes)) (no_fault : machine_fault new.machine ≡ machine_fault old.machine)
       (reads : (r : Reading) (rs : List Reading) → AreTextLines o (mode_after o t) xs (r ∷ rs) → last ≡ last_number (xs ++ map text_line (r ∷ rs)) →
       StepsText new.machine o xs t (r ∷ rs) verdict) where
-    by_lines : (l : List ℕ) (ls : List (List ℕ)) → EachFits (l ∷ ls) → n + length (l ∷ ls) ≤ TEXT_LINES → last ≡ n + length (l ∷ ls) →
+    by_lines : (l : List ℕ) (ls : List (List ℕ)) → EachFits (l ∷ ls) → n + length (l ∷ ls) ≤ MAX_LINES → last ≡ n + length (l ∷ ls) →
         ScannerRepresents new.scanner (readings_after (map reading_of xs) (lines_in_mode mode (suc n) (l ∷ ls))) → passing.HaveNoDirective mode (map reading_of xs) (numbered_from (suc n) (l ∷ ls)) →
         DecidesBulk o new xs t (numbered_from (suc n) (l ∷ ls)) verdict
     by_lines l ls fit less is carries texts =
@@ -130,7 +130,7 @@ module _ (o : Options) (old new : LineDecider) (xs : List (Item Reading)) (t : T
     reads_all some =
         by_case (whole_lines bytes) fits few counted some (skips.represents (suc n) (map reading_of xs) h.carries) (skips.texts (suc n) (map reading_of xs) h.carries)
       where
-        by_case : (ls : List (List ℕ)) → EachFits ls → n + length ls ≤ TEXT_LINES → last ≡ n + length ls → 0 < length ls →
+        by_case : (ls : List (List ℕ)) → EachFits ls → n + length ls ≤ MAX_LINES → last ≡ n + length ls → 0 < length ls →
             ScannerRepresents new.scanner (readings_after (map reading_of xs) (lines_in_mode mode (suc n) ls)) → passing.HaveNoDirective mode (map reading_of xs) (numbered_from (suc n) ls) →
             DecidesBulk o new xs t (numbered_from (suc n) ls) verdict
         by_case [] fit less is one carries texts = absurd (omega (arith, one))

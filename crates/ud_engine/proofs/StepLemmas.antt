@@ -7,7 +7,7 @@ use Rattle.ud_model.specs.sections.Items.{Options, next_item}
 use Rattle.ud_model.specs.sections.Faults.{FaultOf}
 use Rattle.ud_model.specs.answer.Printing.{Judged}
 use Rattle.ud_model.specs.answer.Outcomes.{lines_so_far}
-use Rattle.ud_model.specs.declared.limits.TheConstants.{LINE_BYTES, TEXT_LINES}
+use Rattle.ud_model.specs.declared.limits.TheConstants.{MAX_LINE_BYTES, MAX_LINES}
 use Rattle.ud_model.proofs.text.LinesLemmas.{no_newline-append}
 use Rattle.ud_text.specs.lines.LinesState.{LinesState, LinesRepresent, UpToNewline}
 use Rattle.ud_text.specs.lines.Borrowing.{CanBorrow}
@@ -28,12 +28,12 @@ pub held_whole : (held rest : List ℕ) (used : ℕ) (whole : Bool) → whole �
 held_whole held rest used whole h k l = grind (arith, no_newline-append, append_assoc)
 
 -- A line of this number within the limits.
-pub is_within : (l : Line) (n : ℕ) (bytes : List ℕ) → l ≡ line_at n bytes → n ≤ TEXT_LINES → length bytes ≤ LINE_BYTES → IsWithinLimits l
+pub is_within : (l : Line) (n : ℕ) (bytes : List ℕ) → l ≡ line_at n bytes → n ≤ MAX_LINES → length bytes ≤ MAX_LINE_BYTES → IsWithinLimits l
 is_within l n bytes e number fits = grind (arith, common_steps)
 
 -- Bytes without a newline lengthen the line.
 pub still_open : (lines mid : LinesState) (rest : List ℕ) (used : ℕ) (whole : Bool) → whole ≡ false → IsOpen lines → UpToNewline rest used whole →
-    mid ≡ record lines { held = lines.held ++ take used rest; whole = whole } → length mid.held ≤ LINE_BYTES → IsOpen mid
+    mid ≡ record lines { held = lines.held ++ take used rest; whole = whole } → length mid.held ≤ MAX_LINE_BYTES → IsOpen mid
 still_open lines mid rest used whole h k l m o = grind (arith, no_newline-append, no_newline-take)
 
 module _ {S : Type 0} (represents : S → List Judged → Type 0) (piece_of : S → List Judged → Judged → List ℕ) (o : Options) (piece : List Judged → Judged → List ℕ)
@@ -41,7 +41,7 @@ module _ {S : Type 0} (represents : S → List Judged → Type 0) (piece_of : S 
   -- Bytes without a newline are buffered, and the pending bytes before them are appended.
   pub open_step : (f : EngineState S) (used : ℕ) (whole : Bool) → whole ≡ false → UpToNewline rest used whole → f.symbols ≡ e.symbols → f.printer ≡ e.printer →
       f.lines ≡ record e.lines { held = e.lines.held ++ take used rest; whole = whole } → LinesRepresent f.lines (text ++ take used rest) → f.lines.fault ≡ None →
-      (length f.lines.held ≤ LINE_BYTES) × (e.lines.before < e.lines.last_line) → TakesAllBut a b (e.buffered ++ pending) f.buffered →
+      (length f.lines.held ≤ MAX_LINE_BYTES) × (e.lines.before < e.lines.last_line) → TakesAllBut a b (e.buffered ++ pending) f.buffered →
       EngineAdvances represents piece_of f o piece text printed (take used rest) a b (g ++ pending) f.buffered
   open_step f used whole w to symbols printer is took no_fault limits sent =
       let parts = split_lines-front_of text e.lines.held rest used whole (rest_is represents piece_of o piece e text printed h) to in

@@ -10,7 +10,7 @@ use Rattle.std.proofs.KnownBytes.{Appends-nil, Appends-trans}
 use Rattle.ud_model.specs.text.Lines.{partial_line}
 use Rattle.ud_model.specs.sections.Items.{Options}
 use Rattle.ud_model.specs.answer.Printing.{Judged}
-use Rattle.ud_model.specs.declared.limits.TheConstants.{TEXT_LINES}
+use Rattle.ud_model.specs.declared.limits.TheConstants.{MAX_LINES}
 use Rattle.ud_model.proofs.sections.FaultStays.{reads_stay}
 use Rattle.ud_model.proofs.text.LinesLemmas.{Growth, stays_open, ends_line, grows, split_lines-append-open, no_newline-append, lines_so_far-append}
 use Rattle.ud_text.specs.bulk.BulkLexemes.{IsLineStart, at_start, after_newline, LastLineStarts}
@@ -94,7 +94,7 @@ module _ (buffer : List ℕ) (end at : ℕ) (last : LastLineStarts (take end buf
 
   -- The rest waits.
   pub cut_waits : (lines : LinesState) → end ≤ length buffer → end ≤ CHUNK_BYTES → (lines.held ≡ [])
-      × (lines.before < TEXT_LINES) →
+      × (lines.before < MAX_LINES) →
       IsWaiting lines (take (end - at) (copy_within buffer at end 0))
   cut_waits lines fits few begins = grind (arith, common_steps, cut_moved, rest_is_last, length-take)
 

@@ -28,7 +28,7 @@ use Rattle.ud_model.specs.answer.Printing.{Judged}
 use Rattle.ud_model.specs.answer.Outcomes.{HasNoFault, ReadsSoFar, lines_so_far}
 use Rattle.ud_model.specs.declared.settings.Settings.{Settings}
 use Rattle.ud_model.specs.declared.settings.Listing.TheVariants.{Off}
-use Rattle.ud_model.specs.declared.limits.TheConstants.{LINE_BYTES, TEXT_LINES, OPEN_SECTIONS}
+use Rattle.ud_model.specs.declared.limits.TheConstants.{MAX_LINE_BYTES, MAX_LINES, MAX_DEPTH}
 use Rattle.ud_cond.specs.symbols.SymbolTable.{TableRepresents}
 use Rattle.ud_text.specs.lines.LinesState.{LinesState, LinesRepresent}
 use Rattle.ud_text.specs.lines.LimitFaults.{limit_of}
@@ -52,8 +52,8 @@ pub record EngineState (S : Type 0) : Type 0 where
 pub record IsOpen (lines : LinesState) : Type 0 where
   pub part : lines.whole ≡ false
   pub goes_on : lines.closed ≡ false
-  pub limit : lines.last_line ≡ TEXT_LINES
-  pub short : length lines.held ≤ LINE_BYTES
+  pub limit : lines.last_line ≡ MAX_LINES
+  pub short : length lines.held ≤ MAX_LINE_BYTES
   pub no_newline : NoNewline lines.held
 
 -- `EngineRepresentsBuffered .. e o piece text printed`: `e` took `text`, none of whose lines is
@@ -71,8 +71,8 @@ pub record EngineRepresentsBuffered {S : Type 0} (represents : S → List Judged
   pub opened : IsOpen e.lines
   pub took : LinesRepresent e.lines text
   pub no_fault : e.lines.fault ≡ None
-  pub begun : 0 < length e.lines.held → e.lines.before < TEXT_LINES
-  pub count : e.lines.before ≤ TEXT_LINES
+  pub begun : 0 < length e.lines.held → e.lines.before < MAX_LINES
+  pub count : e.lines.before ≤ MAX_LINES
 
 -- `EngineRepresents .. e o piece text printed`: `EngineRepresentsBuffered`, no fault occurred, and
 -- nothing is pending.
@@ -134,8 +134,8 @@ pub record Continues {S : Type 0} (represents : S → List Judged → Type 0) (p
   pub fed : EngineRepresents represents piece_of e o piece longer (printed ++ more)
   pub appended : Appends old new more
   pub right : ReadsSoFar o longer fed.taken.items fed.taken.tree None
-  pub one_line : length (partial_line longer) ≤ LINE_BYTES
-  pub few_sections : depth fed.taken.tree ≤ OPEN_SECTIONS
+  pub one_line : length (partial_line longer) ≤ MAX_LINE_BYTES
+  pub few_sections : depth fed.taken.tree ≤ MAX_DEPTH
 
 -- `FaultsAfter o piece longer printed f`: `longer`, as a text that goes on, has the fault `f`.
 -- `printed` is the output for the lines before it.

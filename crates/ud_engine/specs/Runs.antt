@@ -21,7 +21,7 @@ use Rattle.ud_model.specs.sections.Faults.{Fault}
 use Rattle.ud_model.specs.answer.Printing.{piece_after, style_of}
 use Rattle.ud_model.specs.answer.Outcomes.{Outcome, HasOutcome, HasOutcomeSoFar, HasNoFault}
 use Rattle.ud_model.specs.answer.Outcomes.{lines_so_far, output_by}
-use Rattle.ud_model.specs.declared.limits.TheConstants.{LINE_BYTES, TEXT_LINES}
+use Rattle.ud_model.specs.declared.limits.TheConstants.{MAX_LINE_BYTES, MAX_LINES}
 use Rattle.ud_text.specs.lines.LinesState.{LinesState}
 use Rattle.ud_sections.specs.printing.Printers.{printer_represents, printer_piece}
 use Rattle.ud_sections.specs.sections.SectionFaults.{fault_of}
@@ -70,8 +70,8 @@ pub record InProgress (e : EngineState Printer) (o : Options)
 
 -- `bytes_to_limit lines`: at most this many bytes fit before a limit is met.
 abbrev pub bytes_to_limit : LinesState → ℕ
-bytes_to_limit lines = (LINE_BYTES + 1) * (TEXT_LINES - lines.before) +
-    (LINE_BYTES - length lines.held)
+bytes_to_limit lines = (MAX_LINE_BYTES + 1) * (MAX_LINES - lines.before) +
+    (MAX_LINE_BYTES - length lines.held)
 
 -- `PrintsSoFar o given old new`: `given`, as a text that goes on, has no fault. The output for its
 -- whole lines was appended.

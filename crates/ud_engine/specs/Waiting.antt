@@ -3,7 +3,7 @@ use Rattle.std.specs.Prelude.{◌≡◌, ◌⊎◌, ◌<◌, ◌≤◌, ℕ, Lis
 use Rattle.std.specs.Io.KnownBytes.{IsAtEnd, prepend_known}
 use Rattle.ud_model.specs.text.Lines.{NoNewline}
 use Rattle.ud_model.specs.sections.Items.{Options}
-use Rattle.ud_model.specs.declared.limits.TheConstants.{TEXT_LINES}
+use Rattle.ud_model.specs.declared.limits.TheConstants.{MAX_LINES}
 use Rattle.ud_text.specs.lines.LinesState.{LinesState}
 use Rattle.ud_sections.specs.declared.printing.printer.Printer.{Printer}
 use Rattle.ud_engine.specs.declared.fault.RunFault.{RunFault}
@@ -17,7 +17,7 @@ use Rattle.ud_engine.specs.Runs.{InProgress, RunFinished, bytes_to_limit}
 pub record IsWaiting (lines : LinesState) (bytes : List ℕ) : Type 0 where
   pub no_newline : NoNewline bytes
   pub short : length bytes ≤ CHUNK_BYTES
-  pub begins : 0 < length bytes → (lines.held ≡ []) × (lines.before < TEXT_LINES)
+  pub begins : 0 < length bytes → (lines.held ≡ []) × (lines.before < MAX_LINES)
 
 -- `IsFurther old new end left`: fewer bytes fit below the limits; or none was fed, and all `end`
 -- bytes are left.

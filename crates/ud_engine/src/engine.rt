@@ -36,7 +36,7 @@ use std::mem;
 use ud_args::Plan;
 use ud_cond::Symbols;
 use ud_io::Watched;
-use ud_model::TEXT_LINES;
+use ud_model::MAX_LINES;
 use ud_sections::Show;
 use ud_text::{Line, LineBuffer, Lines, LongLineBuffer, ShortLineBuffer, is_other_word};
 
@@ -231,7 +231,7 @@ impl<P: PlanSource, S: Show, H: LineBuffer> EngineOf<P, S, H> {
         let settings = plan.settings();
         EngineOf {
             plan,
-            lines: Lines::with_buffer(TEXT_LINES, buffer),
+            lines: Lines::with_buffer(MAX_LINES, buffer),
             printer: LineProcessor::new(settings, show),
             masked,
             output: Output::new(),
@@ -243,7 +243,7 @@ impl<P: PlanSource, S: Show, H: LineBuffer> EngineOf<P, S, H> {
     ///
     /// `chunk` may have any bytes. An engine with a buffer for the longest line accepts any length;
     /// others accept at most `Lines::remaining_capacity` bytes. The line that `chunk` begins, at
-    /// most `LINE_BYTES`, is buffered until it ends. `out` hasn't failed, unless the engine is
+    /// most `MAX_LINE_BYTES`, is buffered until it ends. `out` hasn't failed, unless the engine is
     /// fused.
     ///
     /// # Errors

@@ -6,7 +6,7 @@ ghost use Rattle.ud_model.specs.text.Scans.{Reading};
 ghost use Rattle.ud_model.specs.sections.Tree.{Item, Tree, closed, nothing};
 ghost use Rattle.ud_model.specs.sections.Items.{Options};
 ghost use Rattle.ud_model.specs.sections.Faults.{end_fault};
-ghost use Rattle.ud_model.specs.declared.limits.TheConstants.{TEXT_LINES};
+ghost use Rattle.ud_model.specs.declared.limits.TheConstants.{MAX_LINES};
 ghost use Rattle.ud_text.specs.lines.LinesState.{LinesRepresent};
 ghost use Rattle.ud_model.specs.aids.LineViews.{as_line, as_scan};
 ghost use Rattle.ud_text.specs.bulk.BulkScanning.{AreWholeLines};
@@ -122,7 +122,7 @@ impl LineDecider {
         requires policy { policy ≡ text_policy_of self.old.machine }
         requires run { CanConsume lines.old bytes.now }
         requires goes_on { lines.old.closed ≡ false }
-        requires limit { lines.old.last_line ≤ TEXT_LINES }
+        requires limit { lines.old.last_line ≤ MAX_LINES }
         ensures bound { result ≤ length bytes.now }
         ensures ends { AreWholeLines (take result bytes.now) }
         ensures consumed { lines.new ≡ consumed lines.old (take result bytes.now) }

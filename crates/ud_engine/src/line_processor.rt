@@ -11,7 +11,7 @@ ghost use Rattle.std.specs.Prelude.{◌≡◌, bytes_eq, ◌∷◌, [], ◌++◌
 ghost use Rattle.std.specs.Prelude.{false, OnErr, IsTrue};
 ghost use Rattle.ud_model.specs.text.Lines.{NoNewline, is_ending, text_of};
 ghost use Rattle.ud_model.specs.answer.Printing.{Judged};
-ghost use Rattle.ud_model.specs.declared.limits.TheConstants.{TEXT_LINES};
+ghost use Rattle.ud_model.specs.declared.limits.TheConstants.{MAX_LINES};
 ghost use Rattle.ud_text.specs.lines.LinesState.{LinesRepresent};
 ghost use Rattle.ud_model.specs.aids.LineViews.{as_line};
 ghost use Rattle.ud_text.specs.bulk.BulkScanning.{AreWholeLines};
@@ -162,7 +162,7 @@ impl<S: Show> LineProcessor<S> {
     ) -> SkippedText
         requires run { CanConsume lines.old bytes.now }
         requires goes_on { lines.old.closed ≡ false }
-        requires limit { lines.old.last_line ≤ TEXT_LINES }
+        requires limit { lines.old.last_line ≤ MAX_LINES }
         ensures bound { result.count ≤ length bytes.now }
         ensures ends { AreWholeLines (take result.count bytes.now) }
         ensures consumed { lines.new ≡ consumed lines.old (take result.count bytes.now) }

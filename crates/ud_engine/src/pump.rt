@@ -12,7 +12,7 @@ ghost use Rattle.ud_text.specs.lines.LinesState.{HasCapacity};
 ghost use Rattle.ud_engine.specs.Runs.{RepresentsSomeText, Finished, FinishesRun, ContinuesRun};
 ghost use Rattle.ud_engine.specs.Runs.{ErrorMatchesStreams};
 ghost use Rattle.ud_engine.specs.Waiting.{IsWaiting, IsFurther, FeedsAllBut, StopsRun, EndsRun};
-ghost use Rattle.ud_model.specs.declared.limits.TheConstants.{LINE_BYTES};
+ghost use Rattle.ud_model.specs.declared.limits.TheConstants.{MAX_LINE_BYTES};
 
 use crate::engine::{Engine, EngineOf};
 use crate::fault::RunFault;
@@ -131,7 +131,7 @@ fn pump<R: Read, W: Write, H: LineBuffer>(
         reader.old reader.new out.old out.new) }
     ensures begun { IfNone result (RepresentsSomeText engine.new) }
     ensures not_failed { IfNone result ((reader.new.failed ≡ false) × (out.new.failed ≡ false)) }
-    ensures full { IfNone result (H.CAPACITY < LINE_BYTES) }
+    ensures full { IfNone result (H.CAPACITY < MAX_LINE_BYTES) }
 {
     let mut buffer = [0u8; CHUNK_BYTES];
     let mut waiting = 0;

@@ -42,7 +42,7 @@ mod verdict;
 pub use amount::Amount;
 pub use cond::Cond;
 pub use kind::{CommentAt, Kind, Mode, Role, Test};
-pub use limits::{LINE_BYTES, OPEN_SECTIONS, TEXT_LINES};
+pub use limits::{MAX_DEPTH, MAX_LINE_BYTES, MAX_LINES};
 pub use line::Line;
 pub use operator::Operator;
 pub use scan::Scan;

@@ -17,7 +17,7 @@ use Rattle.ud_simplified.specs.SimplifiedTexts.{keeps_ending}
 use Rattle.ud_model.specs.aids.ReadAs.{read_as, in_mode}
 use Rattle.ud_model.specs.declared.line.Line.{Line as ReadLine}
 use Rattle.ud_model.specs.declared.scan.Scan.{Scan as ReadScan}
-use Rattle.ud_model.specs.declared.limits.TheConstants.{LINE_BYTES}
+use Rattle.ud_model.specs.declared.limits.TheConstants.{MAX_LINE_BYTES}
 use Rattle.ud_model.specs.declared.kind.Mode.TheVariants.{C}
 use Rattle.ud_model.proofs.text.LinesLemmas.{no_newline-append}
 use Rattle.ud_model.proofs.text.ScanBytes.{scan_after-same}
@@ -78,8 +78,8 @@ long_stays xs r more f = neither (xs ++ r ∷ more) (λ a s.
     let b = body_length xs r more in
     let all = length-append (folded_body (xs ++ r ∷ more)) e in
     let one = length-append r.line.body r.line.ending in
-    let most = leb-true (length (text_of (folded_line (xs ++ r ∷ more)))) LINE_BYTES s in
-    let least = leb-false (length (text_of r.line)) LINE_BYTES f in
+    let most = leb-true (length (text_of (folded_line (xs ++ r ∷ more)))) MAX_LINE_BYTES s in
+    let least = leb-false (length (text_of r.line)) MAX_LINE_BYTES f in
     omega arith)
 
 pub other_stays : (front : List Reading) (q r : Reading) (more : List Reading) → bytes_eq r.line.ending q.line.ending ≡ false → is_foldable ((front ++ q ∷ []) ++ r ∷ more) ≡ false

@@ -5,7 +5,7 @@ use Rattle.std.specs.Prelude.{◌≡◌, ℕ, List, [], ◌∷◌, ◌++◌, len
 use Rattle.std.specs.Prelude.{codes, decimal}
 use Rattle.ud_model.specs.text.Bytes.{newline}
 use Rattle.ud_model.specs.text.Lines.{Line, text_of}
-use Rattle.ud_model.specs.declared.limits.TheConstants.{LINE_BYTES}
+use Rattle.ud_model.specs.declared.limits.TheConstants.{MAX_LINE_BYTES}
 
 -- `AppendsSome old new`: `new` is `old`, perhaps with bytes appended.
 abbrev pub AppendsSome : List ℕ → List ℕ → Type 0
@@ -13,7 +13,7 @@ AppendsSome old new = (more : List ℕ) × (new ≡ old ++ more)
 
 -- `fits l`: with its ending, the line `l` has no more bytes than a line may have.
 abbrev pub fits : Line → Bool
-fits l = leb (length (text_of l)) LINE_BYTES
+fits l = leb (length (text_of l)) MAX_LINE_BYTES
 
 -- `place_at file number`: where the line with this number is in the file.
 abbrev pub place_at : List ℕ → ℕ → List ℕ

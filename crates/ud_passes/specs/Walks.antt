@@ -24,7 +24,7 @@ use Rattle.ud_model.specs.aids.LineViews.{as_line, as_scan}
 use Rattle.ud_model.specs.sections.Directives.{text, content_of}
 use Rattle.ud_model.specs.aids.ReadAs.{read_as}
 use Rattle.ud_model.specs.declared.kind.Mode.{Mode}
-use Rattle.ud_model.specs.declared.limits.TheConstants.{LINE_BYTES}
+use Rattle.ud_model.specs.declared.limits.TheConstants.{MAX_LINE_BYTES}
 use Rattle.ud_text.specs.scan.ScannerState.{ScannerState, ScannerRepresents}
 use Rattle.ud_text.specs.bulk.BulkScanning.{AreWholeLines}
 use Rattle.ud_passes.specs.Passes.{fits}
@@ -90,7 +90,7 @@ abbrev pub IsFitting : Stretch → Type 0
 IsFitting (Texts bytes) = Unit {0}
 IsFitting (TooLong line) = Unit {0}
 IsFitting (Fitting line scan) = NoNewline line.body.now ×
-    (length (text_of (as_line line)) ≤ LINE_BYTES) × (length scan.masked.now ≤ LINE_BYTES)
+    (length (text_of (as_line line)) ≤ MAX_LINE_BYTES) × (length scan.masked.now ≤ MAX_LINE_BYTES)
 
 -- `IsNext mode whole read next rest s`: after the lines `read`, the next lines are those of the
 -- stretch, and the text after them is `rest`. A line that fits has its scan after the lines `read`.

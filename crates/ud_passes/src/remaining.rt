@@ -90,8 +90,8 @@ impl Remaining {
     /// text names lose theirs.
     ///
     /// `text` may have any length and any bytes. A condition whose comment never closes ends with
-    /// the text. A line over `LINE_BYTES` has no condition and no definition, and joins no other
-    /// line.
+    /// the text. A line over `MAX_LINE_BYTES` has no condition and no definition, and joins no
+    /// other line.
     ///
     /// # Errors
     /// Fails if memory runs out. Then nothing was added, but marks may be lost.

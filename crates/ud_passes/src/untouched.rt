@@ -7,7 +7,7 @@ ghost use Rattle.ud_model.specs.text.Lines.{NoNewline, text_of};
 ghost use Rattle.ud_model.specs.text.Scans.{Reading};
 ghost use Rattle.ud_model.specs.text.Scanning.{next_reading};
 ghost use Rattle.ud_model.specs.aids.LineViews.{as_line, as_scan};
-ghost use Rattle.ud_model.specs.declared.limits.TheConstants.{LINE_BYTES};
+ghost use Rattle.ud_model.specs.declared.limits.TheConstants.{MAX_LINE_BYTES};
 ghost use Rattle.ud_model.specs.declared.kind.Mode.{Mode};
 ghost use Rattle.ud_text.specs.scan.ScannerState.{ScannerRepresents};
 ghost use Rattle.ud_model.specs.conditions.Table.{Argument};
@@ -34,8 +34,8 @@ fn line_stays(
     symbols: &Symbols,
     rules: Rules,
 ) -> Result<bool, AllocError>
-    requires fits { length (text_of (as_line line.now)) ≤ LINE_BYTES }
-    requires masked { length scan.now.masked.now ≤ LINE_BYTES }
+    requires fits { length (text_of (as_line line.now)) ≤ MAX_LINE_BYTES }
+    requires masked { length scan.now.masked.now ≤ MAX_LINE_BYTES }
     requires one_line { NoNewline line.now.body.now }
     ensures { IfOk result (λ stays. stays ≡ true → (calls : List Argument) →
         TableRepresents symbols.now calls →

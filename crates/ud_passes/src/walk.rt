@@ -12,7 +12,7 @@ ghost use Rattle.ud_model.specs.declared.kind.Mode.{Mode};
 ghost use Rattle.ud_passes.specs.Walks.{Walked, len_of, is_one_line, IsPrefixOf, IsFitting};
 ghost use Rattle.ud_passes.specs.Walks.{IsNext};
 
-use ud_model::{LINE_BYTES, Line, Mode, Scan};
+use ud_model::{Line, MAX_LINE_BYTES, Mode, Scan};
 use ud_text::{LineStore, Scanner, line_in};
 
 /// The next lines of a text.
@@ -127,7 +127,7 @@ impl<'t> Walk<'t> {
         let line = line_in(self.rest, 1);
         let used = line.body.len() + line.ending.len();
         self.rest = self.rest.split_at(used).1;
-        if used > LINE_BYTES {
+        if used > MAX_LINE_BYTES {
             self.scanner.pass(mode, &line);
             return Stretch::TooLong(line);
         }

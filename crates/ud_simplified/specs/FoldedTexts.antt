@@ -34,7 +34,7 @@ use Rattle.ud_model.specs.aids.ReadAs.{read_as}
 use Rattle.ud_simplified.specs.SimplifiedTexts.{keeps_ending}
 use Rattle.ud_model.specs.declared.kind.Kind.{Kind}
 use Rattle.ud_model.specs.declared.kind.Mode.TheVariants.{C}
-use Rattle.ud_model.specs.declared.limits.TheConstants.{LINE_BYTES}
+use Rattle.ud_model.specs.declared.limits.TheConstants.{MAX_LINE_BYTES}
 
 -- The vertical tab, which represents a newline that continues a directive.
 abbrev pub vertical_tab : ℕ
@@ -127,7 +127,7 @@ are_alike rs ending = list_all (λ (r : Reading). bytes_eq r.line.ending ending)
 
 -- `fits k`: the line `k` isn't over the limit.
 abbrev pub fits : Line → Bool
-fits k = nat_le (length (text_of k)) LINE_BYTES
+fits k = nat_le (length (text_of k)) MAX_LINE_BYTES
 
 -- `is_shown_as scan bytes`: a line with this scan is a directive by itself, with these masked
 -- bytes. They have no quote, and white space is beside each vertical tab.

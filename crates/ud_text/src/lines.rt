@@ -1,10 +1,10 @@
 //! Lines of a text from chunks of bytes.
 //!
-//! One line is buffered at a time, at most `LINE_BYTES` bytes with its ending, in a `LineBuffer`.
-//! However the bytes are cut into chunks, the lines are those of the definitions (ud_model,
-//! `text.Lines`). The states are: nothing is buffered; part of a line; a whole line, until `clear`;
-//! closed; fused after an error. A whole line of a chunk needn't be buffered: `whole_in` borrows
-//! one, and `consume` consumes many at once.
+//! One line is buffered at a time, at most `MAX_LINE_BYTES` bytes with its ending, in a
+//! `LineBuffer`. However the bytes are cut into chunks, the lines are those of the definitions
+//! (ud_model, `text.Lines`). The states are: nothing is buffered; part of a line; a whole line,
+//! until `clear`; closed; fused after an error. A whole line of a chunk needn't be buffered:
+//! `whole_in` borrows one, and `consume` consumes many at once.
 //!
 //! A new way in which a line may end needs another `lines_of` and another `up_to_newline`.
 
@@ -26,7 +26,7 @@ use memchr::memchr;
 pub use newlines::count_lines;
 use newlines::whole_lines_len;
 use std::marker::Model;
-use ud_model::{LINE_BYTES, Line, TEXT_LINES};
+use ud_model::{Line, MAX_LINE_BYTES, MAX_LINES};
 
 mod fault;
 mod line_buffer;
@@ -63,13 +63,13 @@ pub struct Lines<H: LineBuffer = LongLineBuffer> {
     is_closed: bool,
     /// The error after which the lines are fused.
     fault: Option<TextFault>,
-    /// The number of the last line that the text may have, at most `TEXT_LINES`.
+    /// The number of the last line that the text may have, at most `MAX_LINES`.
     last: u32,
 }
 
 impl<H: LineBuffer> Model for Lines<H> {
     ghost use Rattle.std.specs.Prelude.{◌≡◌, ◌≤◌, ◌<◌, length, true};
-    ghost use Rattle.ud_model.specs.declared.limits.TheConstants.{LINE_BYTES, TEXT_LINES};
+    ghost use Rattle.ud_model.specs.declared.limits.TheConstants.{MAX_LINE_BYTES, MAX_LINES};
     ghost use Rattle.ud_text.specs.lines.LinesState.{LinesState};
 
     ghost Value = { LinesState };
@@ -83,18 +83,18 @@ impl<H: LineBuffer> Model for Lines<H> {
       last_line = l.last;
     } };
 
-    ghost invariant = { λ l. (l.last ≤ TEXT_LINES) × (l.consumed ≤ l.last)
+    ghost invariant = { λ l. (l.last ≤ MAX_LINES) × (l.consumed ≤ l.last)
         × (0 < length (H.items l.buffer) → l.consumed < l.last)
         × (l.is_whole ≡ true → 0 < length (H.items l.buffer))
-        × (length (H.items l.buffer) ≤ LINE_BYTES) };
+        × (length (H.items l.buffer) ≤ MAX_LINE_BYTES) };
 }
 
 impl Lines<LongLineBuffer> {
     /// Returns the lines of a text before its first byte. The text may have `last_line` lines, from
-    /// 1 to `TEXT_LINES`. The buffer takes a line of any length.
+    /// 1 to `MAX_LINES`. The buffer takes a line of any length.
     pub fn new(last_line: u32) -> Lines<LongLineBuffer>
         requires low { 1 ≤ last_line }
-        requires high { last_line ≤ TEXT_LINES }
+        requires high { last_line ≤ MAX_LINES }
         ensures value { result ≡ untaken last_line }
         ensures represents { LinesRepresent result [] }
     {
@@ -107,7 +107,7 @@ impl<H: LineBuffer> Lines<H> {
     pub fn with_buffer(last_line: u32, buffer: H) -> Lines<H>
         requires empty { H.items buffer ≡ [] }
         requires low { 1 ≤ last_line }
-        requires high { last_line ≤ TEXT_LINES }
+        requires high { last_line ≤ MAX_LINES }
         ensures value { result ≡ untaken last_line }
         ensures represents { LinesRepresent result [] }
     {
@@ -130,9 +130,9 @@ impl<H: LineBuffer> Lines<H> {
     ///
     /// # Errors
     /// In this order: `TooManyLines` at the first byte of a line past the last one that the text
-    /// may have; `LineTooLong` at the first byte of a line past `LINE_BYTES`, its ending included.
-    /// No byte of the chunk is buffered. Every later `take` and `close` returns the same error,
-    /// also for an empty chunk, until `reset` begins another text.
+    /// may have; `LineTooLong` at the first byte of a line past `MAX_LINE_BYTES`, its ending
+    /// included. No byte of the chunk is buffered. Every later `take` and `close` returns the same
+    /// error, also for an empty chunk, until `reset` begins another text.
     ///
     /// Lines are those of POSIX XBD 3.206; the last may lack its newline.
     pub fn take(&mut self, chunk: &[u8]) -> Result<Taken, TextFault>
@@ -151,7 +151,7 @@ impl<H: LineBuffer> Lines<H> {
             LinesRepresent self.new (text ++ take t.used chunk.now)) }
         ensures no_fault { OnOk result (self.new.fault ≡ None) }
         ensures limits { IfOk result (λ t. 0 < t.used →
-            (length self.new.held ≤ LINE_BYTES) × (self.old.before < self.old.last_line)) }
+            (length self.new.held ≤ MAX_LINE_BYTES) × (self.old.before < self.old.last_line)) }
 
         ensures breaks_limit { IfNone self.old.fault
             (IfErr result (λ f. BreaksLimit self.old chunk.now f)) }
@@ -175,7 +175,7 @@ impl<H: LineBuffer> Lines<H> {
             return Err(fault);
         }
         let bytes = &chunk[..taken.used];
-        let most = LINE_BYTES - self.buffer.as_slice().len();
+        let most = MAX_LINE_BYTES - self.buffer.as_slice().len();
         if bytes.len() > most || !self.buffer.try_append(bytes) {
             let fault = TextFault::LineTooLong {
                 line: self.consumed + 1,
@@ -314,10 +314,10 @@ impl<H: LineBuffer> Lines<H> {
     pub fn remaining_capacity(&self, most: usize) -> usize
         ensures bound { result ≤ most }
         ensures fits { HasCapacity H.CAPACITY self.now result }
-        ensures short { result < most → H.CAPACITY < LINE_BYTES }
+        ensures short { result < most → H.CAPACITY < MAX_LINE_BYTES }
         ensures full { result < most → H.CAPACITY ≤ length self.now.held + result }
     {
-        if H::CAPACITY >= LINE_BYTES {
+        if H::CAPACITY >= MAX_LINE_BYTES {
             return most;
         }
         most.min(H::CAPACITY - self.buffer.as_slice().len())
@@ -351,7 +351,7 @@ impl<H: LineBuffer> Lines<H> {
     /// Returns how many bytes of the line are buffered, its ending included.
     pub fn held(&self) -> usize
         ensures value { result ≡ length self.now.held }
-        ensures bound { result ≤ LINE_BYTES }
+        ensures bound { result ≤ MAX_LINE_BYTES }
     {
         self.buffer.as_slice().len()
     }
@@ -479,13 +479,13 @@ fn up_to_newline(chunk: &[u8]) -> Taken
 }
 
 /// Returns the first line of `chunk` with its ending. `None` if `chunk` has no newline, or if the
-/// line has more than `LINE_BYTES`.
+/// line has more than `MAX_LINE_BYTES`.
 fn first_line(chunk: &[u8]) -> Option<&[u8]>
     ensures some { IfSome result (λ line. IsFirstLine chunk.now line.now) }
     ensures none { IfNone result (FirstIsLong chunk.now) }
 {
     let taken = up_to_newline(chunk);
-    if taken.whole && taken.used <= LINE_BYTES {
+    if taken.whole && taken.used <= MAX_LINE_BYTES {
         Some(chunk.split_at(taken.used).0)
     } else {
         None
@@ -525,7 +525,7 @@ fn split_ending(line: &[u8]) -> (&[u8], &[u8])
 
 /// Returns the first line of a text, with this number. It has a newline, or is all of the text.
 ///
-/// `text` may have any length and any bytes. So the line may have more than `LINE_BYTES`.
+/// `text` may have any length and any bytes. So the line may have more than `MAX_LINE_BYTES`.
 pub fn line_in(text: &[u8], number: u32) -> Line<'_>
     ensures bytes { (whole : Bool) ×
         UpToNewline text.now (length (text_of (as_line result))) whole }

@@ -6,7 +6,7 @@ use Rattle.std.specs.Prelude.{◌&&◌, ◌||◌, ◌⊎◌, Option, nat_eq, nat
 use Rattle.std.specs.List.{list_any, starts_with}
 use Rattle.std.specs.Io.KnownBytes.{Consumes, IsAtEnd}
 use Rattle.ud_model.specs.text.Bytes.{skip_white}
-use Rattle.ud_model.specs.declared.limits.TheConstants.{LINE_BYTES}
+use Rattle.ud_model.specs.declared.limits.TheConstants.{MAX_LINE_BYTES}
 
 -- `ReadsAll old new size text`: `text` was read, to the reader's end or to the size of the file.
 pub record ReadsAll (old new : Option (List ℕ)) (size : ℕ) (text : List ℕ) : Type 0 where
@@ -22,10 +22,10 @@ pub record ReadsBlock (old new : Option (List ℕ)) (before after : List ℕ) (c
   pub consumed : Consumes old new bytes
   pub ended : count ≡ 0 → IsAtEnd new
 
--- `ends_in_long_line text`: the last `LINE_BYTES + 1` bytes have no newline.
+-- `ends_in_long_line text`: the last `MAX_LINE_BYTES + 1` bytes have no newline.
 abbrev pub ends_in_long_line : List ℕ → Bool
-ends_in_long_line text = nat_lt LINE_BYTES (length text) &&
-    not (list_any (λ byte. nat_eq byte 10) (drop (length text - (LINE_BYTES + 1)) text))
+ends_in_long_line text = nat_lt MAX_LINE_BYTES (length text) &&
+    not (list_any (λ byte. nat_eq byte 10) (drop (length text - (MAX_LINE_BYTES + 1)) text))
 
 -- `begins_section text`: `text` begins with `#` and `if`, perhaps with white space before each.
 abbrev pub begins_section : List ℕ → Bool

@@ -18,7 +18,7 @@ use ud_engine::{Watched, run};
 /// name the input by the operand, or `stdin`. Lines and arguments count from 1.
 ///
 /// Only the symbols of the arguments need memory. Of the text, the tool buffers one line of at most
-/// `LINE_BYTES`, and the state of at most `OPEN_SECTIONS` open sections. The output is written
+/// `MAX_LINE_BYTES`, and the state of at most `MAX_DEPTH` open sections. The output is written
 /// chunk by chunk, as `run` of ud_engine does.
 ///
 /// The definitions give exactly one answer to the arguments and an input (ud_model,

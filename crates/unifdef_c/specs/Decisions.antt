@@ -8,7 +8,7 @@ use Rattle.ud_model.specs.sections.Items.{rules_of}
 use Rattle.ud_model.specs.declared.cond.Cond.{Cond}
 use Rattle.ud_model.specs.declared.cond.Cond.TheVariants.{Yes, No, Unknown}
 use Rattle.ud_model.specs.declared.kind.Kind.TheVariants.{If}
-use Rattle.ud_model.specs.declared.limits.TheConstants.{LINE_BYTES}
+use Rattle.ud_model.specs.declared.limits.TheConstants.{MAX_LINE_BYTES}
 use Rattle.unifdef_c.specs.Words.{words_of, block_of, AreUtf8}
 use Rattle.unifdef_c.specs.CallFaults.{IsCallFault, code}
 use Rattle.unifdef_c.specs.TextCalls.{overwritten}
@@ -32,11 +32,11 @@ as_int Unknown = pos 2
 -- `IsDecision block text n`: `n` is the number of the condition of the expression `text` by the
 -- words of `block`, or says why there is none. An expression may be longer than a line.
 pub data IsDecision (block text : List ℕ) : ℤ → Type 0 where
-  decided : (c : Cond) → AreUtf8 (words_of block) → length text ≤ LINE_BYTES →
+  decided : (c : Cond) → AreUtf8 (words_of block) → length text ≤ MAX_LINE_BYTES →
       Decides (words_of block) text c → IsDecision block text (as_int c)
-  refused : (f : CallFault) → IsCallFault block f → length text ≤ LINE_BYTES →
+  refused : (f : CallFault) → IsCallFault block f → length text ≤ MAX_LINE_BYTES →
       IsDecision block text (code f)
-  too_long : LINE_BYTES < length text → IsDecision block text (negsuc 2)
+  too_long : MAX_LINE_BYTES < length text → IsDecision block text (negsuc 2)
 
 -- The names of the expression, each with a zero byte after it.
 abbrev pub names_block : List ℕ → List ℕ
@@ -44,7 +44,7 @@ names_block text = block_of (names_of If text)
 
 -- `WritesNames text block block' size' n`: what fits of the names, and their length, were written.
 pub record WritesNames (text block block' : List ℕ) (size' : ℕ) (n : ℤ) : Type 0 where
-  pub fits : length text ≤ LINE_BYTES
+  pub fits : length text ≤ MAX_LINE_BYTES
   pub written : block' ≡ overwritten block (names_block text)
   pub measured : size' ≡ length (names_block text)
   pub returned : n ≡ pos (if nat_le (length (names_block text)) (length block) then 0 else 3)
@@ -53,5 +53,5 @@ pub record WritesNames (text block block' : List ℕ) (size' : ℕ) (n : ℤ) : 
 -- expression is longer than a line, and nothing was written.
 abbrev pub NamesAnswer : List ℕ → List ℕ → List ℕ → ℕ → ℕ → ℤ → Type 0
 NamesAnswer text block block' size size' n = WritesNames text block block' size' n ⊎
-    ((block' ≡ block) × (size' ≡ size) × ((n ≡ negsuc 1) × (length text ≤ LINE_BYTES) ⊎
-    (n ≡ negsuc 2) × (LINE_BYTES < length text)))
+    ((block' ≡ block) × (size' ≡ size) × ((n ≡ negsuc 1) × (length text ≤ MAX_LINE_BYTES) ⊎
+    (n ≡ negsuc 2) × (MAX_LINE_BYTES < length text)))

@@ -5,7 +5,7 @@ ghost use Rattle.ud_model.specs.conditions.Table.{Argument};
 ghost use Rattle.ud_model.specs.conditions.Conditions.{condition_of};
 ghost use Rattle.ud_model.specs.conditions.Names.{names_of};
 ghost use Rattle.ud_model.specs.sections.Items.{rules_of};
-ghost use Rattle.ud_model.specs.declared.limits.TheConstants.{LINE_BYTES};
+ghost use Rattle.ud_model.specs.declared.limits.TheConstants.{MAX_LINE_BYTES};
 ghost use Rattle.ud_model.specs.declared.kind.Kind.TheVariants.{If};
 ghost use Rattle.ud_cond.specs.symbols.SymbolTable.{TableRepresents};
 ghost use Rattle.unifdef_c.specs.Words.{words_of, block_of, AreUtf8};
@@ -18,7 +18,7 @@ use crate::hand_out::overwrite;
 use std::alloc::Global;
 use ud_args::Plan;
 use ud_cond::{Rules, condition, names};
-use ud_model::{Cond, Kind, LINE_BYTES};
+use ud_model::{Cond, Kind, MAX_LINE_BYTES};
 
 /// Decides the expression of an `#if` by the arguments in `words`.
 ///
@@ -26,12 +26,12 @@ use ud_model::{Cond, Kind, LINE_BYTES};
 ///
 /// # Errors
 /// -1 if the words have a fault or one isn't UTF-8, -2 if memory is refused, and -3 if the
-/// expression has more than `LINE_BYTES` bytes.
+/// expression has more than `MAX_LINE_BYTES` bytes.
 #[unsafe(no_mangle)]
 pub extern "C" fn unifdef_condition(alloc: Global, words: &[u8], expression: &[u8]) -> i32
     ensures { IsDecision words.now expression.now result }
 {
-    if expression.len() > LINE_BYTES {
+    if expression.len() > MAX_LINE_BYTES {
         return -3;
     }
     match decide(alloc, words, expression) {
@@ -47,7 +47,7 @@ pub extern "C" fn unifdef_condition(alloc: Global, words: &[u8], expression: &[u
 /// # Errors
 /// As `plan_words`.
 fn decide(alloc: Global, words: &[u8], expression: &[u8]) -> Result<Cond, CallFault>
-    requires fits { length expression.now ≤ LINE_BYTES }
+    requires fits { length expression.now ≤ MAX_LINE_BYTES }
     ensures ok { IfOk result (Decides (words_of words.now) expression.now) }
     ensures utf8 { IfOk result (λ _. AreUtf8 (words_of words.now)) }
     ensures err { IfErr result (IsCallFault words.now) }
@@ -58,7 +58,7 @@ fn decide(alloc: Global, words: &[u8], expression: &[u8]) -> Result<Cond, CallFa
 
 /// Returns the condition of an expression under a plan.
 fn cond_by_plan(plan: &Plan, expression: &[u8]) -> Cond
-    requires fits { length expression.now ≤ LINE_BYTES }
+    requires fits { length expression.now ≤ MAX_LINE_BYTES }
     ensures { (calls : List Argument) → TableRepresents plan.now.symbols calls →
         result ≡ (condition_of If expression.now calls (rules_of plan.now.settings)).cond }
 {
@@ -72,8 +72,8 @@ fn cond_by_plan(plan: &Plan, expression: &[u8]) -> Cond
 /// `size`. Returns 0, or 3 if they don't fit. An expression that can't be understood has none.
 ///
 /// # Errors
-/// -2 if memory is refused, and -3 if the expression has more than `LINE_BYTES` bytes. Then nothing
-/// is written.
+/// -2 if memory is refused, and -3 if the expression has more than `MAX_LINE_BYTES` bytes. Then
+/// nothing is written.
 #[unsafe(no_mangle)]
 pub extern "C" fn unifdef_names(
     alloc: Global,
@@ -83,7 +83,7 @@ pub extern "C" fn unifdef_names(
 ) -> i32
     ensures { NamesAnswer expression.now block.old block.new size.old size.new result }
 {
-    if expression.len() > LINE_BYTES {
+    if expression.len() > MAX_LINE_BYTES {
         return -3;
     }
     match name_block(alloc, expression) {
@@ -101,7 +101,7 @@ pub extern "C" fn unifdef_names(
 /// # Errors
 /// `OutOfMemory` if memory is refused.
 fn name_block(alloc: Global, expression: &[u8]) -> Result<Vec<u8>, CallFault>
-    requires fits { length expression.now ≤ LINE_BYTES }
+    requires fits { length expression.now ≤ MAX_LINE_BYTES }
     ensures ok { IfOk result (λ all. all.items ≡ block_of (names_of If expression.now)) }
     ensures err { IfErr result (λ fault. fault ≡ CallFault.OutOfMemory) }
 {

@@ -6,14 +6,14 @@ use Rattle.std.specs.Prelude.{None}
 use Rattle.ud_model.specs.conditions.Expressions.{precedence}
 use Rattle.ud_model.specs.conditions.Parsing.{Frame, left, before, paren}
 use Rattle.ud_model.specs.declared.operator.Operator.{Operator}
-use Rattle.ud_model.specs.declared.limits.TheConstants.{LINE_BYTES}
+use Rattle.ud_model.specs.declared.limits.TheConstants.{MAX_LINE_BYTES}
 use Rattle.ud_cond.specs.declared.expressions.stacks.PendingOp.{PendingOp}
 use Rattle.ud_cond.specs.declared.expressions.stacks.PendingOp.TheVariants.{Binary, Prefix, Opening}
 
 -- `Suffice bytes operands`: stacks of `bytes` operators and `operands` operands suffice for a text
 -- of `bytes` bytes, no longer than a line: there are at least half as many operands.
 abbrev pub Suffice : ℕ → ℕ → Type 0
-Suffice bytes operands = (bytes ≤ LINE_BYTES) × (operands ≤ bytes) × (bytes ≤ 2 * operands)
+Suffice bytes operands = (bytes ≤ MAX_LINE_BYTES) × (operands ≤ bytes) × (bytes ≤ 2 * operands)
 
 -- `frames ws vs`: what is pending, by the operators and the left operands, each from the top down.
 abbrev pub frames : {A : Type 0} → List PendingOp → List A → List (Frame A)

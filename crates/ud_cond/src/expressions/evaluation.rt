@@ -5,7 +5,7 @@
 
 ghost use Rattle.std.specs.Prelude.{◌≡◌, ◌≤◌, [], length};
 ghost use Rattle.ud_model.specs.conditions.Parsing as spec;
-ghost use Rattle.ud_model.specs.declared.limits.TheConstants.{LINE_BYTES};
+ghost use Rattle.ud_model.specs.declared.limits.TheConstants.{MAX_LINE_BYTES};
 ghost use Rattle.ud_cond.specs.expressions.Stacks.{Suffice};
 ghost use Rattle.ud_cond.specs.expressions.Evaluation.{value_meaning_in};
 
@@ -18,7 +18,7 @@ use crate::expressions::stacks::{
     VERY_LONG_TEXT_BYTES, VERY_LONG_TEXT_OPERANDS,
 };
 use crate::expressions::values::{NO_VALUE, Scope, Value, binary, constant, defined, named, unary};
-use ud_model::{LINE_BYTES, Operator};
+use ud_model::{MAX_LINE_BYTES, Operator};
 
 impl Keeper for Scope<'_> {
     ghost use Rattle.ud_cond.specs.declared.expressions.values.Value.{Value};
@@ -92,7 +92,7 @@ fn evaluate_with_stacks<const BYTES: usize, const OPERANDS: usize>(
 /// Evaluates a text. Returns `None` if the text isn't one expression.
 #[inline(never)]
 pub(crate) fn evaluate(scope: &Scope<'_>, text: &[u8]) -> Option<Value>
-    requires fits { length text.now ≤ LINE_BYTES }
+    requires fits { length text.now ≤ MAX_LINE_BYTES }
     ensures { result ≡ spec.reads (value_meaning_in scope.now) (spec.needs []) text.now }
 {
     match text.len() {
@@ -112,6 +112,6 @@ pub(crate) fn evaluate(scope: &Scope<'_>, text: &[u8]) -> Option<Value>
             VERY_LONG_TEXT_BYTES,
             VERY_LONG_TEXT_OPERANDS,
         >(scope, text),
-        _ => evaluate_with_stacks::<LINE_BYTES, LINE_OPERANDS>(scope, text),
+        _ => evaluate_with_stacks::<MAX_LINE_BYTES, LINE_OPERANDS>(scope, text),
     }
 }

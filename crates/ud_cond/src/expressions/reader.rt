@@ -11,7 +11,7 @@ ghost use Rattle.ud_model.specs.conditions.Tokens.{next_token as token_of};
 ghost use Rattle.ud_model.specs.conditions.Parsing as spec;
 ghost use Rattle.ud_model.specs.conditions.Parsing.{Frame, ParseState, needs, has, step, stuck};
 ghost use Rattle.ud_model.specs.conditions.Parsing.{reads};
-ghost use Rattle.ud_model.specs.declared.limits.TheConstants.{LINE_BYTES};
+ghost use Rattle.ud_model.specs.declared.limits.TheConstants.{MAX_LINE_BYTES};
 ghost use Rattle.ud_cond.specs.CondViews.{as_token};
 ghost use Rattle.ud_cond.specs.expressions.DefinedOperands as asking;
 ghost use Rattle.ud_cond.specs.expressions.Stacks.{weight, operand_weight};
@@ -22,7 +22,7 @@ use crate::expressions::keeper::Keeper;
 use crate::expressions::operators::{is_prefix, precedence};
 use crate::expressions::stacks::Stacks;
 use crate::expressions::tokens::{NextToken, Token, next_token};
-use ud_model::LINE_BYTES;
+use ud_model::MAX_LINE_BYTES;
 
 /// Parses a leading name without arguments. Returns the name and what follows it.
 #[tactic(auto, using(ud_model::proofs::conditions::TokenLemmas::shorter))]
@@ -119,7 +119,7 @@ fn read_operand<'a, K: Keeper, const BYTES: usize, const OPERANDS: usize>(
     rest: &'a [u8],
 ) -> Option<(Option<K::Part>, &'a [u8])>
     requires room { weight stacks.old + 1 ≤ BYTES }
-    requires fits { count K.keeping notes.old + length rest.now < LINE_BYTES }
+    requires fits { count K.keeping notes.old + length rest.now < MAX_LINE_BYTES }
     ensures some { IfSome result (λ r. ReadsOperand K.keeping (K.meaning keeper.now)
         stacks.old notes.old (as_token token.entry) rest.now r.0 stacks.new notes.new r.1.now) }
     ensures none { IfNone result ((s : List (Frame K.Meant)) → reads (K.meaning keeper.now)
@@ -169,7 +169,7 @@ fn read_operator<K: Keeper, const BYTES: usize, const OPERANDS: usize>(
     token: Token<'_>,
 ) -> Option<Option<K::Part>>
     requires room { weight stacks.old + 2 ≤ BYTES }
-    requires fits { count K.keeping notes.old < LINE_BYTES }
+    requires fits { count K.keeping notes.old < MAX_LINE_BYTES }
     ensures some { IfSome result (λ r. ReadsOperator K.keeping (K.meaning keeper.now)
         stacks.old part notes.old (as_token token.entry) r stacks.new notes.new) }
     ensures none { IfNone result ((s : List (Frame K.Meant)) (k : K.Meant) →
@@ -229,7 +229,7 @@ pub(crate) fn read<K: Keeper, const BYTES: usize, const OPERANDS: usize>(
     text: &[u8],
 ) -> Option<K::Part>
     requires fits { length text.now ≤ BYTES }
-    requires line { BYTES ≤ LINE_BYTES }
+    requires line { BYTES ≤ MAX_LINE_BYTES }
     requires empty { stacks.old ≡ [] }
     requires fresh { Noted K.keeping notes.old [] }
     ensures some { IfSome result (λ r. IsMeant K.keeping

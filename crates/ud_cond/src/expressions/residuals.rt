@@ -12,7 +12,7 @@ ghost use Rattle.ud_model.specs.conditions.Table.{Argument};
 ghost use Rattle.ud_model.specs.aids.Residuals as residuals;
 ghost use Rattle.ud_model.specs.conditions.Parsing as parsing;
 ghost use Rattle.ud_model.specs.conditions.Parsing.{reads, needs};
-ghost use Rattle.ud_model.specs.declared.limits.TheConstants.{LINE_BYTES};
+ghost use Rattle.ud_model.specs.declared.limits.TheConstants.{MAX_LINE_BYTES};
 ghost use Rattle.ud_cond.specs.CondViews.{as_rules};
 ghost use Rattle.ud_cond.specs.symbols.SymbolTable.{TableRepresents};
 ghost use Rattle.ud_cond.specs.expressions.Stacks.{Suffice};
@@ -36,7 +36,7 @@ use crate::expressions::values::{
 };
 use crate::symbols::Symbols;
 use crate::token_flags::TokenFlags;
-use ud_model::{Cond, LINE_BYTES, Operator};
+use ud_model::{Cond, MAX_LINE_BYTES, Operator};
 
 /// Returns whether beside an operand with this condition the other one alone decides.
 fn is_unit(operator: Operator, cond: Cond) -> bool
@@ -315,9 +315,9 @@ fn read_with_stacks<const BYTES: usize, const OPERANDS: usize>(
     read(residuals, &mut stacks, flags, text)
 }
 
-/// Reads a text of at most `LINE_BYTES`. Returns `None` if the text isn't one expression.
+/// Reads a text of at most `MAX_LINE_BYTES`. Returns `None` if the text isn't one expression.
 fn read_text(residuals: &Residuals<'_>, text: &[u8], flags: &mut TokenFlags) -> Option<Part>
-    requires fits { length text.now ≤ LINE_BYTES }
+    requires fits { length text.now ≤ MAX_LINE_BYTES }
     requires fresh { flags.old ≡ [] }
     ensures some { IfSome result (λ r. IsMeant kept_keeping (reads (kept_meaning_of residuals.now)
         (needs []) text.now) r flags.new) }
@@ -336,14 +336,14 @@ fn read_text(residuals: &Residuals<'_>, text: &[u8], flags: &mut TokenFlags) -> 
                 residuals, text, flags,
             )
         }
-        _ => read_with_stacks::<LINE_BYTES, LINE_OPERANDS>(residuals, text, flags),
+        _ => read_with_stacks::<MAX_LINE_BYTES, LINE_OPERANDS>(residuals, text, flags),
     }
 }
 
 /// Returns the condition of the residual of the text of an `#if` or `#elif`.
 ///
-/// `text` is what follows the keyword on its masked line, at most `LINE_BYTES`. The residual is the
-/// expression without the operands that `symbols` decides, and without their operators. `flags`
+/// `text` is what follows the keyword on its masked line, at most `MAX_LINE_BYTES`. The residual is
+/// the expression without the operands that `symbols` decides, and without their operators. `flags`
 /// then has a flag for each token of the text: whether the residual has it. Returns `None` if the
 /// text isn't an expression. Takes no memory.
 ///
@@ -357,7 +357,7 @@ pub fn residual(
     rules: Rules,
     flags: &mut TokenFlags,
 ) -> Option<Cond>
-    requires fits { length text.now ≤ LINE_BYTES }
+    requires fits { length text.now ≤ MAX_LINE_BYTES }
     ensures some { IfSome result (λ r. (calls : List Argument) →
         TableRepresents symbols.now calls →
         HasResidual calls (as_rules rules) text.now r flags.new) }

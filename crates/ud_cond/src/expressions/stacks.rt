@@ -15,7 +15,7 @@ ghost use Rattle.ud_cond.specs.expressions.Stacks.{weight};
 use crate::expressions::operators::precedence;
 use arrayvec::ArrayVec;
 use std::marker::Model;
-use ud_model::{LINE_BYTES, Operator};
+use ud_model::{MAX_LINE_BYTES, Operator};
 
 /// The most bytes of a tiny text.
 pub(crate) const TINY_TEXT_BYTES: usize = 32;
@@ -48,7 +48,7 @@ pub(crate) const VERY_LONG_TEXT_BYTES: usize = 8192;
 pub(crate) const VERY_LONG_TEXT_OPERANDS: usize = VERY_LONG_TEXT_BYTES / 2;
 
 /// The most operands that are pending in a line.
-pub(crate) const LINE_OPERANDS: usize = LINE_BYTES / 2;
+pub(crate) const LINE_OPERANDS: usize = MAX_LINE_BYTES / 2;
 
 /// An entry of the operator stack.
 #[derive(Clone, Copy)]

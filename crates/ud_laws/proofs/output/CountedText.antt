@@ -15,7 +15,7 @@ use Rattle.ud_model.specs.laws.Pruned.{printed}
 use Rattle.ud_model.specs.laws.Rereading.{IsPlain}
 use Rattle.ud_laws.specs.output.InsertedLines.{with_blank_renumber, AddsNumbers, Counted, CountsLines}
 use Rattle.ud_model.specs.aids.ReadAs.{read_in, read_as}
-use Rattle.ud_model.specs.declared.limits.TheConstants.{TEXT_LINES}
+use Rattle.ud_model.specs.declared.limits.TheConstants.{MAX_LINES}
 use Rattle.ud_model.specs.declared.kind.Mode.{Mode}
 use Rattle.ud_model.proofs.text.ScanLaws.{readings_after-append}
 use Rattle.ud_model.proofs.sections.Soundness.{lines_with_next, sound_lines, one_run}
@@ -122,14 +122,14 @@ pub counted_lines : (o : Options) (input : List ℕ) {js : List Judged} {r s : O
 counted_lines o input k (judged_as reads) = counted_text o k.plain k.blank k.renumber k.some k.padded input reads k.runs k.numbered
 
 module _ (o : Options) where
-  few_items : {xs : List (Item Reading)} {t : Tree Reading} → AreFaultless o xs t → Each (λ (l : Line). l.number ≤ TEXT_LINES) (map line_of xs)
+  few_items : {xs : List (Item Reading)} {t : Tree Reading} → AreFaultless o xs t → Each (λ (l : Line). l.number ≤ MAX_LINES) (map line_of xs)
   few_items no_lines = tt
   few_items (one_more xs t s l u e w) = grind (arith, lines_with_next, line_of-next_item, each_both, few_items s)
 
-each_line : (js : List Judged) → Each (λ (l : Line). l.number ≤ TEXT_LINES) (map (λ (j : Judged). j.line) js) → Each (λ (j : Judged). j.line.number ≤ TEXT_LINES) js
+each_line : (js : List Judged) → Each (λ (l : Line). l.number ≤ MAX_LINES) (map (λ (j : Judged). j.line) js) → Each (λ (j : Judged). j.line.number ≤ MAX_LINES) js
 each_line [] h = tt
 each_line (j ∷ js) h = (h.0, each_line js h.1)
 
 -- Judged lines have numbers within the limit.
-pub judged_few : (o : Options) (input : List ℕ) {js : List Judged} → JudgedAs o input js → Each (λ (j : Judged). j.line.number ≤ TEXT_LINES) js
+pub judged_few : (o : Options) (input : List ℕ) {js : List Judged} → JudgedAs o input js → Each (λ (j : Judged). j.line.number ≤ MAX_LINES) js
 judged_few o input h = grind (arith, each_line, judged_read, few_items)

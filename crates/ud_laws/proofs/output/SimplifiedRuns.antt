@@ -27,7 +27,7 @@ use Rattle.ud_simplified.specs.SimplifiedTexts.{condition_cells, simplified_line
 use Rattle.ud_model.specs.declared.cond.Cond.TheVariants.{Unknown}
 use Rattle.ud_model.specs.declared.kind.Kind.{Kind}
 use Rattle.ud_model.specs.declared.kind.Mode.TheVariants.{C}
-use Rattle.ud_model.specs.declared.limits.TheConstants.{LINE_BYTES, TEXT_LINES, OPEN_SECTIONS}
+use Rattle.ud_model.specs.declared.limits.TheConstants.{MAX_LINE_BYTES, MAX_LINES, MAX_DEPTH}
 use Rattle.ud_model.proofs.text.ScanLaws.{joins_after-code}
 use Rattle.ud_model.proofs.text.ScanLemmas.{joins_last}
 use Rattle.ud_model.proofs.sections.Soundness.{reading_of-item_of, read_lines}
@@ -161,12 +161,12 @@ module _ (o : Options) where
 
   pub all_few : {rs ss : List Reading} → Pairs Simplified rs ss → Each IsFew (items o rs) → Each IsFew (items o ss)
   all_few p h = each_left IsFew
-      (λ r s i. of_reading (λ (x : Reading). x.line.number ≤ TEXT_LINES) r s
-      (λ l. subst (λ (n : ℕ). n ≤ TEXT_LINES) (sym (number_left o.table (rules_of o.settings) r s i)) l)) p h
+      (λ r s i. of_reading (λ (x : Reading). x.line.number ≤ MAX_LINES) r s
+      (λ l. subst (λ (n : ℕ). n ≤ MAX_LINES) (sym (number_left o.table (rules_of o.settings) r s i)) l)) p h
 
   pub all_short : {rs ss : List Reading} → Pairs Simplified rs ss → Each IsShort (items o rs) → Each IsShort (items o ss)
   all_short p h = each_left IsShort
-      (λ r s i. of_reading (λ (x : Reading). length (text_of x.line) ≤ LINE_BYTES) r s
+      (λ r s i. of_reading (λ (x : Reading). length (text_of x.line) ≤ MAX_LINE_BYTES) r s
       (λ l. let m = short_left o.table (rules_of o.settings) r s i in omega (arith, l, m))) p h
 
   pub all_calm : {rs ss : List Reading} → Pairs Simplified rs ss → ends_in_comment (items o rs) ≡ false → ends_in_comment (items o ss) ≡ false
@@ -221,22 +221,22 @@ module _ (o : Options) (p : IsPlainC o) (input : List ℕ) {r : Outcome} (d : Ha
     calm_now : ends_in_comment i.items ≡ false → ends_in_comment j.items ≡ false
     calm_now h = ap ends_in_comment (sym zs) ∙ all_calm o both_read (ap ends_in_comment (sym ys) ∙ h)
 
-    low_now : height_of_nodes us ≤ OPEN_SECTIONS → height_of_nodes ss ≤ OPEN_SECTIONS
-    low_now h = subst (λ (m : ℕ). m ≤ OPEN_SECTIONS) (sym (height_left o like)) h
+    low_now : height_of_nodes us ≤ MAX_DEPTH → height_of_nodes ss ≤ MAX_DEPTH
+    low_now h = subst (λ (m : ℕ). m ≤ MAX_DEPTH) (sym (height_left o like)) h
 
     undecided_now : IsUndecided us → IsUndecided ss
     undecided_now h =
         let before = subst (Each IsOpen) (read_lines i.read ∙ ys) (to_items Any IsUnknown us h) in
         from_items Any IsUnknown ss (subst (Each IsOpen) (zs ∙ sym (read_lines j.read)) (all_open o both_read before))
 
-    copies_by : Each IsUncut i.items → Each IsFew i.items → height_of_nodes us ≤ OPEN_SECTIONS → ends_in_comment i.items ≡ false → IsUndecided us →
+    copies_by : Each IsUncut i.items → Each IsFew i.items → height_of_nodes us ≤ MAX_DEPTH → ends_in_comment i.items ≡ false → IsUndecided us →
         HasOutcome o left_text (record { output = left_text; fault = None; differs = false })
     copies_by a b c e u = runs_again o p.plain left_text j.items ss
         (record { sound = sound_again o j.items (closed ss) j.read (uncut_now a) (few_now b) short_now (low_now c) (undecided_stay ss (undecided_now u)); are = j.are }) (undecided_now u)
         (ap (λ (x : Bool). end_by x (last_number j.items) None) (calm_now e))
 
   copies_with : (us : Nodes Reading) (i : IsTreeOf o r.output (closed us)) → Each IsUncut i.items → Each IsFew i.items →
-      height_of_nodes us ≤ OPEN_SECTIONS → ends_in_comment i.items ≡ false → IsUndecided us →
+      height_of_nodes us ≤ MAX_DEPTH → ends_in_comment i.items ≡ false → IsUndecided us →
       (ss : Nodes Reading) × IsTreeOf o left_text (closed ss) × Like o us ss →
       HasOutcome o left_text (record { output = left_text; fault = None; differs = false })
   copies_with us i a b c e u (ss, j, like) = copies_by us ss i j like a b c e u

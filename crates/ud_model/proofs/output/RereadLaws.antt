@@ -39,7 +39,7 @@ use Rattle.ud_model.proofs.output.RereadMore.{IsUncut}
 use Rattle.ud_model.proofs.output.SoundAgain.{sound_again, IsFew, fit_short, sound_low, sound_few, again_few}
 use Rattle.ud_model.proofs.output.PrunedHeights.{pruned_height, height-with}
 use Rattle.ud_model.specs.aids.Height.{height, height_of_nodes}
-use Rattle.ud_model.specs.declared.limits.TheConstants.{OPEN_SECTIONS}
+use Rattle.ud_model.specs.declared.limits.TheConstants.{MAX_DEPTH}
 use Rattle.ud_model.proofs.output.RereadChain.{AllButLast, lines_end, again}
 use Rattle.ud_model.proofs.text.LinesLemmas.{lines_exist}
 use Rattle.ud_model.proofs.output.WovenTrees.{Woven, TextGoes, EndifGoes, ElseGoes, IfGoes, ElifGoes, strewn_pairs, weave_nodes}
@@ -139,7 +139,7 @@ kept_bytes u [] = refl
 kept_bytes u (l ∷ ls) = ap (λ (t : List (List ℕ)). line_bytes l ∷ t) (kept_bytes u ls)
 
 -- The rest of nodes is no higher.
-low_left : (u : Bool) (us ns : Nodes Reading) → with_lines line_bytes us ≡ with_lines (edited_bytes u) (folded ns) → height_of_nodes ns ≤ OPEN_SECTIONS → height_of_nodes us ≤ OPEN_SECTIONS
+low_left : (u : Bool) (us ns : Nodes Reading) → with_lines line_bytes us ≡ with_lines (edited_bytes u) (folded ns) → height_of_nodes ns ≤ MAX_DEPTH → height_of_nodes us ≤ MAX_DEPTH
 low_left u us ns e h = grind (arith, height-with, pruned_height)
 
 module _ (o : Options) (p : IsPlain o) (input : List ℕ) where
@@ -152,7 +152,7 @@ module _ (o : Options) (p : IsPlain o) (input : List ℕ) where
     pub same : with_lines line_bytes tree ≡ with_lines (edited_bytes o.settings.unpadded) (folded ns)
     pub uncut : Each IsUncut is_tree.items
     pub few : Each IsFew is_tree.items
-    pub low : height_of_nodes tree ≤ OPEN_SECTIONS
+    pub low : height_of_nodes tree ≤ MAX_DEPTH
     pub calm : ends_in_comment is_tree.items ≡ false
 
   -- An input without a fault has such an output.
@@ -182,7 +182,7 @@ module _ (o : Options) (p : IsPlain o) (input : List ℕ) where
         same = bytes;
         uncut = z.1.uncut;
         few = again_few o (the_mode o) xs t z.0 z.1 (sound_few o xs t (texts_of input) g.sound (sym g.are));
-        low = low_left o.settings.unpadded along.nodes ns bytes (subst (λ (u : Tree Reading). height u ≤ OPEN_SECTIONS) same (sound_low o xs t g.sound));
+        low = low_left o.settings.unpadded along.nodes ns bytes (subst (λ (u : Tree Reading). height u ≤ MAX_DEPTH) same (sound_low o xs t g.sound));
         calm = z.1.ends (end_parts (ends_in_comment xs) (last_number xs) (innermost t) e).0;
       }
 

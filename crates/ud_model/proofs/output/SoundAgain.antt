@@ -10,7 +10,7 @@ use Rattle.ud_model.specs.sections.Items.{Options, line_of, next_item}
 use Rattle.ud_model.specs.sections.Faults.{AreFaultless, no_lines, one_more, NoneHolds, cases, ends_removed, is_obfuscated_after}
 use Rattle.ud_model.specs.laws.Rereading.{LinesFit, AreRead, no_items, one_item}
 use Rattle.ud_model.specs.declared.kind.Mode.{Mode}
-use Rattle.ud_model.specs.declared.limits.TheConstants.{LINE_BYTES, TEXT_LINES, OPEN_SECTIONS}
+use Rattle.ud_model.specs.declared.limits.TheConstants.{MAX_LINE_BYTES, MAX_LINES, MAX_DEPTH}
 use Rattle.ud_model.proofs.output.Each.{Each, each_parts}
 use Rattle.ud_model.proofs.sections.Growth.{Adds, adds_under}
 use Rattle.ud_model.proofs.output.PrunedHeights.{grows_most}
@@ -38,21 +38,21 @@ module _ {L : Type 0} where
 
 -- The line's number is one that a line of a text may have.
 abbrev pub IsFew : Item Reading → Type 0
-IsFew y = (line_of y).number ≤ TEXT_LINES
+IsFew y = (line_of y).number ≤ MAX_LINES
 
 -- The line isn't too long.
 abbrev pub IsShort : Item Reading → Type 0
-IsShort y = length (text_of (line_of y)) ≤ LINE_BYTES
+IsShort y = length (text_of (line_of y)) ≤ MAX_LINE_BYTES
 
 not_more : (m n : ℕ) → (n < m → ⊥) → m ≤ n
 not_more m n h = omega (arith, h)
 
 -- A text without a fault is no higher than sections may be open.
-pub sound_low : (o : Options) (xs : List (Item Reading)) (t : Tree Reading) → AreFaultless o xs t → height t ≤ OPEN_SECTIONS
+pub sound_low : (o : Options) (xs : List (Item Reading)) (t : Tree Reading) → AreFaultless o xs t → height t ≤ MAX_DEPTH
 sound_low o _ _ no_lines = omega arith
 sound_low o _ _ (one_more xs t s l u e n) = let x : Item Reading = next_item o xs t l in
     let a : Adds t x u = Trees.grows t u x (e ∙ ap (λ (zs : List (Item Reading)). zs ++ x ∷ []) (sym (sound_lines s))) in
-    omega (arith, grows_most a, sound_low o xs t s, not_more (depth u) OPEN_SECTIONS (λ m. n.1.1.1.1.0 (u, e, m)))
+    omega (arith, grows_most a, sound_low o xs t s, not_more (depth u) MAX_DEPTH (λ m. n.1.1.1.1.0 (u, e, m)))
 
 -- The number of the last of numbered lines.
 last_numbered : (n : ℕ) (ls : List Line) (l : Line) (ts : List (List ℕ)) → ls ++ l ∷ [] ≡ numbered_from n ts → l.number ≡ n + length ls
@@ -62,10 +62,10 @@ last_numbered n (k ∷ ls) l [] e = cc
 last_numbered n (k ∷ ls) l (t ∷ ts) e = let p : ls ++ l ∷ [] ≡ numbered_from (suc n) ts = cc in last_numbered (suc n) ls l ts p ∙ omega arith
 
 -- A text without a fault has no more lines than it may have.
-pub sound_few : (o : Options) (xs : List (Item Reading)) (t : Tree Reading) (ts : List (List ℕ)) → AreFaultless o xs t → map line_of xs ≡ numbered_from 1 ts → length xs ≤ TEXT_LINES
+pub sound_few : (o : Options) (xs : List (Item Reading)) (t : Tree Reading) (ts : List (List ℕ)) → AreFaultless o xs t → map line_of xs ≡ numbered_from 1 ts → length xs ≤ MAX_LINES
 sound_few o xs t ts h g = grind (arith, last_numbered, map-append, length-map, length-append)
 
-numbered_few : (n : ℕ) (ts : List (List ℕ)) (ys : List (Item Reading)) → map line_of ys ≡ numbered_from n ts → n + length ts ≤ suc TEXT_LINES → Each IsFew ys
+numbered_few : (n : ℕ) (ts : List (List ℕ)) (ys : List (Item Reading)) → map line_of ys ≡ numbered_from n ts → n + length ts ≤ suc MAX_LINES → Each IsFew ys
 numbered_few n ts [] e h = tt
 numbered_few n [] (y ∷ ys) e h = cc
 numbered_few n (t ∷ ts) (y ∷ ys) e h = let p : line_of y ≡ line_at n t = cc in
@@ -74,7 +74,7 @@ numbered_few n (t ∷ ts) (y ∷ ys) e h = let p : line_of y ≡ line_at n t = c
     (omega (arith, r, h), numbered_few (suc n) ts ys q (omega (arith, h)))
 
 -- Neither has the output for it.
-pub again_few : (o : Options) (m : Mode) (xs : List (Item Reading)) (t : Tree Reading) (ys : List (Item Reading)) → Again o m xs t ys → length xs ≤ TEXT_LINES → Each IsFew ys
+pub again_few : (o : Options) (m : Mode) (xs : List (Item Reading)) (t : Tree Reading) (ys : List (Item Reading)) → Again o m xs t ys → length xs ≤ MAX_LINES → Each IsFew ys
 again_few o m xs t ys a h = grind (arith, length-map, printed_most, numbered_few)
 
 -- Lines that fit are short.
@@ -98,11 +98,11 @@ module _ (xs : List (Item Reading)) (x : Item Reading) (u : Tree Reading) (are :
       ap₂ (λ (r : Bool) (k : Mark). is_obfuscated_after r x k) (none_removed before h.0) h.1.0 ∙ kept_unspoiled x
 
   -- A line that is the last of such lines has no fault.
-  none_holds : IsUncut x → IsFew x → IsShort x → height u ≤ OPEN_SECTIONS → NoneHolds xs x cases
+  none_holds : IsUncut x → IsFew x → IsShort x → height u ≤ MAX_DEPTH → NoneHolds xs x cases
   none_holds c f s h = (
-    λ (g : TEXT_LINES < (line_of x).number). absurd (omega (arith, g, f)),
+    λ (g : MAX_LINES < (line_of x).number). absurd (omega (arith, g, f)),
     (
-      λ (g : LINE_BYTES < length (text_of (line_of x))). absurd (omega (arith, g, s)),
+      λ (g : MAX_LINE_BYTES < length (text_of (line_of x))). absurd (omega (arith, g, s)),
       (
         λ g. let e : true ≡ false = sym g ∙ c in cc,
         (
@@ -119,7 +119,7 @@ module _ (xs : List (Item Reading)) (x : Item Reading) (u : Tree Reading) (are :
   )
 
 -- Such lines are faultless.
-pub sound_again : (o : Options) (ys : List (Item Reading)) (t : Tree Reading) → AreRead o ys t → Each IsUncut ys → Each IsFew ys → Each IsShort ys → height t ≤ OPEN_SECTIONS →
+pub sound_again : (o : Options) (ys : List (Item Reading)) (t : Tree Reading) → AreRead o ys t → Each IsUncut ys → Each IsFew ys → Each IsShort ys → height t ≤ MAX_DEPTH →
     Each Stays (marks t) → AreFaultless o ys t
 sound_again o _ _ no_items c f s h k = no_lines
 sound_again o _ _ (one_item ys t r l u e) c f s h k = let x : Item Reading = next_item o ys t l in

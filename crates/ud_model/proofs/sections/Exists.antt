@@ -14,7 +14,7 @@ use Rattle.ud_model.specs.answer.Outcomes.{Outcome, outcome_of, FirstFaultAt, Ha
 use Rattle.ud_model.specs.answer.Outcomes.ReadsAs.{stops, ends}
 use Rattle.ud_model.specs.answer.Outcomes.ReadsSoFar.{stops as stops_so_far}
 use Rattle.ud_model.specs.answer.Answer.{Answer, IsAnswer, refused, ran, usage_answer, run_answer}
-use Rattle.ud_model.specs.declared.limits.TheConstants.{LINE_BYTES, TEXT_LINES, OPEN_SECTIONS}
+use Rattle.ud_model.specs.declared.limits.TheConstants.{MAX_LINE_BYTES, MAX_LINES, MAX_DEPTH}
 use Rattle.ud_model.proofs.sections.Growth.{Adds, adds_text, adds_if, elif_after_if, elif_after_elif, else_after_if, else_after_elif, adds_endif, adds_under, lines-add}
 use Rattle.ud_model.proofs.sections.Unique.{unique, grows}
 use Rattle.ud_model.proofs.sections.Stays.{marks_more}
@@ -89,11 +89,11 @@ either_less m n = grind arith
 module _ (xs : List (Item Reading)) (t : Tree Reading) (are : lines t ≡ xs) (x : Item Reading) where
   deep_or_not : (u : Tree Reading) → lines u ≡ xs ++ x ∷ [] → Either (Holds xs x too_deep)
   unfolding Either
-  deep_or_not u e = go (either_less OPEN_SECTIONS (depth u))
+  deep_or_not u e = go (either_less MAX_DEPTH (depth u))
     where
-      go : (OPEN_SECTIONS < depth u) ⊎ (OPEN_SECTIONS < depth u → ⊥) → Holds xs x too_deep ⊎ (Holds xs x too_deep → ⊥)
+      go : (MAX_DEPTH < depth u) ⊎ (MAX_DEPTH < depth u → ⊥) → Holds xs x too_deep ⊎ (Holds xs x too_deep → ⊥)
       go (inl h) = inl (u, e, h)
-      go (inr h) = inr (λ k. h (subst (λ v. OPEN_SECTIONS < depth v) (unique k.0 u (k.1 ∙ sym e)) k.2))
+      go (inr h) = inr (λ k. h (subst (λ v. MAX_DEPTH < depth v) (unique k.0 u (k.1 ∙ sym e)) k.2))
 
   spoiled_or_not : (u : Tree Reading) → Adds t x u → lines u ≡ xs ++ x ∷ [] → Either (Holds xs x obfuscated_case)
   unfolding Either
@@ -139,7 +139,7 @@ module _ (xs : List (Item Reading)) (t : Tree Reading) (are : lines t ≡ xs) (x
   -- The line after lines with a tree is faultless, or has a fault.
   pub represents : Stands xs x
   unfolding Either
-  represents = at_number (either_less TEXT_LINES (line_of x).number) (either_less LINE_BYTES (length (text_of (line_of x)))) (either_true (is_cut (content_of (reading_of x).scan)))
+  represents = at_number (either_less MAX_LINES (line_of x).number) (either_less MAX_LINE_BYTES (length (text_of (line_of x)))) (either_true (is_cut (content_of (reading_of x).scan)))
     where
       at_number : Holds xs x past_last ⊎ (Holds xs x past_last → ⊥) → Holds xs x too_long ⊎ (Holds xs x too_long → ⊥) → Holds xs x cut ⊎ (Holds xs x cut → ⊥) → Stands xs x
       at_number (inl h) b c = faulty (too_many_lines (line_of x).number) (record { which = past_last; holds = h; first = tt; named = refl })
@@ -212,7 +212,7 @@ module _ (o : Options) (given : List ℕ) (xs : List (Item Reading)) (t : Tree R
   pub breaks_or_not : Breaks o given xs t
   unfolding rest_item Either
   breaks_or_not =
-      breaks_by (none_or_some (partial_line given)) (either_less TEXT_LINES (line_of rest_item).number) (either_less LINE_BYTES (length (text_of (line_of rest_item))))
+      breaks_by (none_or_some (partial_line given)) (either_less MAX_LINES (line_of rest_item).number) (either_less MAX_LINE_BYTES (length (text_of (line_of rest_item))))
 
 -- Each text that goes on is read in some way so far.
 pub reading_so_far_exists : (o : Options) (given : List ℕ) → (xs : List (Item Reading)) × (t : Tree Reading) × (f : Option Fault) × ReadsSoFar o given xs t f

@@ -30,7 +30,7 @@ use Rattle.ud_model.specs.answer.Outcomes.{Outcome, HasOutcome}
 use Rattle.ud_model.specs.laws.Worlds.{World, selected, truths_of, openers_in}
 use Rattle.ud_model.specs.laws.Pruned.{Edited, pruned_lines}
 use Rattle.ud_model.specs.declared.settings.Listing.TheVariants.{Off}
-use Rattle.ud_model.specs.declared.limits.TheConstants.{LINE_BYTES}
+use Rattle.ud_model.specs.declared.limits.TheConstants.{MAX_LINE_BYTES}
 
 -- `NoneIgnores table`: no argument makes its sections plain text.
 abbrev pub NoneIgnores : List Argument → Type 0
@@ -91,7 +91,7 @@ pub record CleanRun : Type 0 where
 -- `LinesFit ls`: no line of `ls` is too long.
 abbrev pub LinesFit : List Line → Type 0
 LinesFit [] = Unit {0}
-LinesFit (l ∷ ls) = (length (text_of l) ≤ LINE_BYTES) × LinesFit ls
+LinesFit (l ∷ ls) = (length (text_of l) ≤ MAX_LINE_BYTES) × LinesFit ls
 
 -- `line_bytes l`: the bytes of a line that was read, with its ending.
 abbrev pub line_bytes : Reading → List ℕ

@@ -26,7 +26,7 @@ use Rattle.ud_model.specs.declared.kind.CommentAt.{CommentAt}
 use Rattle.ud_model.specs.declared.kind.CommentAt.TheVariants.{Outside, InLine, InBlock}
 use Rattle.ud_model.specs.declared.verdict.Verdict.{Verdict}
 use Rattle.ud_model.specs.declared.verdict.Verdict.TheVariants.{Keep, Remove, ToIf, ToElse, ToEndif}
-use Rattle.ud_model.specs.declared.limits.TheConstants.{LINE_BYTES, TEXT_LINES, OPEN_SECTIONS}
+use Rattle.ud_model.specs.declared.limits.TheConstants.{MAX_LINE_BYTES, MAX_LINES, MAX_DEPTH}
 
 -- A fault of a text, and its line.
 pub data Fault : Type 0 where
@@ -118,11 +118,11 @@ MarksWith xs x before m = (t : Tree Reading) × (lines t ≡ xs ++ x ∷ []) ×
 
 -- `Holds xs x c`: the case `c` holds for the line `x` after the lines `xs`.
 abbrev pub Holds : List (Item Reading) → Item Reading → Case → Type 0
-Holds xs x past_last = TEXT_LINES < (line_of x).number
-Holds xs x too_long = LINE_BYTES < length (text_of (line_of x))
+Holds xs x past_last = MAX_LINES < (line_of x).number
+Holds xs x too_long = MAX_LINE_BYTES < length (text_of (line_of x))
 Holds xs x cut = IsTrue (is_cut (content_of (reading_of x).scan))
 Holds xs x out_of_place = HasTree xs × ¬ (HasTree (xs ++ x ∷ []))
-Holds xs x too_deep = (t : Tree Reading) × (lines t ≡ xs ++ x ∷ []) × (OPEN_SECTIONS < depth t)
+Holds xs x too_deep = (t : Tree Reading) × (lines t ≡ xs ++ x ∷ []) × (MAX_DEPTH < depth t)
 Holds xs x obfuscated_case = (before : List Mark) × (m : Mark) × MarksWith xs x before m ×
     IsTrue (is_obfuscated before x m)
 

@@ -23,7 +23,7 @@ use Rattle.ud_model.specs.conditions.Parsing.{expression_of}
 use Rattle.ud_model.specs.sections.Directives.{test_of}
 use Rattle.ud_model.specs.declared.kind.Test.{Test}
 use Rattle.ud_model.specs.declared.kind.Test.TheVariants.{Nonzero, Defined, Undefined, Nothing}
-use Rattle.ud_model.specs.declared.limits.TheConstants.{LINE_BYTES}
+use Rattle.ud_model.specs.declared.limits.TheConstants.{MAX_LINE_BYTES}
 use Rattle.ud_model.specs.declared.kind.Kind.{Kind}
 use Rattle.ud_cond.specs.CondViews.{as_rules}
 use Rattle.ud_passes.specs.remaining.Mentions.{Mention}
@@ -77,7 +77,7 @@ module _ (table : List Argument) (rules : Rules) where
   -- `why_stays kind m`: why the condition `m` stays, on one line or several.
   abbrev pub why_stays : Kind → Mention → Reason
   why_stays kind m =
-      if not (leb (length m.after) LINE_BYTES) then SeveralLines
+      if not (leb (length m.after) MAX_LINE_BYTES) then SeveralLines
       else if m.spanning then over_lines (why_read kind m.after)
       else why_read kind m.after
 

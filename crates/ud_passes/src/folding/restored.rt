@@ -5,7 +5,7 @@ ghost use Rattle.ud_model.specs.text.Lines.{NoNewline, text_of};
 ghost use Rattle.ud_model.specs.aids.LineViews.{as_line};
 ghost use Rattle.ud_simplified.specs.FoldedTexts.{restored_text, restored_line, restored_body};
 ghost use Rattle.ud_simplified.specs.FoldedTexts.{restored_byte};
-ghost use Rattle.ud_model.specs.declared.limits.TheConstants.{LINE_BYTES};
+ghost use Rattle.ud_model.specs.declared.limits.TheConstants.{MAX_LINE_BYTES};
 ghost use Rattle.ud_passes.specs.folding.Folding.{Restored};
 
 use crate::folding::logical::append_line;
@@ -59,7 +59,7 @@ fn append_body(
 /// # Errors
 /// Fails if memory runs out.
 pub(crate) fn append_restored_line(line: &Line<'_>, out: &mut Vec<u8>) -> Result<(), AllocError>
-    requires fits { length (text_of (as_line line.now)) ≤ LINE_BYTES }
+    requires fits { length (text_of (as_line line.now)) ≤ MAX_LINE_BYTES }
     requires one_line { NoNewline line.now.body.now }
     ensures { OnOk result
         (out.new.items ≡ out.old.items ++ restored_line (as_line line.now)) }
@@ -113,8 +113,8 @@ fn append_restored(text: &[u8], out: &mut Vec<u8>) -> Result<(), AllocError>
 /// Returns a folded text with newlines in place of its vertical tabs.
 ///
 /// `text` may have any length and any bytes. A vertical tab outside comments becomes a splice: a
-/// backslash and the line's ending. One in a comment becomes the ending. A line over `LINE_BYTES`
-/// stays.
+/// backslash and the line's ending. One in a comment becomes the ending. A line over
+/// `MAX_LINE_BYTES` stays.
 ///
 /// # Errors
 /// Fails if memory runs out.

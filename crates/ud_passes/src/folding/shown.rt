@@ -7,13 +7,13 @@ ghost use Rattle.ud_model.specs.aids.LineViews.{as_line, as_scan};
 ghost use Rattle.ud_model.specs.sections.Directives.{content_of};
 ghost use Rattle.ud_simplified.specs.FoldedTexts as spec;
 ghost use Rattle.ud_simplified.specs.FoldedTexts.{is_shown_as, tabs_are_beside};
-ghost use Rattle.ud_model.specs.declared.limits.TheConstants.{LINE_BYTES};
+ghost use Rattle.ud_model.specs.declared.limits.TheConstants.{MAX_LINE_BYTES};
 ghost use Rattle.ud_passes.specs.folding.LogicalLines.{is_line_shown};
 
 use crate::pruning::has_quote;
 use memchr::memchr;
 use std::alloc::{AllocError, Global};
-use ud_model::{LINE_BYTES, Line, Mode, Scan};
+use ud_model::{Line, MAX_LINE_BYTES, Mode, Scan};
 use ud_sections::directive;
 use ud_text::{LineStore, Scanner, line_in};
 
@@ -82,7 +82,7 @@ fn is_shown_as(scan: &Scan<'_>, shown: &[u8]) -> bool
 /// # Errors
 /// Fails if memory runs out.
 fn is_shown(alloc: Global, line: &Line<'_>, shown: &[u8]) -> Result<bool, AllocError>
-    requires fits { length line.now.body.now ≤ LINE_BYTES }
+    requires fits { length line.now.body.now ≤ MAX_LINE_BYTES }
     requires one_line { NoNewline line.now.body.now }
     ensures { IfOk result (λ so.
         so ≡ is_shown_as (scan_after_run [] (as_line line.now)) shown.now) }
@@ -106,7 +106,7 @@ pub(crate) fn is_line_shown(
     ensures { IfOk result (λ so. (k : TextLine) → bytes.now ≡ text_of k → ending.now ≡ k.ending →
         NoNewline k.body → is_ending k.ending ≡ true → so ≡ is_line_shown k shown.now) }
 {
-    if ending.is_empty() || bytes.len() > LINE_BYTES {
+    if ending.is_empty() || bytes.len() > MAX_LINE_BYTES {
         return Ok(false);
     }
     let line = line_in(bytes, 1);

@@ -6,7 +6,7 @@ ghost use Rattle.ud_model.specs.text.Lines.{NoNewline, text_of};
 ghost use Rattle.ud_model.specs.text.Scans.{Reading};
 ghost use Rattle.ud_model.specs.text.Scanning.{next_reading};
 ghost use Rattle.ud_model.specs.aids.LineViews.{as_line};
-ghost use Rattle.ud_model.specs.declared.limits.TheConstants.{LINE_BYTES};
+ghost use Rattle.ud_model.specs.declared.limits.TheConstants.{MAX_LINE_BYTES};
 ghost use Rattle.ud_model.specs.aids.ReadAs.{read_as};
 ghost use Rattle.ud_text.specs.scan.ScannerState.{ScannerRepresents};
 ghost use Rattle.ud_passes.specs.Passes.{AppendsSome, numbered_line};
@@ -84,7 +84,7 @@ impl<'a> File<'a> {
         out: &mut Vec<u8>,
     ) -> Result<(), AllocError>
         requires one_line { NoNewline line.now.body.now }
-        requires fits { length (text_of (as_line line.now)) ≤ LINE_BYTES }
+        requires fits { length (text_of (as_line line.now)) ≤ MAX_LINE_BYTES }
         ensures grows { AppendsSome out.old.items out.new.items }
         ensures line { OnOk result (out.new.items ≡ out.old.items ++ numbered_line
             self.entry.name.now number (shown_body self.entry.folded (as_line line.now))) }
@@ -104,7 +104,7 @@ impl<'a> File<'a> {
     /// Fails if memory runs out.
     fn add(self, found: Found, line: &Line<'_>, out: &mut Vec<u8>) -> Result<Found, AllocError>
         requires one_line { NoNewline line.now.body.now }
-        requires fits { length (text_of (as_line line.now)) ≤ LINE_BYTES }
+        requires fits { length (text_of (as_line line.now)) ≤ MAX_LINE_BYTES }
         requires counts { found.count + 1 < 2 ^ 64 }
         requires numbers { found.number + length (text_of (as_line line.now)) < 2 ^ 64 }
         ensures grows { AppendsSome out.old.items out.new.items }

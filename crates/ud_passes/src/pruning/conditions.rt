@@ -12,7 +12,7 @@ ghost use Rattle.ud_model.specs.conditions.Conditions.{expression_cond, Rules as
 ghost use Rattle.ud_model.specs.aids.Residuals as residuals;
 ghost use Rattle.ud_simplified.specs.ResidualTexts as spec;
 ghost use Rattle.ud_model.specs.conditions.Parsing.{expression_of};
-ghost use Rattle.ud_model.specs.declared.limits.TheConstants.{LINE_BYTES};
+ghost use Rattle.ud_model.specs.declared.limits.TheConstants.{MAX_LINE_BYTES};
 ghost use Rattle.ud_cond.specs.symbols.SymbolTable.{TableRepresents};
 ghost use Rattle.ud_cond.specs.CondViews.{as_rules};
 ghost use Rattle.ud_passes.specs.pruning.Cells.{AreKept, IsUnknownResidual, FindsLeft, stands};
@@ -23,7 +23,7 @@ use crate::pruning::tokens::has_tokens;
 use std::alloc::{AllocError, Global};
 use ud_cond::{Rules, Symbols, TokenFlags, condition, residual};
 use ud_model::bytes::is_word_byte;
-use ud_model::{Cond, Kind, LINE_BYTES};
+use ud_model::{Cond, Kind, MAX_LINE_BYTES};
 
 /// The rest of a condition, and the flags of its tokens.
 #[derive(Drop)]
@@ -46,7 +46,7 @@ fn begins_word(text: &[u8]) -> bool
 
 /// Returns whether the text of an `#if` or `#elif` is unknown.
 fn is_unknown(text: &[u8], symbols: &Symbols, rules: Rules) -> bool
-    requires fits { length text.now ≤ LINE_BYTES }
+    requires fits { length text.now ≤ MAX_LINE_BYTES }
     ensures { (calls : List Argument) → TableRepresents symbols.now calls →
         result ≡ residuals.is_unknown (expression_cond text.now calls (as_rules rules)) }
 {
@@ -67,7 +67,7 @@ fn is_read(text: &[u8], flags: &[bool], left: &[u8]) -> bool
 
 /// Returns whether the rest of a text has the tokens with a true flag, and is unknown.
 fn may_stand(text: &[u8], flags: &[bool], left: &[u8], symbols: &Symbols, rules: Rules) -> bool
-    requires fits { length left.now ≤ LINE_BYTES }
+    requires fits { length left.now ≤ MAX_LINE_BYTES }
     ensures { (calls : List Argument) (e : Expression) (cells : List Cell) →
         TableRepresents symbols.now calls → AreKept calls (as_rules rules) e text.now flags.now →
         map shown cells ≡ left.now → result ≡ stands calls (as_rules rules) e cells }
@@ -92,7 +92,7 @@ impl LeftCondition {
 
     /// Finds the residual of a text. Returns whether it is unknown.
     fn find_residual(&mut self, shown: &[u8], symbols: &Symbols, rules: Rules) -> bool
-        requires fits { length shown.now ≤ LINE_BYTES }
+        requires fits { length shown.now ≤ MAX_LINE_BYTES }
         ensures yes { IsTrue result → (calls : List Argument) → TableRepresents symbols.now calls →
             IsUnknownResidual calls (as_rules rules) shown.now self.new.flags }
         ensures no { result ≡ false → (calls : List Argument) → TableRepresents symbols.now calls →
@@ -116,7 +116,7 @@ impl LeftCondition {
         symbols: &Symbols,
         rules: Rules,
     ) -> Result<bool, AllocError>
-        requires fits { length text.shown.now ≤ LINE_BYTES }
+        requires fits { length text.shown.now ≤ MAX_LINE_BYTES }
         ensures fewer { IfOk result (λ found. found ≡ true →
             length self.new.text.bytes.items ≤ length text.entry.bytes.now) }
         ensures found { IfOk result (λ found. (calls : List Argument) →

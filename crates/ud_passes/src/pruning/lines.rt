@@ -16,7 +16,7 @@ ghost use Rattle.ud_model.specs.sections.Directives.{content_of, directive as ha
 ghost use Rattle.ud_model.specs.sections.Directives.{Directive as HasDirective};
 ghost use Rattle.ud_simplified.specs.SimplifiedTexts as spec;
 ghost use Rattle.ud_simplified.specs.SimplifiedTexts.{has_condition, line_by};
-ghost use Rattle.ud_model.specs.declared.limits.TheConstants.{LINE_BYTES};
+ghost use Rattle.ud_model.specs.declared.limits.TheConstants.{MAX_LINE_BYTES};
 ghost use Rattle.ud_cond.specs.symbols.SymbolTable.{TableRepresents};
 ghost use Rattle.ud_cond.specs.CondViews.{as_rules};
 ghost use Rattle.ud_sections.specs.directives.ParsedDirectives.{as_directive, content_found};
@@ -102,7 +102,7 @@ fn condition_on<'a>(scan: &Scan<'a>) -> Option<Directive<'a>>
 /// # Errors
 /// Fails if memory runs out.
 fn is_meant(alloc: Global, line: &Line<'_>, kind: Kind, text: &[u8]) -> Result<bool, AllocError>
-    requires fits { length line.now.body.now ≤ LINE_BYTES }
+    requires fits { length line.now.body.now ≤ MAX_LINE_BYTES }
     requires one_line { NoNewline line.now.body.now }
     ensures { IfOk result (λ meant.
         meant ≡ is_meant kind text.now (scan_after_run [] (as_line line.now))) }
@@ -128,7 +128,7 @@ fn takes_place(
     kind: Kind,
     text: &[u8],
 ) -> Result<bool, AllocError>
-    requires fits { length bytes.now ≤ LINE_BYTES }
+    requires fits { length bytes.now ≤ MAX_LINE_BYTES }
     requires one_line { NoNewline line.now.body.now }
     requires ended { is_empty line.now.ending.now ≡ false }
     ensures { IfOk result (λ edited. (table : List Argument) (rules : SpecRules)
@@ -168,8 +168,8 @@ impl LineEditor {
         symbols: &Symbols,
         rules: Rules,
     ) -> Result<bool, AllocError>
-        requires fits { length (text_of (as_line line.now)) ≤ LINE_BYTES }
-        requires masked { length scan.now.masked.now ≤ LINE_BYTES }
+        requires fits { length (text_of (as_line line.now)) ≤ MAX_LINE_BYTES }
+        requires masked { length scan.now.masked.now ≤ MAX_LINE_BYTES }
         requires one_line { NoNewline line.now.body.now }
         ensures { IfOk result (λ edited. (calls : List Argument) →
             TableRepresents symbols.now calls → EditsLine calls (as_rules rules)
@@ -199,9 +199,9 @@ impl LineEditor {
         symbols: &Symbols,
         rules: Rules,
     ) -> Result<bool, AllocError>
-        requires fits { length (text_of (as_line line.now)) ≤ LINE_BYTES }
+        requires fits { length (text_of (as_line line.now)) ≤ MAX_LINE_BYTES }
         requires masked { found.now.keyword.at + found.now.keyword.len +
-            length found.now.after.now ≤ LINE_BYTES }
+            length found.now.after.now ≤ MAX_LINE_BYTES }
         requires one_line { NoNewline line.now.body.now }
         requires ended { is_empty line.now.ending.now ≡ false }
         ensures { IfOk result (λ edited. (calls : List Argument) →

@@ -8,7 +8,7 @@ ghost use Rattle.ud_model.specs.text.Scanning.{next_reading};
 ghost use Rattle.ud_model.specs.aids.LineViews.{as_line, as_scan};
 ghost use Rattle.ud_model.specs.conditions.Table.{Argument};
 ghost use Rattle.ud_model.specs.declared.kind.Mode.{Mode};
-ghost use Rattle.ud_model.specs.declared.limits.TheConstants.{LINE_BYTES};
+ghost use Rattle.ud_model.specs.declared.limits.TheConstants.{MAX_LINE_BYTES};
 ghost use Rattle.ud_text.specs.scan.ScannerState.{ScannerRepresents};
 ghost use Rattle.ud_cond.specs.symbols.SymbolTable.{TableRepresents};
 ghost use Rattle.ud_cond.specs.CondViews.{as_rules};
@@ -63,8 +63,8 @@ fn append_line(
     rules: Rules,
     out: &mut Vec<u8>,
 ) -> Result<bool, AllocError>
-    requires fits { length (text_of (as_line line.now)) ≤ LINE_BYTES }
-    requires masked { length scan.now.masked.now ≤ LINE_BYTES }
+    requires fits { length (text_of (as_line line.now)) ≤ MAX_LINE_BYTES }
+    requires masked { length scan.now.masked.now ≤ MAX_LINE_BYTES }
     requires one_line { NoNewline line.now.body.now }
     ensures { IfOk result (λ edited. (calls : List Argument) →
         TableRepresents symbols.now calls → PrunesLine calls (as_rules rules)
@@ -156,7 +156,7 @@ fn append_pruned(
 
 /// Returns a text without the operands of its conditions that the symbols decide.
 ///
-/// `text` may have any length and any bytes. A line over `LINE_BYTES` stays, and so does a
+/// `text` may have any length and any bytes. A line over `MAX_LINE_BYTES` stays, and so does a
 /// condition that spans lines or isn't understood. Bytes are only removed. The text is read in C
 /// mode.
 ///

@@ -5,7 +5,7 @@ ghost use Rattle.std.specs.List.{list_any};
 ghost use Rattle.ud_model.specs.conditions.Conditions.{is_listed};
 ghost use Rattle.ud_model.specs.conditions.Names.{names_of};
 ghost use Rattle.ud_model.specs.conditions.Table.{Argument};
-ghost use Rattle.ud_model.specs.declared.limits.TheConstants.{LINE_BYTES};
+ghost use Rattle.ud_model.specs.declared.limits.TheConstants.{MAX_LINE_BYTES};
 ghost use Rattle.ud_cond.specs.symbols.Marks.{Unmarks, is_marked};
 ghost use Rattle.ud_cond.specs.symbols.SymbolTable.{TableRepresents, LacksNames, MustSearch};
 ghost use Rattle.ud_passes.specs.remaining.ListedNames.{has_listed, has_word, ends_in_word};
@@ -122,7 +122,7 @@ pub(crate) fn may_name(symbols: &Symbols, text: &[u8]) -> bool
 
 /// Returns whether an operand of an `#if` or `#elif` is a symbol's name.
 pub(crate) fn has_listed_operand(symbols: &Symbols, kind: Kind, text: &[u8]) -> bool
-    requires fits { length text.now ≤ LINE_BYTES }
+    requires fits { length text.now ≤ MAX_LINE_BYTES }
     ensures { (calls : List Argument) → TableRepresents symbols.now calls →
         result ≡ list_any (is_listed calls) (names_of kind text.now) }
 {

@@ -7,7 +7,7 @@ ghost use Rattle.ud_model.specs.aids.Residuals.{is_unknown};
 ghost use Rattle.ud_model.specs.conditions.Table.{Argument};
 ghost use Rattle.ud_model.specs.conditions.Parsing.{expression_of};
 ghost use Rattle.ud_model.specs.sections.Directives.{test_of};
-ghost use Rattle.ud_model.specs.declared.limits.TheConstants.{LINE_BYTES};
+ghost use Rattle.ud_model.specs.declared.limits.TheConstants.{MAX_LINE_BYTES};
 ghost use Rattle.ud_cond.specs.CondViews.{as_rules};
 ghost use Rattle.ud_cond.specs.symbols.SymbolTable.{TableRepresents};
 ghost use Rattle.ud_passes.specs.remaining.Reasons as spec;
@@ -17,7 +17,7 @@ use crate::remaining::listing::Listing;
 use crate::remaining::mentions::{Begun, Class};
 use crate::remaining::names::has_listed_operand;
 use ud_cond::{Rules, Symbols, TokenFlags, condition, residual};
-use ud_model::{Cond, Kind, LINE_BYTES, Test};
+use ud_model::{Cond, Kind, MAX_LINE_BYTES, Test};
 
 /// The reason why a condition that names a symbol stays, although decided operands are removed; or
 /// what else names a symbol.
@@ -61,7 +61,7 @@ impl Reason {
 
 /// Returns whether a condition is unknown.
 fn is_unknown(kind: Kind, text: &[u8], symbols: &Symbols, rules: Rules) -> bool
-    requires fits { length text.now ≤ LINE_BYTES }
+    requires fits { length text.now ≤ MAX_LINE_BYTES }
     ensures { (calls : List Argument) → TableRepresents symbols.now calls →
         result ≡ is_unknown (condition_of kind text.now calls (as_rules rules)).cond }
 {
@@ -79,7 +79,7 @@ fn has_false(flags: &[bool]) -> bool
 /// one clears their memory.
 #[inline(never)]
 fn why_expression(text: &[u8], symbols: &Symbols, rules: Rules) -> Reason
-    requires fits { length text.now ≤ LINE_BYTES }
+    requires fits { length text.now ≤ MAX_LINE_BYTES }
     ensures { (calls : List Argument) → TableRepresents symbols.now calls →
         result ≡ spec.why_tree calls (as_rules rules) (expression_of text.now) }
 {
@@ -99,7 +99,7 @@ fn why_expression(text: &[u8], symbols: &Symbols, rules: Rules) -> Reason
 
 /// Returns why an unknown condition stays.
 fn why_unknown(kind: Kind, text: &[u8], symbols: &Symbols, rules: Rules) -> Reason
-    requires fits { length text.now ≤ LINE_BYTES }
+    requires fits { length text.now ≤ MAX_LINE_BYTES }
     ensures { (calls : List Argument) → TableRepresents symbols.now calls →
         result ≡ spec.why_unknown calls (as_rules rules) (test_of kind) text.now }
 {
@@ -111,7 +111,7 @@ fn why_unknown(kind: Kind, text: &[u8], symbols: &Symbols, rules: Rules) -> Reas
 
 /// Returns why a condition on one line stays.
 fn why_read(kind: Kind, text: &[u8], symbols: &Symbols, rules: Rules) -> Reason
-    requires fits { length text.now ≤ LINE_BYTES }
+    requires fits { length text.now ≤ MAX_LINE_BYTES }
     ensures { (calls : List Argument) → TableRepresents symbols.now calls →
         result ≡ spec.why_read calls (as_rules rules) kind text.now }
 {
@@ -136,7 +136,7 @@ fn why_stays(kind: Kind, begun: &Begun<'_>, after: &[u8], symbols: &Symbols, rul
     ensures { (calls : List Argument) → TableRepresents symbols.now calls →
         result ≡ spec.why_stays calls (as_rules rules) kind (as_mention begun.now after.now) }
 {
-    if after.len() > LINE_BYTES {
+    if after.len() > MAX_LINE_BYTES {
         return Reason::SeveralLines;
     }
     let reason = why_read(kind, after, symbols, rules);

@@ -10,7 +10,7 @@ ghost use Rattle.ud_model.specs.aids.LineViews.{as_line, as_scan};
 ghost use Rattle.ud_model.specs.aids.ReadAs.{read_as};
 ghost use Rattle.ud_model.specs.sections.Directives.{content_of};
 ghost use Rattle.ud_model.specs.declared.kind.Mode.TheVariants.{C};
-ghost use Rattle.ud_model.specs.declared.limits.TheConstants.{LINE_BYTES};
+ghost use Rattle.ud_model.specs.declared.limits.TheConstants.{MAX_LINE_BYTES};
 ghost use Rattle.ud_text.specs.scan.ScannerState.{ScannerRepresents};
 ghost use Rattle.ud_passes.specs.squeezing.SqueezedTexts as spec;
 ghost use Rattle.ud_passes.specs.squeezing.SqueezedTexts.{role_in, scanned_place, bare_place};

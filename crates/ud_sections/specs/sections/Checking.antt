@@ -4,7 +4,7 @@ use Rattle.std.specs.Prelude.{Some, None, Result, Ok, Err}
 use Rattle.ud_model.specs.sections.Faults.{keeps_rest}
 use Rattle.ud_model.specs.declared.kind.Role.{Role}
 use Rattle.ud_model.specs.declared.kind.Role.TheVariants.{IfGroup, ElifGroup, ElseGroup, EndifLine}
-use Rattle.ud_model.specs.declared.limits.TheConstants.{OPEN_SECTIONS}
+use Rattle.ud_model.specs.declared.limits.TheConstants.{MAX_DEPTH}
 use Rattle.ud_sections.specs.declared.sections.fault.SectionFault.{SectionFault}
 use Rattle.ud_sections.specs.declared.sections.fault.SectionFault.TheVariants.{InappropriateElif}
 use Rattle.ud_sections.specs.declared.sections.fault.SectionFault.TheVariants.{InappropriateElse}
@@ -45,7 +45,7 @@ abbrev pub checked_action : LineContext → ClassifiedLine → ℕ → Option Ac
     Result Action SectionFault
 checked_action before s n None = Err (misplaced_fault_by s.role n)
 checked_action before s n (Some a) =
-    if opens_section a.change && (before.depth == OPEN_SECTIONS) then Err (TooManyLevels n)
+    if opens_section a.change && (before.depth == MAX_DEPTH) then Err (TooManyLevels n)
     else if is_obfuscated_by before.removed s a then Err (Obfuscated n)
     else Ok a
 

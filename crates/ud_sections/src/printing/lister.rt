@@ -38,7 +38,7 @@ impl Lister {
     ghost use Rattle.std.specs.Borrow.{sem};
     ghost use Rattle.ud_model.specs.sections.Directives.{content_of};
     ghost use Rattle.ud_model.specs.answer.Listing.{names_in_content};
-    ghost use Rattle.ud_model.specs.declared.limits.TheConstants.{LINE_BYTES};
+    ghost use Rattle.ud_model.specs.declared.limits.TheConstants.{MAX_LINE_BYTES};
     ghost use Rattle.ud_model.specs.aids.LineViews.{as_scan};
     ghost use Rattle.ud_sections.specs.printing.ListerBorrows.{StaysSame};
 
@@ -56,10 +56,10 @@ impl Lister {
     ///
     /// Only a directive with a condition has names: an `#if`, `#ifdef`, `#ifndef`, `#elif`,
     /// `#elifdef` or `#elifndef` that no continuation cuts, and whose text is understood. The
-    /// masked line has at most `LINE_BYTES`, like each that `Scanner::read` returns. Allocates no
-    /// memory.
+    /// masked line has at most `MAX_LINE_BYTES`, like each that `Scanner::read` returns. Allocates
+    /// no memory.
     pub fn names<'a>(scan: &Scan<'a>) -> Names<'a>
-        requires fits { length scan.now.masked.now ≤ LINE_BYTES }
+        requires fits { length scan.now.masked.now ≤ MAX_LINE_BYTES }
         ensures { result ≡ names_in_content (content_of (as_scan scan.now)) }
     {
         Lister::names_in(directive(scan))
@@ -69,7 +69,7 @@ impl Lister {
     /// returns for its scan.
     #[inline(always)]
     pub fn names_in<'a>(content: Result<Option<Directive<'a>>, Cut>) -> Names<'a>
-        requires fits { IfOk content (λ o. IfSome o (λ d. length d.after.now ≤ LINE_BYTES)) }
+        requires fits { IfOk content (λ o. IfSome o (λ d. length d.after.now ≤ MAX_LINE_BYTES)) }
         ensures { result ≡ names_in_content (content_found content.entry) }
     {
         match content {

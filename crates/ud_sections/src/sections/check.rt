@@ -1,7 +1,7 @@
 //! The check of a line against the open sections and the line before.
 
 ghost use Rattle.std.specs.Prelude.{◌≡◌, ◌==◌, false, IfOk, IsTrue};
-ghost use Rattle.ud_model.specs.declared.limits.TheConstants.{OPEN_SECTIONS};
+ghost use Rattle.ud_model.specs.declared.limits.TheConstants.{MAX_DEPTH};
 ghost use Rattle.ud_model.specs.sections.Faults.{keeps_rest};
 ghost use Rattle.ud_sections.specs.sections.Checking.{checked_by, is_obfuscated_by, opens_section};
 ghost use Rattle.ud_sections.specs.sections.Checking.{misplaced_fault_by};
@@ -9,7 +9,7 @@ ghost use Rattle.ud_sections.specs.sections.Checking.{misplaced_fault_by};
 use crate::sections::SectionFault;
 use crate::sections::classify_line::ClassifiedLine;
 use crate::sections::open_section::{Action, Enclosing, StackOp};
-use ud_model::{OPEN_SECTIONS, Role, Verdict};
+use ud_model::{MAX_DEPTH, Role, Verdict};
 
 /// The context of a line: what the lines before it decide.
 #[derive(Clone, Copy)]
@@ -38,13 +38,13 @@ pub(crate) fn check_line(
 ) -> Result<Action, SectionFault>
     ensures value { result ≡ checked_by before classified number }
     ensures has_space { IfOk result (λ action. IsTrue (opens_section action.change) →
-        (before.depth == OPEN_SECTIONS) ≡ false) }
+        (before.depth == MAX_DEPTH) ≡ false) }
 {
     let Some(action) = before.enclosing.action_for(classified, number) else {
         return Err(misplaced_fault(classified.role, number));
     };
     let opens = matches!(action.change, StackOp::Push(_));
-    if opens && before.depth == OPEN_SECTIONS {
+    if opens && before.depth == MAX_DEPTH {
         return Err(SectionFault::TooManyLevels { line: number });
     }
     if is_obfuscated(before.removed, classified, action) {

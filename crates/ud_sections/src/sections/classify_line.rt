@@ -5,7 +5,7 @@ ghost use Rattle.ud_model.specs.text.Scans.{is_spanning};
 ghost use Rattle.ud_model.specs.conditions.Conditions.{decision_on};
 ghost use Rattle.ud_model.specs.sections.Items.{rules_of};
 ghost use Rattle.ud_model.specs.conditions.Table.{Argument};
-ghost use Rattle.ud_model.specs.declared.limits.TheConstants.{LINE_BYTES};
+ghost use Rattle.ud_model.specs.declared.limits.TheConstants.{MAX_LINE_BYTES};
 ghost use Rattle.ud_cond.specs.symbols.SymbolTable.{TableRepresents};
 ghost use Rattle.ud_cond.specs.CondViews.{as_decision};
 ghost use Rattle.ud_model.specs.aids.LineViews.{as_scan};
@@ -43,7 +43,7 @@ fn condition_on(
     symbols: &Symbols,
     settings: Settings,
 ) -> Answer
-    requires fits { length found.now.after.now ≤ LINE_BYTES }
+    requires fits { length found.now.after.now ≤ MAX_LINE_BYTES }
     ensures { (calls : List Argument) → TableRepresents symbols.now calls →
         as_decision result ≡ decision_on (as_scan scan.now) (as_directive found.now) calls
         (rules_of settings) }
@@ -69,7 +69,7 @@ pub(crate) fn classify(
     symbols: &Symbols,
     settings: Settings,
 ) -> ClassifiedLine
-    requires fits { length found.now.after.now ≤ LINE_BYTES }
+    requires fits { length found.now.after.now ≤ MAX_LINE_BYTES }
     ensures value { (calls : List Argument) → TableRepresents symbols.now calls →
         result ≡ classified (as_scan scan.now) (as_directive found.now) calls (rules_of settings) }
     ensures keyword { result.keyword ≡ found.now.keyword }

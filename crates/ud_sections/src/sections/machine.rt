@@ -13,7 +13,7 @@ ghost use Rattle.ud_model.specs.text.Scans.{Reading};
 ghost use Rattle.ud_model.specs.sections.Tree.{Item, Tree, closed, nothing, depth};
 ghost use Rattle.ud_model.specs.sections.Directives.{content_of};
 ghost use Rattle.ud_model.specs.sections.Items.{Options, mode_after};
-ghost use Rattle.ud_model.specs.declared.limits.TheConstants.{LINE_BYTES, OPEN_SECTIONS};
+ghost use Rattle.ud_model.specs.declared.limits.TheConstants.{MAX_LINE_BYTES, MAX_DEPTH};
 ghost use Rattle.ud_model.specs.aids.LineViews.{as_line, as_scan};
 ghost use Rattle.ud_sections.specs.directives.ParsedDirectives.{content_found};
 ghost use Rattle.ud_sections.specs.directives.ParsedDirectives.{IsWithinScan};
@@ -33,7 +33,7 @@ use crate::sections::step::{Span, Step};
 use crate::sections::text_policy::TextPolicy;
 use arrayvec::ArrayVec;
 use ud_cond::Symbols;
-use ud_model::{Line, Mode, OPEN_SECTIONS, Scan, Settings, Verdict};
+use ud_model::{Line, MAX_DEPTH, Mode, Scan, Settings, Verdict};
 
 /// The step of a line, and its change of the open sections.
 #[derive(Clone, Copy)]
@@ -50,7 +50,7 @@ pub struct Machine {
     /// The settings for reading lines.
     settings: Settings,
     /// The open sections, the outermost first.
-    open_sections: ArrayVec<OpenSection, OPEN_SECTIONS>,
+    open_sections: ArrayVec<OpenSection, MAX_DEPTH>,
     /// The last line was removed.
     removed: bool,
     /// The number of the last line, 0 before the first one.
@@ -93,11 +93,11 @@ impl Machine {
         self.text_policy().mode
     }
 
-    /// Returns the number of open sections, at most `OPEN_SECTIONS`.
+    /// Returns the number of open sections, at most `MAX_DEPTH`.
     pub fn depth(&self) -> usize
         ensures value { (o : Options) → (xs : List (Item Reading)) → (t : Tree Reading) →
             MachineRepresents self.now o xs t → result ≡ depth t }
-        ensures bound { result ≤ OPEN_SECTIONS }
+        ensures bound { result ≤ MAX_DEPTH }
     {
         self.open_sections.len()
     }
@@ -105,7 +105,7 @@ impl Machine {
     /// Returns how to scan the next line, and its verdict if it is text.
     pub fn text_policy(&self) -> TextPolicy
         ensures value { result ≡ text_policy_of self.now }
-        ensures fits { array_vec_len self.now.open_sections ≤ OPEN_SECTIONS }
+        ensures fits { array_vec_len self.now.open_sections ≤ MAX_DEPTH }
     {
         let enclosing = self.enclosing();
         TextPolicy {
@@ -233,7 +233,7 @@ impl Machine {
           section = innermost_of self.now.open_sections.items;
           plain = self.now.settings.plain;
         } }
-        ensures fits { array_vec_len self.now.open_sections ≤ OPEN_SECTIONS }
+        ensures fits { array_vec_len self.now.open_sections ≤ MAX_DEPTH }
     {
         Enclosing {
             section: self.open_sections.as_slice().last().copied(),
@@ -251,16 +251,16 @@ impl Machine {
         number: u32,
         symbols: &Symbols,
     ) -> Result<Transition, SectionFault>
-        requires fits { length scan.now.masked.now ≤ LINE_BYTES }
+        requires fits { length scan.now.masked.now ≤ MAX_LINE_BYTES }
         requires content { content_found content ≡ content_of (as_scan scan.now) }
         requires keyword { IsWithinScan content (length scan.now.masked.now) }
         ensures value { IsTransition self.now (as_scan scan.now) symbols.now number result }
         ensures keyword_within { IfOk result
             (λ next. next.step.keyword.at + next.step.keyword.len ≤ length
             scan.now.masked.now) }
-        ensures fits { array_vec_len self.now.open_sections ≤ OPEN_SECTIONS }
+        ensures fits { array_vec_len self.now.open_sections ≤ MAX_DEPTH }
         ensures has_space { IfOk result (λ next. IsTrue (opens_section next.change) →
-            array_vec_len self.now.open_sections < OPEN_SECTIONS) }
+            array_vec_len self.now.open_sections < MAX_DEPTH) }
     {
         let before = LineContext {
             enclosing: self.enclosing(),
@@ -312,10 +312,10 @@ impl Machine {
 
 /// Applies a line's change to the open sections.
 #[inline(always)]
-fn apply(open_sections: &mut ArrayVec<OpenSection, OPEN_SECTIONS>, change: StackOp)
-    requires fits { array_vec_len open_sections.old ≤ OPEN_SECTIONS }
+fn apply(open_sections: &mut ArrayVec<OpenSection, MAX_DEPTH>, change: StackOp)
+    requires fits { array_vec_len open_sections.old ≤ MAX_DEPTH }
     requires has_space { IsTrue (opens_section change) →
-        array_vec_len open_sections.old < OPEN_SECTIONS }
+        array_vec_len open_sections.old < MAX_DEPTH }
     ensures { open_sections.new.items ≡ applied change open_sections.old.items }
 {
     match change {

@@ -8,7 +8,7 @@ use Rattle.std.specs.Prelude.{None}
 use Rattle.std.specs.List.{AllByRecursion}
 use Rattle.ud_model.specs.text.Bytes.{newline}
 use Rattle.ud_model.specs.text.Lines.{whole_lines}
-use Rattle.ud_model.specs.declared.limits.TheConstants.{LINE_BYTES}
+use Rattle.ud_model.specs.declared.limits.TheConstants.{MAX_LINE_BYTES}
 use Rattle.ud_text.specs.lines.LinesState.{LinesState, UpToNewline}
 use Rattle.ud_text.specs.bulk.BulkScanning.{AreWholeLines}
 
@@ -18,12 +18,12 @@ is_newline b = b == newline
 
 -- `EachFits texts`: no line has more bytes than a line may have.
 abbrev pub EachFits : List (List ℕ) → Type 0
-EachFits texts = AllByRecursion (λ text. length text ≤ LINE_BYTES) texts
+EachFits texts = AllByRecursion (λ text. length text ≤ MAX_LINE_BYTES) texts
 
 -- `FirstIsLong bytes`: the first line of the bytes, if they have a whole one, has more bytes than a
 -- line may have.
 abbrev pub FirstIsLong : List ℕ → Type 0
-FirstIsLong bytes = (used : ℕ) → UpToNewline bytes used true → LINE_BYTES < used
+FirstIsLong bytes = (used : ℕ) → UpToNewline bytes used true → MAX_LINE_BYTES < used
 
 -- `CanConsume lines bytes`: the bytes are whole lines that come next in the text. No byte of the
 -- first one is buffered, no call failed, and neither length nor number of any line exceeds a limit.

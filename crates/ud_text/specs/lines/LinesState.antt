@@ -6,7 +6,7 @@ use Rattle.std.specs.Prelude.{◌≡◌, ℕ, ◌+◌, ◌<◌, ◌≤◌, List,
 use Rattle.std.specs.Prelude.{false, Option, Some, None, if◌then◌else◌, ◌⊎◌, ◌↔◌, IsTrue, Result}
 use Rattle.std.specs.Prelude.{MatchResult}
 use Rattle.ud_model.specs.text.Lines.{NoNewline, split_lines, Line, lines_of}
-use Rattle.ud_model.specs.declared.limits.TheConstants.{LINE_BYTES}
+use Rattle.ud_model.specs.declared.limits.TheConstants.{MAX_LINE_BYTES}
 use Rattle.ud_text.specs.declared.lines.fault.TextFault.{TextFault}
 use Rattle.ud_text.specs.declared.lines.fault.TextFault.TheVariants.{TooManyLines, LineTooLong}
 
@@ -63,12 +63,12 @@ BreaksLimit lines chunk (TooManyLines line) =
 BreaksLimit lines chunk (LineTooLong line) =
     (line ≡ lines.before + 1) × (lines.before < lines.last_line)
     × ((used : ℕ) × (whole : Bool) × UpToNewline chunk used whole ×
-    (LINE_BYTES < length lines.held + used))
+    (MAX_LINE_BYTES < length lines.held + used))
 
 -- `HasCapacity room lines left`: `left` more bytes fit after the buffered ones, in a buffer of
 -- `room` bytes. If the buffer takes a line of any length, any number that the line may have fits.
 abbrev pub HasCapacity : ℕ → LinesState → ℕ → Type 0
-HasCapacity room lines left = room < LINE_BYTES → length lines.held + left ≤ room
+HasCapacity room lines left = room < MAX_LINE_BYTES → length lines.held + left ≤ room
 
 -- `IsComplete lines`: a line can be read: it has its newline, or the text has ended and has bytes
 -- after its last newline.

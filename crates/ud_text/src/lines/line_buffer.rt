@@ -13,7 +13,7 @@ ghost use Rattle.std.specs.Prelude.{false, ◌↔◌, IsSome};
 ghost use Rattle.std.specs.Option.{option_to_list};
 
 use arrayvec::ArrayVec;
-use ud_model::LINE_BYTES;
+use ud_model::MAX_LINE_BYTES;
 
 /// The capacity of a short buffer.
 pub const SHORT_LINE_BUFFER_BYTES: usize = 8_192;
@@ -61,7 +61,7 @@ pub trait LineBuffer: Drop {
 }
 
 /// A buffer for a line of any length that a line may have.
-pub type LongLineBuffer = ArrayVec<u8, LINE_BYTES>;
+pub type LongLineBuffer = ArrayVec<u8, MAX_LINE_BYTES>;
 
 /// A buffer for a line of ordinary length.
 pub type ShortLineBuffer = ArrayVec<u8, SHORT_LINE_BUFFER_BYTES>;

@@ -8,7 +8,7 @@ ghost use Rattle.std.specs.Prelude.{◌≡◌, IfOk, []};
 use crate::lines::LineBuffer;
 use std::alloc::{AllocError, Global};
 use std::marker::Model;
-use ud_model::LINE_BYTES;
+use ud_model::MAX_LINE_BYTES;
 
 /// A buffer for the longest line, from one allocation.
 #[derive(Drop)]
@@ -19,14 +19,14 @@ pub struct LineStore {
 impl Model for LineStore {
     ghost use Rattle.std.specs.Prelude.{◌≤◌, List, ℕ, length};
     ghost use Rattle.std.specs.Vec.{vec_capacity};
-    ghost use Rattle.ud_model.specs.declared.limits.TheConstants.{LINE_BYTES};
+    ghost use Rattle.ud_model.specs.declared.limits.TheConstants.{MAX_LINE_BYTES};
 
     ghost Value = { List ℕ };
 
     ghost view = { λ s. s.bytes.items };
 
-    ghost invariant = { λ s. (LINE_BYTES ≤ vec_capacity s.bytes)
-        × (length s.bytes.items ≤ LINE_BYTES) };
+    ghost invariant = { λ s. (MAX_LINE_BYTES ≤ vec_capacity s.bytes)
+        × (length s.bytes.items ≤ MAX_LINE_BYTES) };
 }
 
 impl LineStore {
@@ -38,19 +38,19 @@ impl LineStore {
         ensures { IfOk result (λ store. store ≡ []) }
     {
         Ok(LineStore {
-            bytes: Vec::with_capacity(alloc, LINE_BYTES)?,
+            bytes: Vec::with_capacity(alloc, MAX_LINE_BYTES)?,
         })
     }
 }
 
 impl LineBuffer for LineStore {
-    ghost use Rattle.ud_model.specs.declared.limits.TheConstants.{LINE_BYTES};
+    ghost use Rattle.ud_model.specs.declared.limits.TheConstants.{MAX_LINE_BYTES};
 
     ghost items = { λ store. store };
 
-    const CAPACITY: usize = LINE_BYTES;
+    const CAPACITY: usize = MAX_LINE_BYTES;
 
-    ghost CAPACITY = { LINE_BYTES };
+    ghost CAPACITY = { MAX_LINE_BYTES };
 
     fn push(&mut self, byte: u8) {
         let _ = self.bytes.push(byte);
@@ -61,7 +61,7 @@ impl LineBuffer for LineStore {
     }
 
     fn try_append(&mut self, bytes: &[u8]) -> bool {
-        if bytes.len() > LINE_BYTES - self.bytes.len() {
+        if bytes.len() > MAX_LINE_BYTES - self.bytes.len() {
             return false;
         }
         self.bytes.extend_from_slice(bytes).is_ok()

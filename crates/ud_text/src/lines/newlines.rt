@@ -8,7 +8,7 @@ ghost use Rattle.ud_text.specs.lines.Consuming.{is_newline, EachFits, FirstIsLon
 
 use crate::searching::last_line_start;
 use std::simd::prelude::*;
-use ud_model::LINE_BYTES;
+use ud_model::MAX_LINE_BYTES;
 
 /// The number of bytes of a block.
 const BLOCK_BYTES: usize = 64;
@@ -88,8 +88,8 @@ pub fn count_lines(bytes: &[u8]) -> usize
     counted.newlines + (middle.newlines + others)
 }
 
-/// Returns the length of the longest prefix that consists of whole lines of at most `LINE_BYTES`
-/// each.
+/// Returns the length of the longest prefix that consists of whole lines of at most
+/// `MAX_LINE_BYTES` each.
 pub(crate) fn whole_lines_len(chunk: &[u8]) -> usize
     ensures bound { result ≤ length chunk.now }
     ensures ends { AreWholeLines (take result chunk.now) }
@@ -99,7 +99,7 @@ pub(crate) fn whole_lines_len(chunk: &[u8]) -> usize
     let mut at = 0;
     while at < chunk.len() {
         let rest = &chunk[at..];
-        let count = last_line_start(&rest[..rest.len().min(LINE_BYTES)]);
+        let count = last_line_start(&rest[..rest.len().min(MAX_LINE_BYTES)]);
         if count == 0 {
             return at;
         }

@@ -552,7 +552,7 @@ impl<H> Scanner<H> {
     /// or up to the end of a line.
     ///
     /// `lines` may have any length and any bytes, and may end in the middle of a line. Limits
-    /// aren't checked: a line may have more than `LINE_BYTES`, and lines aren't counted. The
+    /// aren't checked: a line may have more than `MAX_LINE_BYTES`, and lines aren't counted. The
     /// scanner then represents one more reading in this mode for each skipped line, as after
     /// `read`, whatever its number. No skipped line has a directive or a split keyword (C11
     /// 5.1.1.2, phases 2 and 3, 6.4.9 and 6.10). It may skip fewer lines than it could: read the

@@ -7,7 +7,7 @@ ghost use Rattle.ud_tree.specs.Reading.{begins_section, ends_in_long_line, has_b
 ghost use Rattle.ud_tree.specs.Reading.{is_utf16, ReadsAll, ReadsBlock};
 
 use std::io::{self, ErrorKind, Read};
-use ud_model::LINE_BYTES;
+use ud_model::MAX_LINE_BYTES;
 use ud_model::bytes::skip_white;
 
 /// The most bytes reserved before a file is read, and read between two checks of its last line. A
@@ -98,7 +98,7 @@ fn read_retrying<F: Read>(file: &mut F, buffer: &mut [u8]) -> io::Result<usize>
 fn ends_in_long_line(text: &[u8]) -> bool
     ensures { result ≡ ends_in_long_line text.now }
 {
-    match text.len().checked_sub(LINE_BYTES + 1) {
+    match text.len().checked_sub(MAX_LINE_BYTES + 1) {
         Some(start) => !text[start..].contains(&b'\n'),
         None => false,
     }

@@ -8,7 +8,7 @@ use Rattle.ud_model.specs.sections.Items.{reading_of, line_of}
 use Rattle.ud_model.specs.sections.Faults.{FaultOf, is_obfuscated, is_directive, ends_removed, NoneHolds, cases}
 use Rattle.ud_model.specs.declared.kind.Role.{Role}
 use Rattle.ud_model.specs.declared.kind.Role.TheVariants.{IfGroup, ElifGroup, ElseGroup, EndifLine}
-use Rattle.ud_model.specs.declared.limits.TheConstants.{OPEN_SECTIONS}
+use Rattle.ud_model.specs.declared.limits.TheConstants.{MAX_DEPTH}
 use Rattle.ud_model.proofs.sections.Growth.{Adds, lines-add}
 use Rattle.ud_model.proofs.sections.Unique.{grows}
 use Rattle.ud_model.proofs.sections.Stays.{marks_so_far_same}
@@ -77,13 +77,13 @@ module _ (p : Bool) (t : Tree Reading) (x : Item Reading) where
   not_taken : item_act p (section_at None true p t) x ≡ None → (u : Tree Reading) → lines u ≡ lines t ++ x ∷ [] → ⊥
   not_taken none u e = grind (arith, moves p true p None refl refl (grows t u x e))
 
-  shallow : (a : Action) (k : Taken p t x a) (b : Bool) → opens_section a.change ≡ b → depth t ≤ OPEN_SECTIONS →
-      (b && (depth t == OPEN_SECTIONS)) ≡ false → depth k.tree ≤ OPEN_SECTIONS
+  shallow : (a : Action) (k : Taken p t x a) (b : Bool) → opens_section a.change ≡ b → depth t ≤ MAX_DEPTH →
+      (b && (depth t == MAX_DEPTH)) ≡ false → depth k.tree ≤ MAX_DEPTH
   shallow a k b h l m = grind (arith, common_steps, depth_levels, changes_deeper)
 
   -- a text line is sound, in any place
   pub text_follows : is_directive x ≡ false → item_act p (section_at None true p t) x ≡ Some (text_action (kept_at (section_at None true p t))) →
-      IsWithinLimits (line_of x) → is_cut_item x ≡ false → depth t ≤ OPEN_SECTIONS → Follows p t x (text_action (kept_at (section_at None true p t)))
+      IsWithinLimits (line_of x) → is_cut_item x ≡ false → depth t ≤ MAX_DEPTH → Follows p t x (text_action (kept_at (section_at None true p t)))
   text_follows n e w whole d = let a : Action = text_action (kept_at (section_at None true p t)) in
       let h : Taken p t x a = taken a e in
       record {
@@ -97,8 +97,8 @@ module _ (p : Bool) (t : Tree Reading) (x : Item Reading) where
   spoils : (s : ClassifiedLine) (a : Action) → IsSeen x s → is_obfuscated_by (ends_removed (marks t)) s a ≡ is_obfuscated (marks t) x (mark_of a)
   spoils s a scanned = rw (scanned.directive, scanned.spans, scanned.joins) refl
 
-  module _ (s : ClassifiedLine) (scanned : IsSeen x s) (w : IsWithinLimits (line_of x)) (whole : is_cut_item x ≡ false) (d : depth t ≤ OPEN_SECTIONS) where
-    well_by : (c a : Action) → Taken p t x c → (k q : Bool) → (opens_section c.change && (depth t == OPEN_SECTIONS)) ≡ k →
+  module _ (s : ClassifiedLine) (scanned : IsSeen x s) (w : IsWithinLimits (line_of x)) (whole : is_cut_item x ≡ false) (d : depth t ≤ MAX_DEPTH) where
+    well_by : (c a : Action) → Taken p t x c → (k q : Bool) → (opens_section c.change && (depth t == MAX_DEPTH)) ≡ k →
         is_obfuscated_by (ends_removed (marks t)) s c ≡ q →
         (if k then Err (TooManyLevels (line_of x).number) else if q then Err (Obfuscated (line_of x).number) else Ok c) ≡ Ok a → Follows p t x a
     well_by c a h true q push spoil e = cc
@@ -113,7 +113,7 @@ module _ (p : Bool) (t : Tree Reading) (x : Item Reading) where
           changes = h.changes;
         })
 
-    ill_by : (c : Action) (f : SectionFault) → Taken p t x c → (k q : Bool) → (opens_section c.change && (depth t == OPEN_SECTIONS)) ≡ k →
+    ill_by : (c : Action) (f : SectionFault) → Taken p t x c → (k q : Bool) → (opens_section c.change && (depth t == MAX_DEPTH)) ≡ k →
         is_obfuscated_by (ends_removed (marks t)) s c ≡ q →
         (if k then Err (TooManyLevels (line_of x).number) else if q then Err (Obfuscated (line_of x).number) else Ok c) ≡ Err f → FaultOf (lines t) x (fault_of f)
     ill_by c f h true q push spoil e = let same : TooManyLevels (line_of x).number ≡ f = cc in

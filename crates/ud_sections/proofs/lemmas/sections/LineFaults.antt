@@ -7,7 +7,7 @@ use Rattle.ud_model.specs.sections.Tree.{Item, Tree, lines, depth}
 use Rattle.ud_model.specs.sections.Pruning.{Mark, marks}
 use Rattle.ud_model.specs.sections.Items.{reading_of, line_of}
 use Rattle.ud_model.specs.sections.Faults.{FaultOf, Case, past_last, too_long, cut, out_of_place, too_deep, obfuscated_case, is_cut, is_obfuscated, NoneHolds, cases, obfuscated, too_many_levels}
-use Rattle.ud_model.specs.declared.limits.TheConstants.{OPEN_SECTIONS}
+use Rattle.ud_model.specs.declared.limits.TheConstants.{MAX_DEPTH}
 use Rattle.ud_model.proofs.sections.Unique.{unique}
 use Rattle.ud_sections.specs.sections.Limits.{IsWithinLimits}
 
@@ -32,22 +32,22 @@ module _ (xs : List (Item Reading)) (x : Item Reading) (w : IsWithinLimits (line
   cut_fault h = record { which = cut; holds = h; first = within_first [] tt; named = refl }
 
   module _ (whole : is_cut_item x ≡ false) (u : Tree Reading) (e : lines u ≡ xs ++ x ∷ []) where
-    too_deep_not : depth u ≤ OPEN_SECTIONS → ((v : Tree Reading) × (lines v ≡ xs ++ x ∷ []) × (OPEN_SECTIONS < depth v)) → ⊥
+    too_deep_not : depth u ≤ MAX_DEPTH → ((v : Tree Reading) × (lines v ≡ xs ++ x ∷ []) × (MAX_DEPTH < depth v)) → ⊥
     too_deep_not d j = let q : j.0 ≡ u = unique j.0 u (j.1 ∙ sym e) in
-        let k : OPEN_SECTIONS < depth u = subst (λ v. OPEN_SECTIONS < depth v) q j.2 in omega (arith, k, d)
+        let k : MAX_DEPTH < depth u = subst (λ v. MAX_DEPTH < depth v) q j.2 in omega (arith, k, d)
 
     -- a directive that opens one section too many
-    pub too_deep_fault : OPEN_SECTIONS < depth u → FaultOf xs x (too_many_levels (line_of x).number)
+    pub too_deep_fault : MAX_DEPTH < depth u → FaultOf xs x (too_many_levels (line_of x).number)
     too_deep_fault h = grind arith
 
     -- a directive that spans lines and would have to be changed
-    pub spoiled_fault : (before : List Mark) (m : Mark) → depth u ≤ OPEN_SECTIONS → marks u ≡ before ++ m ∷ [] →
+    pub spoiled_fault : (before : List Mark) (m : Mark) → depth u ≤ MAX_DEPTH → marks u ≡ before ++ m ∷ [] →
         is_obfuscated before x m ≡ true → FaultOf xs x (obfuscated (line_of x).number)
     spoiled_fault before m d k s = grind (arith, too_deep_not)
 
     -- a line isn't faulty if it and the lines before have a tree that isn't too deep, and it isn't
     -- obfuscated
-    pub clear_line : (before : List Mark) (m : Mark) → depth u ≤ OPEN_SECTIONS → marks u ≡ before ++ m ∷ [] →
+    pub clear_line : (before : List Mark) (m : Mark) → depth u ≤ MAX_DEPTH → marks u ≡ before ++ m ∷ [] →
         is_obfuscated before x m ≡ false → NoneHolds xs x cases
     clear_line before m d k s = within_clear (out_of_place ∷ too_deep ∷ obfuscated_case ∷ []) whole (
       λ h. h.1 (u, e),

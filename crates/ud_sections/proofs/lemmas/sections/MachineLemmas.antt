@@ -7,7 +7,7 @@ use Rattle.ud_model.specs.sections.Tree.{Item, Tree, text_line, lines, depth, is
 use Rattle.ud_model.specs.sections.Pruning.{Mark, marks, is_removed}
 use Rattle.ud_model.specs.sections.Items.{Options, item_of, item_by, mode_after, mode_by, read_after, next_item}
 use Rattle.ud_model.specs.sections.Faults.{AreFaultless, one_more, is_cut, ends_removed, last_number, ends_in_comment, end_fault, NoneHolds, cases}
-use Rattle.ud_model.specs.declared.limits.TheConstants.{OPEN_SECTIONS}
+use Rattle.ud_model.specs.declared.limits.TheConstants.{MAX_DEPTH}
 use Rattle.ud_model.specs.declared.verdict.Verdict.{Verdict}
 use Rattle.ud_model.proofs.sections.Soundness.{sound_lines}
 use Rattle.ud_sections.specs.declared.sections.machine.Machine.{Machine}
@@ -73,7 +73,7 @@ same_section o t u e = sym (innermost_level o.settings.plain u) ∙ ap innermost
 mode_is : (o : Options) (t : Tree Reading) → mode_after o t ≡ mode_by (plain_at o.settings.plain (section_at None true o.settings.plain t))
 mode_is o t = ap mode_by (sym (plain_inside o.settings.plain o.settings.plain None true t refl))
 
-same_depth : (o : Options) (t u : Tree Reading) → open_sections_of true o.settings.plain u ≡ open_sections_of true o.settings.plain t → depth t ≤ OPEN_SECTIONS → depth u ≤ OPEN_SECTIONS
+same_depth : (o : Options) (t u : Tree Reading) → open_sections_of true o.settings.plain u ≡ open_sections_of true o.settings.plain t → depth t ≤ MAX_DEPTH → depth u ≤ MAX_DEPTH
 same_depth o t u e d =
     grind (arith, depth_levels true o.settings.plain u, depth_levels true o.settings.plain t)
 
@@ -82,7 +82,7 @@ text_item : (o : Options) (xs : List (Item Reading)) (t : Tree Reading) (r : Rea
     content_of r.scan ≡ text → next_item o xs t r.line ≡ text_line r
 text_item o xs t r e c = ap (item_of o) (sym e) ∙ ap (item_by o r) c
 
-one_text : (o : Options) (xs : List (Item Reading)) (t : Tree Reading) (r : Reading) → AreFaultless o xs t → depth t ≤ OPEN_SECTIONS →
+one_text : (o : Options) (xs : List (Item Reading)) (t : Tree Reading) (r : Reading) → AreFaultless o xs t → depth t ≤ MAX_DEPTH →
     r ≡ read_after xs (mode_after o t) r.line → content_of r.scan ≡ text → IsWithinLimits r.line → MoreText o xs t (r ∷ []) (place_of o t)
 one_text o xs t r sound d e c w =
     let k : Taken o.settings.plain t (text_line r) (text_action (place_of o t)) =
@@ -101,7 +101,7 @@ one_text o xs t r sound d e c w =
       same = same;
     }
 
-more_text : (o : Options) (xs : List (Item Reading)) (t : Tree Reading) (rs : List Reading) → AreFaultless o xs t → depth t ≤ OPEN_SECTIONS →
+more_text : (o : Options) (xs : List (Item Reading)) (t : Tree Reading) (rs : List Reading) → AreFaultless o xs t → depth t ≤ MAX_DEPTH →
     AreTextLines o (mode_after o t) xs rs → MoreText o xs t rs (place_of o t)
 more_text o xs t [] sound d a = grind (arith, append-nil xs, append-nil (marks t))
 more_text o xs t (r ∷ rs) sound d a =
@@ -128,7 +128,7 @@ ends_removed_run ms k r (q ∷ rs) =
 
 -- a machine after text lines
 pub reads_text : (m new : Machine) (o : Options) (xs : List (Item Reading)) (t : Tree Reading) (r : Reading) (rs : List Reading) (verdict : Verdict) → MachineRepresents m o xs t →
-    length m.open_sections.items ≤ OPEN_SECTIONS → AreTextLines o (mode_after o t) xs (r ∷ rs) →
+    length m.open_sections.items ≤ MAX_DEPTH → AreTextLines o (mode_after o t) xs (r ∷ rs) →
     verdict ≡ (text_action (kept_at (innermost_of m.open_sections.items))).verdict → new.settings ≡ m.settings → new.open_sections.items ≡ m.open_sections.items →
     new.removed ≡ is_removed verdict → new.last ≡ last_number (xs ++ map text_line (r ∷ rs)) → StepsText new o xs t (r ∷ rs) verdict
 reads_text m new o xs t r rs verdict h fits a reported settings sections removed last =

@@ -12,7 +12,7 @@ use Rattle.ud_model.specs.sections.Faults.{FaultOf, is_directive, NoneHolds, cas
 use Rattle.ud_model.specs.answer.Printing.{keyword_in, judged_line}
 use Rattle.ud_model.specs.declared.kind.Role.{Role}
 use Rattle.ud_model.specs.declared.kind.Role.TheVariants.{IfGroup, ElifGroup, ElseGroup, EndifLine}
-use Rattle.ud_model.specs.declared.limits.TheConstants.{OPEN_SECTIONS}
+use Rattle.ud_model.specs.declared.limits.TheConstants.{MAX_DEPTH}
 use Rattle.ud_model.proofs.sections.Soundness.{reading_of-item_of, sound_lines}
 use Rattle.ud_sections.specs.declared.sections.fault.SectionFault.{SectionFault}
 use Rattle.ud_sections.specs.declared.sections.fault.SectionFault.TheVariants.{Obfuscated}
@@ -72,7 +72,7 @@ pub before_is : (m : Machine) (o : Options) (xs : List (Item Reading)) (t : Tree
     context_of m ≡ before_next o.settings.plain t
 before_is m o xs t h = grind (arith, innermost_level, depth_levels)
 
-module _ (o : Options) (xs : List (Item Reading)) (t : Tree Reading) (l : Line) (e : lines t ≡ xs) (w : IsWithinLimits l) (shallow : depth t ≤ OPEN_SECTIONS) where
+module _ (o : Options) (xs : List (Item Reading)) (t : Tree Reading) (l : Line) (e : lines t ≡ xs) (w : IsWithinLimits l) (shallow : depth t ≤ MAX_DEPTH) where
   within_item : IsWithinLimits (line_of (next_item o xs t l))
   within_item = subst IsWithinLimits (sym (line_of-next_item o xs t l)) w
 
@@ -148,11 +148,11 @@ asked_is : (m : Machine) (o : Options) (xs : List (Item Reading)) (t : Tree Read
 asked_is m o xs t scan l table h next = rw (before_is m o xs t h, h.settings, next.scanned) refl
 
 pub shallow_by : (m : Machine) (o : Options) (xs : List (Item Reading)) (t : Tree Reading) → MachineRepresents m o xs t →
-    length m.open_sections.items ≤ OPEN_SECTIONS → depth t ≤ OPEN_SECTIONS
+    length m.open_sections.items ≤ MAX_DEPTH → depth t ≤ MAX_DEPTH
 shallow_by m o xs t h k = grind arith
 
 module _ (m : Machine) (o : Options) (xs : List (Item Reading)) (t : Tree Reading) (scan : Scan) (l : Line) (table : List Argument)
-    (h : MachineRepresents m o xs t) (next : ComesNext o xs t scan l table) (w : IsWithinLimits l) (fits : length m.open_sections.items ≤ OPEN_SECTIONS) where
+    (h : MachineRepresents m o xs t) (next : ComesNext o xs t scan l table) (w : IsWithinLimits l) (fits : length m.open_sections.items ≤ MAX_DEPTH) where
   -- a line with a transition is sound
   pub turns_well : (turn : Transition) → asked m o scan l ≡ Ok turn → TurnsWell o xs t l turn
   turns_well turn e =

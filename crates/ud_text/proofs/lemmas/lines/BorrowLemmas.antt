@@ -2,7 +2,7 @@
 -- line of the text.
 use Rattle.std.proofs.Common.{◌≡◌, ◌==◌, ℕ, suc, ◌+◌, ◌<◌, Bool, true, false, not, None, List, [], ◌∷◌, ◌++◌, length, take, refl, sym, ◌∙◌, ap, subst, min, arith}
 use Rattle.std.proofs.lemmas.Bool.{eqb-true}
-use Rattle.ud_model.specs.declared.limits.TheConstants.{LINE_BYTES}
+use Rattle.ud_model.specs.declared.limits.TheConstants.{MAX_LINE_BYTES}
 use Rattle.ud_model.specs.text.Lines.{NoNewline, Line, text_of, line_at}
 use Rattle.ud_model.proofs.text.LinesLemmas.{text_of-line_at}
 use Rattle.ud_text.specs.lines.LinesState.{LinesState, LinesRepresent, UpToNewline, IsLineOf}
@@ -22,14 +22,14 @@ none_held (b ∷ bytes) false e h = cc
 
 -- each whole line at the beginning of a chunk is too long, if the prefix up to the first newline
 -- has none or is too long
-pub none_fits : (chunk : List ℕ) (used other : ℕ) (whole : Bool) → UpToNewline chunk used whole → (whole ≡ true → LINE_BYTES < used) →
-    UpToNewline chunk other true → LINE_BYTES < other
+pub none_fits : (chunk : List ℕ) (used other : ℕ) (whole : Bool) → UpToNewline chunk used whole → (whole ≡ true → MAX_LINE_BYTES < used) →
+    UpToNewline chunk other true → MAX_LINE_BYTES < other
 none_fits chunk used other whole a long b =
     grind (arith, up_to_newline-once chunk used other whole true a b)
 
 -- each whole line at the beginning is too long, if there is no newline in as many bytes as a line
 -- may have
-pub none_here : (rest : List ℕ) (size : ℕ) → size ≡ min (length rest) LINE_BYTES → NoNewline (take size rest) → FirstIsLong rest
+pub none_here : (rest : List ℕ) (size : ℕ) → size ≡ min (length rest) MAX_LINE_BYTES → NoNewline (take size rest) → FirstIsLong rest
 none_here rest size e none used to =
     grind (arith, common_steps, feed_inside, no_newline-take used (take size rest) none)
 

@@ -6,7 +6,7 @@ use Rattle.std.proofs.Math.Seq.{take-add}
 use Rattle.std.proofs.lemmas.List.Recursion.{is_count_by}
 use Rattle.std.proofs.lemmas.List.Sums.{sum_by-append}
 use Rattle.std.proofs.Math.ListN.{length-take}
-use Rattle.ud_model.specs.declared.limits.TheConstants.{LINE_BYTES}
+use Rattle.ud_model.specs.declared.limits.TheConstants.{MAX_LINE_BYTES}
 use Rattle.ud_model.specs.text.Lines.{SplitLines, split_lines, prepend_to_first, whole_lines, partial_line}
 use Rattle.ud_model.proofs.text.LinesLemmas.{split_lines-append, parts_joined}
 use Rattle.ud_text.specs.lines.LinesState.{LinesState, LinesRepresent}
@@ -53,18 +53,18 @@ fits_rest : (ls ms : List (List ℕ)) → EachFits (ls ++ ms) → EachFits ms
 fits_rest [] ms h = h
 fits_rest (l ∷ ls) ms h = fits_rest ls ms h.1
 
-all_short : (ls : List (List ℕ)) → length (concat ls) ≤ LINE_BYTES → EachFits ls
+all_short : (ls : List (List ℕ)) → length (concat ls) ≤ MAX_LINE_BYTES → EachFits ls
 all_short [] h = tt
 all_short (l ∷ ls) h = (omega (arith, length-append l (concat ls)), all_short ls (omega (arith, length-append l (concat ls))))
 
--- the lines of at most `LINE_BYTES` bytes fit
-pub short_fit : (bytes : List ℕ) → length bytes ≤ LINE_BYTES → EachFits (whole_lines bytes)
+-- the lines of at most `MAX_LINE_BYTES` bytes fit
+pub short_fit : (bytes : List ℕ) → length bytes ≤ MAX_LINE_BYTES → EachFits (whole_lines bytes)
 short_fit bytes h =
     all_short (whole_lines bytes) (omega (arith, ap length (parts_joined bytes), length-append (concat (whole_lines bytes)) (partial_line bytes)))
 
 -- whole lines at the beginning of a window that follows whole lines are whole lines with these;
--- they fit if the window has at most `LINE_BYTES` bytes
-module _ (piece : List ℕ) (at count size : ℕ) (window : List ℕ) (is : window ≡ take size (drop at piece)) (short : size ≤ LINE_BYTES)
+-- they fit if the window has at most `MAX_LINE_BYTES` bytes
+module _ (piece : List ℕ) (at count size : ℕ) (window : List ℕ) (is : window ≡ take size (drop at piece)) (short : size ≤ MAX_LINE_BYTES)
     (last : LastLineStarts window count) (ends : AreWholeLines (take at piece)) where
   few : length window ≤ size
   few = omega (arith, ap length is, length-take size (drop at piece))

@@ -4,8 +4,8 @@ use Rattle.ud_model.specs.declared.cond.Cond.TheVariants.{Yes, No, Unknown}
 use Rattle.unifdef_c.proofs.FaultLemmas.{same_code}
 use Rattle.unifdef_c.proofs.decide.unifdef_condition.Goals as goal
 
-pub returns-then-expression-gt-LINE_BYTES : goal.returns-then-expression-gt-LINE_BYTES
-returns-then-expression-gt-LINE_BYTES c = too_long (omega arith)
+pub returns-then-expression-gt-MAX_LINE_BYTES : goal.returns-then-expression-gt-MAX_LINE_BYTES
+returns-then-expression-gt-MAX_LINE_BYTES c = too_long (omega arith)
 
 pub returns-in-Ok-No : goal.returns-in-Ok-No
 returns-in-Ok-No c = decided No c.in-Ok-No.ensures.utf8 (omega arith) (rw c.in-Ok-No.field-0-is at c.in-Ok-No.ensures.ok)

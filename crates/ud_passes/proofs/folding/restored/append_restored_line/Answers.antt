@@ -5,7 +5,7 @@ use Rattle.ud_model.specs.text.Lines.{Line, text_of}
 use Rattle.ud_model.specs.text.Scans.{Scan}
 use Rattle.ud_model.specs.aids.LineViews.{as_line}
 use Rattle.ud_simplified.specs.FoldedTexts.{restored_body}
-use Rattle.ud_model.specs.declared.limits.TheConstants.{LINE_BYTES}
+use Rattle.ud_model.specs.declared.limits.TheConstants.{MAX_LINE_BYTES}
 use Rattle.ud_passes.proofs.RestoreLemmas.{without_tab}
 use Rattle.ud_passes.proofs.folding.restored.append_restored_line.Goals as goal
 
@@ -19,4 +19,4 @@ returns c = let l : Line = as_line c.args.line.now in
     c.in_ok-extend_from_slice.ensures.items ∙ ap (λ (x : List ℕ). x ++ l.ending) c.in_ok-append_body.ensures
     ∙ append_assoc out (restored_body l.ending l.body c.read_into-scan.result.masked.now) l.ending
     ∙ ap (λ (s : Scan). out ++ (restored_body l.ending l.body s.masked ++ l.ending)) (c.read_into-scan.ensures.value [] c.bare-scanner.ensures)
-    ∙ ap (λ (x : List ℕ). out ++ x) (sym (grind (arith, le-leb (length (text_of l)) LINE_BYTES c.requires.fits)))
+    ∙ ap (λ (x : List ℕ). out ++ x) (sym (grind (arith, le-leb (length (text_of l)) MAX_LINE_BYTES c.requires.fits)))

@@ -5,7 +5,7 @@ use Rattle.std.proofs.lemmas.Bool.{not-true, not-false, le-leb}
 use Rattle.ud_model.specs.text.Lines.{Line, text_of}
 use Rattle.ud_model.specs.text.Splicing.{is_empty}
 use Rattle.ud_model.specs.aids.LineViews.{as_line}
-use Rattle.ud_model.specs.declared.limits.TheConstants.{LINE_BYTES}
+use Rattle.ud_model.specs.declared.limits.TheConstants.{MAX_LINE_BYTES}
 use Rattle.ud_passes.proofs.EditLemmas.{is_end}
 use Rattle.ud_passes.proofs.ShownLemmas.{other_ending, shown_by}
 use Rattle.ud_passes.proofs.folding.shown.is_line_shown.Goals as goal
@@ -25,4 +25,4 @@ returns c = λ k b e n o.
     let some : is_empty k.ending ≡ false = ap is_empty (sym e) ∙ sym c.is_empty.ensures ∙ c.if-is_empty.false in
     c.in_ok-is_shown.ensures ∙ shown_by k n (is_end k.ending o some) c.args.bytes.now b l to.0 to.1 c.line_in-line.ensures.value c.args.shown.now
     ((bytes_eq-Decides l.ending c.args.ending.now).0 (not-false _ (sym c.ne.ensures ∙ c.if-ne.false)) ∙ e) some
-    (le-leb (length (text_of k)) LINE_BYTES (subst (λ (x : List ℕ). length x ≤ LINE_BYTES) b c.if-bytes-gt-LINE_BYTES.false))
+    (le-leb (length (text_of k)) MAX_LINE_BYTES (subst (λ (x : List ℕ). length x ≤ MAX_LINE_BYTES) b c.if-bytes-gt-MAX_LINE_BYTES.false))

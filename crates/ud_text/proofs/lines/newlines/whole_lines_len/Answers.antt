@@ -4,7 +4,7 @@ use Rattle.ud_model.specs.text.Lines.{NoNewline}
 use Rattle.ud_text.proofs.lemmas.lines.BorrowLemmas.{none_here}
 use Rattle.std.proofs.lemmas.List.{take_rest}
 use Rattle.std.proofs.lemmas.Grind.{common_steps}
-use Rattle.ud_model.specs.declared.limits.TheConstants.{LINE_BYTES}
+use Rattle.ud_model.specs.declared.limits.TheConstants.{MAX_LINE_BYTES}
 use Rattle.ud_text.specs.bulk.BulkLexemes.{at_start}
 use Rattle.ud_text.specs.lines.Consuming.{FirstIsLong}
 use Rattle.ud_text.proofs.lemmas.bulk.BulkPlainLemmas.{begins_ends}
@@ -19,7 +19,7 @@ loop-at-init c = record {
 }
 
 pub loop-at-preserved : goal.loop-at-preserved
-loop-at-preserved c = let short : c.min.result ≤ LINE_BYTES = omega (arith, c.min.ensures) in
+loop-at-preserved c = let short : c.min.result ≤ MAX_LINE_BYTES = omega (arith, c.min.ensures) in
     let is = ap (take c.min.result) (take_rest c.args.chunk.now c.loop-at.at) in
     record {
       within = grind (arith, common_steps, c.last_line_start-count.ensures.within);

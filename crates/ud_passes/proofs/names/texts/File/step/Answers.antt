@@ -2,7 +2,7 @@
 use Rattle.std.proofs.Common.{length, arith}
 use Rattle.std.proofs.lemmas.Bool.{le-leb}
 use Rattle.ud_model.specs.text.Lines.{text_of}
-use Rattle.ud_model.specs.declared.limits.TheConstants.{LINE_BYTES}
+use Rattle.ud_model.specs.declared.limits.TheConstants.{MAX_LINE_BYTES}
 use Rattle.ud_model.specs.aids.LineViews.{as_line}
 use Rattle.ud_passes.proofs.UnlistedLemmas.{texts_more, line_more, line_found}
 use Rattle.ud_passes.proofs.names.texts.File.step.Goals as goal
@@ -22,10 +22,10 @@ pub returns-else-has_unlisted-clause-listed : goal.returns-else-has_unlisted-cla
 returns-else-has_unlisted-clause-listed c = λ text start l.
     let n = c.in-Fitting.ensures.next text l.read l.walked in
     line_more c.args.self text start c.args.found c.args.walk.now c.args.out.now.items l c.next.new.self (as_line c.in-Fitting.line) n.1 _ c.pass-in-Fitting.ensures.number
-    (grind (arith, n.0, le-leb (length (text_of (as_line c.in-Fitting.line))) LINE_BYTES c.in-Fitting.ensures.fitting.1, c.has_unlisted.ensures, c.if-has_unlisted.false)) c.pass-in-Fitting.ensures.count
+    (grind (arith, n.0, le-leb (length (text_of (as_line c.in-Fitting.line))) MAX_LINE_BYTES c.in-Fitting.ensures.fitting.1, c.has_unlisted.ensures, c.if-has_unlisted.false)) c.pass-in-Fitting.ensures.count
 
 pub returns-then-has_unlisted-clause-listed : goal.returns-then-has_unlisted-clause-listed
 returns-then-has_unlisted-clause-listed c = λ text start l.
     let n = c.in-Fitting.ensures.next text l.read l.walked in
     line_found c.args.self text start c.args.found c.args.walk.now c.args.out.now.items l c.next.new.self (as_line c.in-Fitting.line) n.1 _ c.in_ok-add-in-Fitting.ensures.number
-    (grind (arith, n.0, le-leb (length (text_of (as_line c.in-Fitting.line))) LINE_BYTES c.in-Fitting.ensures.fitting.1, c.has_unlisted.ensures, c.if-has_unlisted.true)) c.in_ok-add-in-Fitting.ensures.count _ c.in_ok-add-in-Fitting.ensures.line
+    (grind (arith, n.0, le-leb (length (text_of (as_line c.in-Fitting.line))) MAX_LINE_BYTES c.in-Fitting.ensures.fitting.1, c.has_unlisted.ensures, c.if-has_unlisted.true)) c.in_ok-add-in-Fitting.ensures.count _ c.in_ok-add-in-Fitting.ensures.line

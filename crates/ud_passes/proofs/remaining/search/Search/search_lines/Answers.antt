@@ -3,7 +3,7 @@ use Rattle.std.proofs.Common.{List, ℕ, length, refl, sym, subst, arith}
 use Rattle.std.proofs.lemmas.Bool.{le-leb}
 use Rattle.ud_model.specs.text.Lines.{Line, text_of}
 use Rattle.ud_model.specs.aids.LineViews.{as_line, as_scan}
-use Rattle.ud_model.specs.declared.limits.TheConstants.{LINE_BYTES}
+use Rattle.ud_model.specs.declared.limits.TheConstants.{MAX_LINE_BYTES}
 use Rattle.ud_passes.specs.remaining.Searches.{IsClearTo}
 use Rattle.ud_passes.proofs.SearchLemmas.{texts_clear, still_clear, texts_searched, fitting_searched, long_searched}
 use Rattle.ud_passes.proofs.remaining.search.Search.search_lines.Goals as goal
@@ -38,5 +38,5 @@ returns-in_ok-end_line-in-Fitting-clause-searched c = λ calls h text start s.
     let clear = c.clear_until-until.ensures calls h s.clear in
     fitting_searched c.args.symbols.now calls c.args.mode c.args.name.now text start c.args.self.now c.args.place c.args.walk.now s c.end_line-in-Fitting.new.self c.in_ok-end_line-in-Fitting.field-0 _
     (subst (λ (u : ℕ). IsClearTo calls u c.next_within.new.self.rest.now) (sym e.until) (subst (IsClearTo calls c.clear_until-until.result) (sym c.next_within.ensures.rest) (still_clear calls c.clear_until-until.result _ rest clear)))
-    k n.1 e.number _ refl refl refl refl refl _ (as_scan c.in-Fitting.scan) n.0 (le-leb (length (text_of k)) LINE_BYTES c.in-Fitting.ensures.fitting.1)
+    k n.1 e.number _ refl refl refl refl refl _ (as_scan c.in-Fitting.scan) n.0 (le-leb (length (text_of k)) MAX_LINE_BYTES c.in-Fitting.ensures.fitting.1)
     (c.in_ok-begun-in-Fitting.ensures calls h c.args.mode) (e.ended calls h)
