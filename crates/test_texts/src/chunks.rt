@@ -10,7 +10,7 @@ const SIZES: [usize; 6] = [1, 2, 5, 64, 1000, 10_000];
 #[derive(Drop)]
 pub struct Chunks<'a> {
     bytes: &'a [u8],
-    most: usize,
+    maximum: usize,
     random: Random,
 }
 
@@ -18,10 +18,10 @@ impl<'a> Chunks<'a> {
     /// Returns a reader of `bytes`, whose chunks come from the seed.
     pub fn new(bytes: &'a [u8], seed: u64) -> Chunks<'a> {
         let mut random = Random::new(seed);
-        let most = SIZES[random.below(SIZES.len())];
+        let maximum = SIZES[random.below(SIZES.len())];
         Chunks {
             bytes,
-            most,
+            maximum,
             random,
         }
     }
@@ -29,7 +29,7 @@ impl<'a> Chunks<'a> {
 
 impl Read for Chunks<'_> {
     fn read(&mut self, buf: &mut [u8]) -> io::Result<usize> {
-        let size = self.random.below(self.most.max(1)).saturating_add(1);
+        let size = self.random.below(self.maximum.max(1)).saturating_add(1);
         let count = buf.len().min(self.bytes.len()).min(size);
         let (given, left) = self.bytes.split_at(count);
         buf[..count].copy_from_slice(given);

@@ -48,9 +48,9 @@ const GAPS: [&[u8]; 9] = [
     b" ", b"\t", b"\x0b", b"/**/", b"/* A */", b"\\\n", b"\\\r\n", b"/*\n*/", b"\0",
 ];
 
-/// Writes an expression of at most `most` operands.
-pub(crate) fn write_expression(writer: &mut Writer, most: usize) -> Result<(), AllocError> {
-    for at in 0..1 + writer.random.below(most.max(1)) {
+/// Writes an expression of at most `maximum` operands.
+pub(crate) fn write_expression(writer: &mut Writer, maximum: usize) -> Result<(), AllocError> {
+    for at in 0..1 + writer.random.below(maximum.max(1)) {
         if at > 0 {
             writer.put_one(&OPERATORS)?;
         }

@@ -19,17 +19,17 @@ first_fault-append (unknown c ∷ gs) more h k = cc
 first_fault-append (lacking c ∷ gs) more h k = cc
 
 -- after an operand, anything is one too many
-pub first_fault-behind_operand : (gs more : List ParsedArg) (g : ParsedArg) → first_fault gs ≡ None → is_some (operand_in gs) ≡ true
+pub first_fault-after_operand : (gs more : List ParsedArg) (g : ParsedArg) → first_fault gs ≡ None → is_some (operand_in gs) ≡ true
     → first_fault (gs ++ g ∷ more) ≡ Some too_many_files
-first_fault-behind_operand [] more g h k = cc
-first_fault-behind_operand (flag c ∷ gs) more g h k = first_fault-behind_operand gs more g h k
-first_fault-behind_operand (option c n a ∷ gs) more g h k =
+first_fault-after_operand [] more g h k = cc
+first_fault-after_operand (flag c ∷ gs) more g h k = first_fault-after_operand gs more g h k
+first_fault-after_operand (option c n a ∷ gs) more g h k =
     let both = both_none (argument_fault c n a) (first_fault gs) h in
-    rw (both.0) (first_fault-behind_operand gs more g both.1 k)
-first_fault-behind_operand (operand n w ∷ []) more g h k = refl
-first_fault-behind_operand (operand n w ∷ (f ∷ gs)) more g h k = cc
-first_fault-behind_operand (unknown c ∷ gs) more g h k = cc
-first_fault-behind_operand (lacking c ∷ gs) more g h k = cc
+    rw (both.0) (first_fault-after_operand gs more g both.1 k)
+first_fault-after_operand (operand n w ∷ []) more g h k = refl
+first_fault-after_operand (operand n w ∷ (f ∷ gs)) more g h k = cc
+first_fault-after_operand (unknown c ∷ gs) more g h k = cc
+first_fault-after_operand (lacking c ∷ gs) more g h k = cc
 
 -- options without an operand
 pub operand_in-none : (o : Option Operand) → is_some o ≡ false → o ≡ None

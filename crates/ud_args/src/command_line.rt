@@ -85,7 +85,7 @@ impl<'a> CommandLine<'a> {
         ensures { remaining self.now ≡ parsed_then result }
     {
         if self.only_operands {
-            return self.operand();
+            return self.next_operand();
         }
         match split_first_letter(self.letters) {
             Some((letter, letters)) => Some(self.option(letter, letters)),
@@ -105,7 +105,7 @@ impl<'a> CommandLine<'a> {
             ..*self
         };
         if word == "--" {
-            return after.operand();
+            return after.next_operand();
         }
         match self.program.long_flag(word) {
             Some(letter) => Some((ParsedArg::Flag { letter }, after)),
@@ -119,21 +119,21 @@ impl<'a> CommandLine<'a> {
         ensures { ordinary_word self.now index word.now ≡
             as_parsed result.0 ∷ remaining result.1 }
     {
-        let behind = CommandLine {
+        let after = CommandLine {
             letters: "",
             after_operand: true,
             only_operands: self.program.ends_at_operand(),
             ..*self
         };
         match split_first_letter(option_letters(word)) {
-            None => (ParsedArg::Operand { index, name: word }, behind),
-            Some(_) if self.after_operand => (ParsedArg::Late { index, name: word }, behind),
+            None => (ParsedArg::Operand { index, name: word }, after),
+            Some(_) if self.after_operand => (ParsedArg::Late { index, name: word }, after),
             Some((letter, letters)) => self.option(letter, letters),
         }
     }
 
     /// Reads the next word as an operand, like all words after it.
-    fn operand(&self) -> Option<(ParsedArg<'a>, CommandLine<'a>)>
+    fn next_operand(&self) -> Option<(ParsedArg<'a>, CommandLine<'a>)>
         ensures { operands self.now ≡ parsed_then result }
     {
         let index = self.read;

@@ -41,21 +41,18 @@ pub(crate) enum Setting<'a> {
     Operand { index: usize, name: &'a [u8] },
 }
 
-/// Returns the setting of the next option or operand. `behind_operand`: an operand came before.
+/// Returns the setting of the next option or operand. `after_operand`: an operand came before.
 ///
 /// # Errors
 /// `TooManyFiles` after an operand, else the fault of an option. Takes no memory.
-pub(crate) fn parse_arg<'a>(
-    given: ParsedArg<'a>,
-    behind_operand: bool,
-) -> Result<Setting<'a>, Usage>
+pub(crate) fn parse_arg<'a>(given: ParsedArg<'a>, after_operand: bool) -> Result<Setting<'a>, Usage>
     ensures ok { IfOk result (IsSetting (parsed_arg given.entry)) }
     ensures err { (gs more : List GivenInWords) → first_fault gs ≡ None →
-        is_some (operand_in gs) ≡ behind_operand →
+        is_some (operand_in gs) ≡ after_operand →
         IfErr result (IsFaultOf (first_fault (gs ++ parsed_arg given.entry ∷ more))) }
-    ensures first { IfOk result (λ s. behind_operand ≡ false) }
+    ensures first { IfOk result (λ s. after_operand ≡ false) }
 {
-    if behind_operand {
+    if after_operand {
         return Err(Usage::TooManyFiles);
     }
     parse_setting(given)

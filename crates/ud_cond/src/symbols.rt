@@ -327,8 +327,8 @@ impl Symbols {
         ensures { option_map (λ v. v.now) result ≡ ends.resolve self.now name.now }
     {
         let mut at = name;
-        let most = self.count();
-        'steps: for _ in 0..most {
+        let maximum = self.count();
+        'steps: for _ in 0..maximum {
             let text = self.defined_text(at)?;
             if !is_identifier(text) {
                 return Some(text);

@@ -23,13 +23,13 @@ use Rattle.std.proofs.lemmas.Grind.{common_steps}
 
 -- The split lines of a text with the prefix of a chunk up to its first newline, if `rest` is the
 -- text's partial line.
-abbrev pub parts_behind : List ℕ → List ℕ → List ℕ → Bool → SplitLines
-parts_behind text held prefix true = record { whole = whole_lines text ++ (held ++ prefix) ∷ []; rest = [] }
-parts_behind text held prefix false = record { whole = whole_lines text; rest = held ++ prefix }
+abbrev pub parts_after : List ℕ → List ℕ → List ℕ → Bool → SplitLines
+parts_after text held prefix true = record { whole = whole_lines text ++ (held ++ prefix) ∷ []; rest = [] }
+parts_after text held prefix false = record { whole = whole_lines text; rest = held ++ prefix }
 
 -- The prefix of a chunk up to its first newline ends the partial line of the text, or lengthens it.
 pub split_lines-front_of : (text held piece : List ℕ) (used : ℕ) (whole : Bool) → partial_line text ≡ held → UpToNewline piece used whole →
-    split_lines (text ++ take used piece) ≡ parts_behind text held (take used piece) whole
+    split_lines (text ++ take used piece) ≡ parts_after text held (take used piece) whole
 split_lines-front_of text held piece used whole h k = grind (arith, split_lines-append-line, take_all, split_lines-append-open)
 
 -- A line that breaks a limit has the fault for that limit.

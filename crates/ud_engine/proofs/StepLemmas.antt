@@ -21,7 +21,7 @@ use Rattle.ud_engine.specs.Feeding.{EngineState, IsOpen, EngineRepresentsBuffere
 use Rattle.ud_engine.specs.ProcessedLines.{PrintsLine}
 use Rattle.ud_io.specs.Streams.{Stream, TakesAllBut}
 use Rattle.ud_io.proofs.StreamLemmas.{stream_buffered}
-use Rattle.ud_engine.proofs.LinePartLemmas.{before_is, rest_is, split_lines-front_of, parts_behind, line_taken, line_next, line_stops}
+use Rattle.ud_engine.proofs.LinePartLemmas.{before_is, rest_is, split_lines-front_of, parts_after, line_taken, line_next, line_stops}
 
 -- The buffered line with the bytes of a chunk that end it.
 pub held_whole : (held rest : List ℕ) (used : ℕ) (whole : Bool) → whole ≡ true → NoNewline held → UpToNewline rest used whole → IsWhole (held ++ take used rest)
@@ -46,7 +46,7 @@ module _ {S : Type 0} (represents : S → List Judged → Type 0) (piece_of : S 
   open_step f used whole w to symbols printer is took no_fault limits sent =
       let parts = split_lines-front_of text e.lines.held rest used whole (rest_is represents piece_of o piece e text printed h) to in
       let lines : whole_lines (text ++ take used rest) ≡ whole_lines text =
-      ap (λ (q : SplitLines). q.whole) (parts ∙ ap (parts_behind text e.lines.held (take used rest)) w) in
+      ap (λ (q : SplitLines). q.whole) (parts ∙ ap (parts_after text e.lines.held (take used rest)) w) in
       record {
         more = [];
         taken = grind (arith, common_steps, still_open);
@@ -64,7 +64,7 @@ module _ {S : Type 0} (represents : S → List Judged → Type 0) (piece_of : S 
   line_step f mid used whole l w to symbols is cleared took no_fault few line prints =
       let parts = split_lines-front_of text e.lines.held rest used whole (rest_is represents piece_of o piece e text printed h) to in
       let lines : whole_lines (text ++ take used rest) ≡ whole_lines text ++ (e.lines.held ++ take used rest) ∷ [] =
-      ap (λ (q : SplitLines). q.whole) (parts ∙ ap (parts_behind text e.lines.held (take used rest)) w) in
+      ap (λ (q : SplitLines). q.whole) (parts ∙ ap (parts_after text e.lines.held (take used rest)) w) in
       let at : line_at (suc mid.before) mid.held ≡ line_at (suc (length (whole_lines text))) (e.lines.held ++ take used rest) =
       ap (λ (k : LinesState). line_at (suc k.before) k.held) is ∙ ap (λ n. line_at (suc n) (e.lines.held ++ take used rest)) (before_is represents piece_of o piece e text printed h) in
       record {
@@ -91,7 +91,7 @@ module _ {S : Type 0} (represents : S → List Judged → Type 0) (piece_of : S 
   line_refused mid used whole l f w to is line fails =
       let parts = split_lines-front_of text e.lines.held rest used whole (rest_is represents piece_of o piece e text printed h) to in
       let lines : whole_lines (text ++ take used rest) ≡ whole_lines text ++ (e.lines.held ++ take used rest) ∷ [] =
-      ap (λ (q : SplitLines). q.whole) (parts ∙ ap (parts_behind text e.lines.held (take used rest)) w) in
+      ap (λ (q : SplitLines). q.whole) (parts ∙ ap (parts_after text e.lines.held (take used rest)) w) in
       let at : l ≡ line_at (suc (length (whole_lines text))) (e.lines.held ++ take used rest) =
       line ∙ ap (λ (k : LinesState). line_at (suc k.before) k.held) is ∙ ap (λ n. line_at (suc n) (e.lines.held ++ take used rest)) (before_is represents piece_of o piece e text printed h) in
       let next = line_next represents piece_of o piece e text printed h rest used (e.lines.held ++ take used rest) lines in

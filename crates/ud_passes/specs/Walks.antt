@@ -76,13 +76,13 @@ is_one_line (Texts bytes) = false
 is_one_line (Fitting line scan) = true
 is_one_line (TooLong line) = true
 
--- `IsPrefixOf most rest s`: if the stretch `s` has text lines, they are a prefix of the text `rest`
--- with at most `most` bytes.
+-- `IsPrefixOf maximum rest s`: if the stretch `s` has text lines, they are a prefix of the text
+-- `rest` with at most `maximum` bytes.
 abbrev pub IsPrefixOf : ℕ → List ℕ → Stretch → Type 0
-IsPrefixOf most rest (Texts bytes) =
-    (length bytes.now ≤ most) × (bytes.now ≡ take (length bytes.now) rest)
-IsPrefixOf most rest (Fitting line scan) = Unit {0}
-IsPrefixOf most rest (TooLong line) = Unit {0}
+IsPrefixOf maximum rest (Texts bytes) =
+    (length bytes.now ≤ maximum) × (bytes.now ≡ take (length bytes.now) rest)
+IsPrefixOf maximum rest (Fitting line scan) = Unit {0}
+IsPrefixOf maximum rest (TooLong line) = Unit {0}
 
 -- `IsFitting s`: a line of the stretch `s` with a scan has no newline in its body. Neither the line
 -- nor the masked line is longer than a line may be.

@@ -74,31 +74,31 @@ impl<'t> Walk<'t> {
         self.next_within(mode, self.rest.len(), masked)
     }
 
-    /// Takes the next lines: text lines of at most `most` bytes in all, or one line. After text
+    /// Takes the next lines: text lines of at most `maximum` bytes in all, or one line. After text
     /// lines comes one line.
     pub(crate) fn next_within<'s>(
         &mut self,
         mode: Mode,
-        most: usize,
+        maximum: usize,
         masked: &'s mut LineStore,
     ) -> Stretch<'t, 's>
     where
         't: 's,
         requires some { 0 < length self.old.rest.now }
-        ensures one { most ≡ 0 → is_one_line result ≡ true }
+        ensures one { maximum ≡ 0 → is_one_line result ≡ true }
         ensures some { 0 < len_of result }
         ensures bytes { len_of result + length self.new.rest.now ≡ length self.old.rest.now }
         ensures rest { self.new.rest.now ≡ drop (len_of result) self.old.rest.now }
-        ensures prefix { IsPrefixOf most self.old.rest.now result }
+        ensures prefix { IsPrefixOf maximum self.old.rest.now result }
         ensures fitting { IsFitting result }
         ensures next { (text : List ℕ) (read : List Reading) →
             Walked mode text read self.old.rest.now self.old.scanner →
             IsNext mode text read result self.new.rest.now self.new.scanner }
     {
-        if most == 0 || self.is_stopped {
+        if maximum == 0 || self.is_stopped {
             return self.next_line(mode, masked);
         }
-        let within = &self.rest[..most.min(self.rest.len())];
+        let within = &self.rest[..maximum.min(self.rest.len())];
         let skipped = self.scanner.skip_text(mode, within);
         if skipped == 0 {
             return self.next_line(mode, masked);

@@ -263,17 +263,17 @@ fn significant_step(lines: &[u8], p: Progress) -> Result<Progress, LineStart>
 
 /// Skips plain text, up to the next significant byte.
 #[inline(always)]
-fn plain_step(lines: &[u8], row: Block, p: Progress) -> (Block, Progress)
+fn plain_step(lines: &[u8], block: Block, p: Progress) -> (Block, Progress)
     requires order { InOrder p lines.now }
-    requires row { IsBlock row lines.now }
-    ensures row { IsBlock result.0 lines.now }
+    requires block { IsBlock block lines.now }
+    ensures block { IsBlock result.0 lines.now }
     ensures order { InOrder result.1 lines.now }
     ensures further { p.at ≤ result.1.at }
     ensures read { (start : BulkState) → ReadBy start lines.now p →
         ReadBy start lines.now result.1 }
 {
-    let (at, row) = next_significant(lines, row, p.at);
-    (row, Progress { at, ..p })
+    let (at, block) = next_significant(lines, block, p.at);
+    (block, Progress { at, ..p })
 }
 
 /// Skips text lines from `begun` on. Returns the beginning of the line where the skip stops.
@@ -283,12 +283,12 @@ fn skip_text_from(lines: &[u8], begun: Progress) -> LineStart
     ensures skipped { (start : BulkState) → ReadBy start lines.now begun →
         SkippedBy start lines.now result }
 {
-    let (mut row, mut p) = plain_step(lines, no_block(lines), begun);
+    let (mut block, mut p) = plain_step(lines, no_block(lines), begun);
     while p.at < lines.len() {
         match significant_step(lines, p) {
             Ok(next) => {
-                let (later, further) = plain_step(lines, row, next);
-                row = later;
+                let (later, further) = plain_step(lines, block, next);
+                block = later;
                 p = further;
             }
             Err(stop) => {

@@ -175,8 +175,8 @@ impl<H: LineBuffer> Lines<H> {
             return Err(fault);
         }
         let bytes = &chunk[..taken.used];
-        let most = MAX_LINE_BYTES - self.buffer.as_slice().len();
-        if bytes.len() > most || !self.buffer.try_append(bytes) {
+        let maximum = MAX_LINE_BYTES - self.buffer.as_slice().len();
+        if bytes.len() > maximum || !self.buffer.try_append(bytes) {
             let fault = TextFault::LineTooLong {
                 line: self.consumed + 1,
             };
@@ -277,7 +277,7 @@ impl<H: LineBuffer> Lines<H> {
     pub fn whole_lines_len(&self, chunk: &[u8]) -> usize
         ensures bound { result ≤ length chunk.now }
         ensures whole_lines { 0 < result → CanConsume self.now (take result chunk.now) }
-        ensures most { self.now.held ≡ [] → self.now.fault ≡ None →
+        ensures longest { self.now.held ≡ [] → self.now.fault ≡ None →
             self.now.before + length chunk.now ≤ self.now.last_line →
             FirstIsLong (drop result chunk.now) }
     {
@@ -309,18 +309,18 @@ impl<H: LineBuffer> Lines<H> {
         self.consumed
     }
 
-    /// Returns how many more bytes fit, at most `most`. A buffer for a line of any length always
-    /// takes `most`.
-    pub fn remaining_capacity(&self, most: usize) -> usize
-        ensures bound { result ≤ most }
+    /// Returns how many more bytes fit, at most `maximum`. A buffer for a line of any length always
+    /// takes `maximum`.
+    pub fn remaining_capacity(&self, maximum: usize) -> usize
+        ensures bound { result ≤ maximum }
         ensures fits { HasCapacity H.CAPACITY self.now result }
-        ensures short { result < most → H.CAPACITY < MAX_LINE_BYTES }
-        ensures full { result < most → H.CAPACITY ≤ length self.now.held + result }
+        ensures short { result < maximum → H.CAPACITY < MAX_LINE_BYTES }
+        ensures full { result < maximum → H.CAPACITY ≤ length self.now.held + result }
     {
         if H::CAPACITY >= MAX_LINE_BYTES {
-            return most;
+            return maximum;
         }
-        most.min(H::CAPACITY - self.buffer.as_slice().len())
+        maximum.min(H::CAPACITY - self.buffer.as_slice().len())
     }
 
     /// Returns whether the next byte begins a line that the text may have; no byte is then

@@ -5,7 +5,7 @@ ghost use Rattle.std.specs.List.{position_or_len};
 ghost use Rattle.ud_text.specs.bulk.BulkLexemes.{is_significant, is_star_pair, LastLineStarts};
 
 use memchr::memrchr;
-use simd::find_near;
+use simd::find_any_of;
 
 pub(crate) mod simd;
 
@@ -22,7 +22,7 @@ pub(crate) fn find_significant(bytes: &[u8]) -> usize
     ensures value { result ≡ position_or_len is_significant bytes.now }
     ensures bound { result ≤ length bytes.now }
 {
-    find_near(bytes, [b'/', b'"', b'\'', b'\\', b'#'])
+    find_any_of(bytes, [b'/', b'"', b'\'', b'\\', b'#'])
 }
 
 /// Returns whether two bytes are a star pair: a star before a slash or a backslash.

@@ -17,7 +17,9 @@ use crate::expressions::stacks::{
     SHORT_TEXT_BYTES, SHORT_TEXT_OPERANDS, Stacks, TINY_TEXT_BYTES, TINY_TEXT_OPERANDS,
     VERY_LONG_TEXT_BYTES, VERY_LONG_TEXT_OPERANDS,
 };
-use crate::expressions::values::{NO_VALUE, Scope, Value, binary, constant, defined, named, unary};
+use crate::expressions::values::{
+    NO_VALUE, Scope, Value, binary, constant, defined, name_value, unary,
+};
 use ud_model::{MAX_LINE_BYTES, Operator};
 
 impl Keeper for Scope<'_> {
@@ -44,7 +46,7 @@ impl Keeper for Scope<'_> {
 
     fn named(&self, name: &[u8], arguments: bool, _notes: &mut ()) -> PackedValue {
         let mut value = NO_VALUE;
-        named(self, name, arguments, &mut value);
+        name_value(self, name, arguments, &mut value);
         PackedValue::of(value)
     }
 

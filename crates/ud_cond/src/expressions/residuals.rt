@@ -32,7 +32,8 @@ use crate::expressions::stacks::{
     Stacks, VERY_LONG_TEXT_BYTES, VERY_LONG_TEXT_OPERANDS,
 };
 use crate::expressions::values::{
-    NO_VALUE, Scope, Value, binary, binary_amount, constant, defined, named, unary, unary_amount,
+    NO_VALUE, Scope, Value, binary, binary_amount, constant, defined, name_value, unary,
+    unary_amount,
 };
 use crate::symbols::Symbols;
 use crate::token_flags::TokenFlags;
@@ -227,9 +228,9 @@ impl Keeper for Residuals<'_> {
         let first = flags.len();
         flags.push(true);
         let mut value = NO_VALUE;
-        named(&self.scope(false), name, arguments, &mut value);
+        name_value(&self.scope(false), name, arguments, &mut value);
         let mut other = NO_VALUE;
-        named(&self.scope(true), name, arguments, &mut other);
+        name_value(&self.scope(true), name, arguments, &mut other);
         leaf_part(self.rules, value, other.number, false, first)
     }
 

@@ -153,7 +153,7 @@ fn one_or_two_bytes<'a>(
 
 /// Returns an operator as a token, with the text after it.
 #[inline(always)]
-fn single(operator: Operator, rest: &[u8]) -> NextToken<'_>
+fn operator_token(operator: Operator, rest: &[u8]) -> NextToken<'_>
     ensures { as_next result ≡ spec.found (spec.operator operator) rest.now }
 {
     NextToken::Found(Token::Operator(operator), rest)
@@ -172,14 +172,17 @@ fn punctuator(byte: u8, rest: &[u8]) -> NextToken<'_>
         b'>' => one_or_two_bytes(b'=', Operator::GreaterEqual, Operator::Greater, rest),
         b'&' => one_or_two_bytes(b'&', Operator::And, Operator::BitAnd, rest),
         b'|' => one_or_two_bytes(b'|', Operator::Or, Operator::BitOr, rest),
-        b'=' if starts_with_byte(b'=', rest) => single(Operator::Equal, skip_bytes(1, rest)),
-        b'-' if !starts_with_byte(b'-', rest) => single(Operator::Minus, rest),
-        b'+' => single(Operator::Plus, rest),
-        b'*' => single(Operator::Times, rest),
-        b'/' => single(Operator::Over, rest),
-        b'%' => single(Operator::Remainder, rest),
-        b'^' => single(Operator::BitXor, rest),
-        b'~' => single(Operator::Complement, rest),
+        b'=' if starts_with_byte(b'=', rest) => operator_token(
+            Operator::Equal,
+            skip_bytes(1, rest),
+        ),
+        b'-' if !starts_with_byte(b'-', rest) => operator_token(Operator::Minus, rest),
+        b'+' => operator_token(Operator::Plus, rest),
+        b'*' => operator_token(Operator::Times, rest),
+        b'/' => operator_token(Operator::Over, rest),
+        b'%' => operator_token(Operator::Remainder, rest),
+        b'^' => operator_token(Operator::BitXor, rest),
+        b'~' => operator_token(Operator::Complement, rest),
         _ => NextToken::Unreadable,
     }
 }

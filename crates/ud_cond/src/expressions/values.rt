@@ -205,7 +205,7 @@ fn defined_as(scope: &Scope<'_>, name: &[u8], text: &[u8], value: &mut Value)
 
 /// Evaluates a name with or without arguments into `value`.
 #[inline(always)]
-pub(crate) fn named(scope: &Scope<'_>, name: &[u8], arguments: bool, value: &mut Value)
+pub(crate) fn name_value(scope: &Scope<'_>, name: &[u8], arguments: bool, value: &mut Value)
     ensures { value.new ≡ name_value_of (table_in scope.now) scope.now.unsigned name.now arguments }
 {
     match scope.find(name) {

@@ -33,7 +33,7 @@ use Rattle.ud_model.proofs.output.PrintedPruned.{printed-append}
 use Rattle.ud_model.proofs.output.RereadLaws.{left_piece, item_bytes}
 use Rattle.ud_model.proofs.output.RereadMore.{last_removed as last_removed_mark, Again, Between, Carry, alike, gone, IsLine, start}
 use Rattle.ud_model.proofs.output.RereadStep.{More, the_more, step, plain_run, stayed_alone, goes_or_left, left_stays}
-use Rattle.ud_laws.proofs.output.Inserting.{Weave, line_behind, with_line, are_more, put, put_lone, left, left_seen, lines_last, read_once, piece_of, gone_blank, left_blank, removed_last}
+use Rattle.ud_laws.proofs.output.Inserting.{Weave, line_after, with_line, are_more, put, put_lone, left, left_seen, lines_last, read_once, piece_of, gone_blank, left_blank, removed_last}
 
 -- 1. The positions at which lines are inserted.
 
@@ -77,7 +77,7 @@ module _ (o : Options) (m : Mode) (xs : List (Item Reading)) (x : Item Reading) 
   same_items e = grind (arith, read_once, lines_next, append-nil)
 
   -- Its piece is added.
-  one_more_item : IsLeft mark.verdict → zs ≡ with_line o m ys (line_behind (bytes_of ys) (piece_by o.settings.unpadded mark.verdict (keyword_in (content_of (reading_of x).scan)) (line_of x)))
+  one_more_item : IsLeft mark.verdict → zs ≡ with_line o m ys (line_after (bytes_of ys) (piece_by o.settings.unpadded mark.verdict (keyword_in (content_of (reading_of x).scan)) (line_of x)))
   unfolding bytes_of LeftOne
   one_more_item h = by_one (left_one o.settings.unpadded mark.verdict x)
     where
@@ -87,14 +87,14 @@ module _ (o : Options) (m : Mode) (xs : List (Item Reading)) (x : Item Reading) 
       no_left : (v : Verdict) → v ≡ Remove → IsLeft v → ⊥
       no_left v e h = subst IsLeft e h
 
-      by_one : (mark.verdict ≡ Remove) ⊎ LeftOne o.settings.unpadded mark.verdict x → zs ≡ with_line o m ys (line_behind (bytes_of ys) p)
+      by_one : (mark.verdict ≡ Remove) ⊎ LeftOne o.settings.unpadded mark.verdict x → zs ≡ with_line o m ys (line_after (bytes_of ys) p)
       by_one (inl e) = absurd (no_left mark.verdict e h)
       by_one (inr (y, is, bytes, left)) =
-          read_once o m zs (with_line o m ys (line_behind (bytes_of ys) p)) b.read (one_read ys a.read (line_behind (bytes_of ys) p))
+          read_once o m zs (with_line o m ys (line_after (bytes_of ys) p)) b.read (one_read ys a.read (line_after (bytes_of ys) p))
           (lines_next ∙ ap (λ (ws : List (Item (Edited Reading))). numbered_from 1 (bytes_of ys ++ map (left_piece o.settings.unpadded) ws)) is
           ∙ ap (λ (q : List ℕ). numbered_from 1 (bytes_of ys ++ q ∷ [])) bytes
-          ∙ numbered_from-next (bytes_of ys) p [] ∙ ap (λ (ls : List Line). ls ++ line_behind (bytes_of ys) p ∷ []) (sym a.numbered)
-          ∙ sym (lines_last o ys m (line_behind (bytes_of ys) p)))
+          ∙ numbered_from-next (bytes_of ys) p [] ∙ ap (λ (ls : List Line). ls ++ line_after (bytes_of ys) p ∷ []) (sym a.numbered)
+          ∙ sym (lines_last o ys m (line_after (bytes_of ys) p)))
 
 -- 3. Texts of lines.
 
@@ -254,21 +254,21 @@ module _ (o : Options) (m : Mode) (b n : Bool) (some : (b || n) ≡ true) (padde
         let end = feed_end j.line.ending (ends_or_not j.line (subst IsLine (sym line_j) i)) in
         let few : j.line.number < 2 ^ 64 = subst (λ (z : Line). z.number < 2 ^ 64) (sym line_j) small in
         let cut = number_quiet (suc (length s.qs)) j.line end few in
-        let quiet : IsQuiet (line_behind s.qs d) =
+        let quiet : IsQuiet (line_after s.qs d) =
         subst IsQuiet (sym cut) (record { quiet = says_quiet j.line.number few; end = end }) in
         let w = put o m s.ys s.zs s.qs s.weave rest d quiet in
-        let z : Reading = read_after s.zs m (line_behind s.qs d) in
+        let z : Reading = read_after s.zs m (line_after s.qs d) in
         record {
-          zs = with_line o m s.zs (line_behind s.qs d);
+          zs = with_line o m s.zs (line_after s.qs d);
           qs = s.qs ++ d ∷ [];
           weave = w;
           whole = whole_more s.qs d s.whole (quiet_whole (says_number j.line.number) (ending_or_newline j.line.ending) (says_quiet j.line.number few) end);
           same = cc (concat_more s.qs d, append_assoc (concat s.qs) d (piece_by false j.verdict j.keyword j.line), s.same, g, shown_u);
           count = λ r p h. subst
               (λ (js : List Judged). Counted js (map reading_of s.ys ++ r ∷ [])
-              (map reading_of (with_line o m s.zs (line_behind s.qs d)) ++ p ∷ []) (suc j.line.number)) (sym js_u)
+              (map reading_of (with_line o m s.zs (line_after s.qs d)) ++ p ∷ []) (suc j.line.number)) (sym js_u)
               (subst (λ (rs : List Reading). Counted (so_far xs t ++ j ∷ []) (map reading_of s.ys ++ r ∷ [])
-              (rs ++ p ∷ []) (suc j.line.number)) (sym (readings_last o s.zs s.zs m (line_behind s.qs d)))
+              (rs ++ p ∷ []) (suc j.line.number)) (sym (readings_last o s.zs s.zs m (line_after s.qs d)))
               (starts_anew s.counted j z (ap (λ (y : Line). y.body) cut, put_lone o m s.ys s.zs s.qs s.weave rest d quiet) r p h));
         }
 
@@ -297,16 +297,16 @@ module _ (o : Options) (m : Mode) (b n : Bool) (some : (b || n) ≡ true) (padde
     abbrev p : List ℕ
     p = piece_by false j.verdict j.keyword j.line
 
-    printed_here : (h : IsLeft v) (r : Ready) → IsPrinted j (read_after s.ys m (line_behind (bytes_of s.ys) p)) (read_after r.zs m (line_behind r.qs p))
+    printed_here : (h : IsLeft v) (r : Ready) → IsPrinted j (read_after s.ys m (line_after (bytes_of s.ys) p)) (read_after r.zs m (line_after r.qs p))
     printed_here h r = search (rules, left_stays, text_of-line_at, left_seen)
 
     counted_here : (h : IsLeft v) (r : Ready) →
-        Counted (so_far (xs ++ x ∷ []) u) (map reading_of (with_line o m s.ys (line_behind (bytes_of s.ys) p))) (map reading_of (with_line o m r.zs (line_behind r.qs p))) (suc j.line.number)
+        Counted (so_far (xs ++ x ∷ []) u) (map reading_of (with_line o m s.ys (line_after (bytes_of s.ys) p))) (map reading_of (with_line o m r.zs (line_after r.qs p))) (suc j.line.number)
     counted_here h r = grind (arith, readings_last, printed_here)
 
-    items_left : IsLeft v → stepped.0 ≡ with_line o m s.ys (line_behind (bytes_of s.ys) p)
+    items_left : IsLeft v → stepped.0 ≡ with_line o m s.ys (line_after (bytes_of s.ys) p)
     items_left h = one_more_item o m xs x t u s.ys stepped.0 k.grown.mark k.more k.long s.between.again stepped.1 h
-        ∙ ap (λ (c : Bool). with_line o m s.ys (line_behind (bytes_of s.ys) (piece_by c j.verdict j.keyword j.line))) padded
+        ∙ ap (λ (c : Bool). with_line o m s.ys (line_after (bytes_of s.ys) (piece_by c j.verdict j.keyword j.line))) padded
 
     items_gone : v ≡ Remove → stepped.0 ≡ s.ys
     items_gone f = same_items o m xs x t u s.ys stepped.0 k.grown.mark k.more k.long s.between.again stepped.1 f
@@ -316,9 +316,9 @@ module _ (o : Options) (m : Mode) (b n : Bool) (some : (b || n) ≡ true) (padde
     left_state end h = let r : Ready = ready h in
         let pw = piece_whole j.verdict j.keyword j.line (subst IsLine (sym line_j) i) (subst HasEnd (sym line_j) end) h in
         record {
-          ys = with_line o m s.ys (line_behind (bytes_of s.ys) p);
+          ys = with_line o m s.ys (line_after (bytes_of s.ys) p);
           between = subst (λ (ws : List (Item Reading)). Between o m (xs ++ x ∷ []) u ws) (items_left h) (stepped.2 end);
-          zs = with_line o m r.zs (line_behind r.qs p);
+          zs = with_line o m r.zs (line_after r.qs p);
           qs = r.qs ++ p ∷ [];
           weave = left o m s.ys r.zs r.qs r.weave s.between.again.read (suc (length (bytes_of s.ys))) p (some_ending p pw);
           whole = whole_more r.qs p r.whole pw;
@@ -332,10 +332,10 @@ module _ (o : Options) (m : Mode) (b n : Bool) (some : (b || n) ≡ true) (padde
     left_done : l.ending ≡ [] → IsLeft v → Done (xs ++ x ∷ []) u
     left_done none h = let r : Ready = ready h in
         record {
-          ys = with_line o m s.ys (line_behind (bytes_of s.ys) p);
+          ys = with_line o m s.ys (line_after (bytes_of s.ys) p);
           again = subst (λ (ws : List (Item Reading)). Again o m (xs ++ x ∷ []) u ws) (items_left h) stepped.1;
-          zs = with_line o m r.zs (line_behind r.qs p);
-          read = one_read r.zs r.weave.read (line_behind r.qs p);
+          zs = with_line o m r.zs (line_after r.qs p);
+          read = one_read r.zs r.weave.read (line_after r.qs p);
           qs = r.qs ++ p ∷ [];
           formed = formed_last r.qs p r.whole (piece_unended j.verdict j.keyword j.line (subst IsLine (sym line_j) i) (ap (λ (z : Line). z.ending) line_j ∙ none) h);
           are = are_more o m s.ys r.zs r.qs r.weave p;
@@ -370,20 +370,20 @@ module _ (o : Options) (m : Mode) (b n : Bool) (some : (b || n) ≡ true) (padde
         put_blank g = let d : List ℕ = j.line.ending in
             let de : IsEnd d = subst (λ (z : Line). IsEnd z.ending) (sym line_j) (has_end (ends_or_not l i)) in
             let cut = quiet_line (suc (length s.qs)) [] d tt de in
-            let quiet : IsQuiet (line_behind s.qs d) = subst IsQuiet (sym cut) (record { quiet = tt; end = de }) in
+            let quiet : IsQuiet (line_after s.qs d) = subst IsQuiet (sym cut) (record { quiet = tt; end = de }) in
             let rest : LeavesOff s.ys in_text true false = rests_at o xs t s.ys m s.between l u i k f in
             record {
               ys = s.ys;
               between = btw;
-              zs = with_line o m s.zs (line_behind s.qs d);
+              zs = with_line o m s.zs (line_after s.qs d);
               qs = s.qs ++ d ∷ [];
               weave = put o m s.ys s.zs s.qs s.weave rest d quiet;
               whole = whole_more s.qs d s.whole (quiet_whole [] d tt de);
               same = cc (concat_more s.qs d, s.same, g, gone_blank n (so_far xs t) j f, shown_u);
               next = suc j.line.number;
-              counted = subst (λ (js : List Judged). Counted js (map reading_of s.ys) (map reading_of (with_line o m s.zs (line_behind s.qs d))) (suc j.line.number)) (sym js_u)
-                  (subst (λ (rs : List Reading). Counted (so_far xs t ++ j ∷ []) (map reading_of s.ys) rs (suc j.line.number)) (sym (readings_last o s.zs s.zs m (line_behind s.qs d)))
-                  (blanked j (counts (s.on (inl g))) (removed_j f) (read_after s.zs m (line_behind s.qs d))
+              counted = subst (λ (js : List Judged). Counted js (map reading_of s.ys) (map reading_of (with_line o m s.zs (line_after s.qs d))) (suc j.line.number)) (sym js_u)
+                  (subst (λ (rs : List Reading). Counted (so_far xs t ++ j ∷ []) (map reading_of s.ys) rs (suc j.line.number)) (sym (readings_last o s.zs s.zs m (line_after s.qs d)))
+                  (blanked j (counts (s.on (inl g))) (removed_j f) (read_after s.zs m (line_after s.qs d))
                   (ap (λ (y : Line). y.body) cut, put_lone o m s.ys s.zs s.qs s.weave rest d quiet)));
               on = λ h. after;
             }

@@ -56,14 +56,14 @@ pub record Weave (o : Options) (m : Mode) (ys zs : List (Item Reading)) (qs : Li
   pub are : map line_of zs ≡ numbered_from 1 qs
 
 -- The line of this text after those.
-abbrev pub line_behind : List (List ℕ) → List ℕ → Line
-line_behind qs q = line_at (suc (length qs)) q
+abbrev pub line_after : List (List ℕ) → List ℕ → Line
+line_after qs q = line_at (suc (length qs)) q
 
 abbrev pub with_line : Options → Mode → List (Item Reading) → Line → List (Item Reading)
 with_line o m zs l = zs ++ item_of o (read_after zs m l) ∷ []
 
 module _ (o : Options) (m : Mode) (ys zs : List (Item Reading)) (qs : List (List ℕ)) (w : Weave o m ys zs qs) where
-  pub are_more : (q : List ℕ) → map line_of (with_line o m zs (line_behind qs q)) ≡ numbered_from 1 (qs ++ q ∷ [])
+  pub are_more : (q : List ℕ) → map line_of (with_line o m zs (line_after qs q)) ≡ numbered_from 1 (qs ++ q ∷ [])
   are_more q = grind (arith, lines_last, numbered_from-next)
 
   between_lines : LeavesOff ys in_text true false → LeavesOff zs in_text true false
@@ -77,8 +77,8 @@ module _ (o : Options) (m : Mode) (ys zs : List (Item Reading)) (qs : List (List
       (leaves_anew o zs l (ap (λ s. s.joins_after) (lone_scan zs C l a q)) (end_is_some l.ending q.end))
 
   -- A quiet line is inserted.
-  pub put : LeavesOff ys in_text true false → (q : List ℕ) → IsQuiet (line_behind qs q) → Weave o m ys (with_line o m zs (line_behind qs q)) (qs ++ q ∷ [])
-  put r q h = let a = lone_next m refl (line_behind qs q) (between_lines r) h in
+  pub put : LeavesOff ys in_text true false → (q : List ℕ) → IsQuiet (line_after qs q) → Weave o m ys (with_line o m zs (line_after qs q)) (qs ++ q ∷ [])
+  put r q h = let a = lone_next m refl (line_after qs q) (between_lines r) h in
       record {
         place = in_text;
         white = true;
@@ -86,27 +86,27 @@ module _ (o : Options) (m : Mode) (ys zs : List (Item Reading)) (qs : List (List
         first = r;
         second = a;
         rests = λ e. a;
-        read = one_read zs w.read (line_behind qs q);
+        read = one_read zs w.read (line_after qs q);
         are = are_more q;
       }
 
   -- An inserted line is scanned by itself.
-  pub put_lone : LeavesOff ys in_text true false → (q : List ℕ) → IsQuiet (line_behind qs q) → IsLone (read_after zs m (line_behind qs q))
-  put_lone r q h = lone_scan zs m (line_behind qs q) (between_lines r) h
+  pub put_lone : LeavesOff ys in_text true false → (q : List ℕ) → IsQuiet (line_after qs q) → IsLone (read_after zs m (line_after qs q))
+  put_lone r q h = lone_scan zs m (line_after qs q) (between_lines r) h
 
   -- A line of both outputs has the same scan.
-  pub left_seen : (n : ℕ) (q : List ℕ) → scan_after (map reading_of zs) m (line_behind qs q) ≡ scan_after (map reading_of ys) m (line_at n q)
-  left_seen n q = kept_scan ys zs m w.place w.white w.on (line_at n q) (line_behind qs q) w.first w.second refl refl
+  pub left_seen : (n : ℕ) (q : List ℕ) → scan_after (map reading_of zs) m (line_after qs q) ≡ scan_after (map reading_of ys) m (line_at n q)
+  left_seen n q = kept_scan ys zs m w.place w.white w.on (line_at n q) (line_after qs q) w.first w.second refl refl
 
   left_by : (k : Mode) → m ≡ k → ReadIn o m ys → (n : ℕ) (q : List ℕ) → ending_of q ≢ [] →
-      Weave o m (with_line o m ys (line_at n q)) (with_line o m zs (line_behind qs q)) (qs ++ q ∷ [])
+      Weave o m (with_line o m ys (line_at n q)) (with_line o m zs (line_after qs q)) (qs ++ q ∷ [])
   left_by Plain e a n q h = let f : LeavesOff (with_line o m ys (line_at n q)) in_text true false =
       nowhere (with_line o m ys (line_at n q))
       (plain_run o (with_line o m ys (line_at n q)) (subst (λ (k : Mode). ReadIn o k (with_line o m ys (line_at n q))) e (one_read ys a (line_at n q)))) in
-      let g : LeavesOff (with_line o m zs (line_behind qs q)) in_text true false =
-      nowhere (with_line o m zs (line_behind qs q))
-      (plain_run o (with_line o m zs (line_behind qs q))
-      (subst (λ (k : Mode). ReadIn o k (with_line o m zs (line_behind qs q))) e (one_read zs w.read (line_behind qs q)))) in
+      let g : LeavesOff (with_line o m zs (line_after qs q)) in_text true false =
+      nowhere (with_line o m zs (line_after qs q))
+      (plain_run o (with_line o m zs (line_after qs q))
+      (subst (λ (k : Mode). ReadIn o k (with_line o m zs (line_after qs q))) e (one_read zs w.read (line_after qs q)))) in
       record {
         place = in_text;
         white = true;
@@ -114,12 +114,12 @@ module _ (o : Options) (m : Mode) (ys zs : List (Item Reading)) (qs : List (List
         first = f;
         second = g;
         rests = λ e. g;
-        read = one_read zs w.read (line_behind qs q);
+        read = one_read zs w.read (line_after qs q);
         are = are_more q;
       }
   left_by C e a n q h = let l : Line = line_at n q in
-      let k : Line = line_behind qs q in
-      let s = subst (λ (k : Mode). scan_after (map reading_of zs) k (line_behind qs q) ≡ scan_after (map reading_of ys) k (line_at n q)) e (left_seen n q) in
+      let k : Line = line_after qs q in
+      let s = subst (λ (k : Mode). scan_after (map reading_of zs) k (line_after qs q) ≡ scan_after (map reading_of ys) k (line_at n q)) e (left_seen n q) in
       let on : Bool = (scan_after (map reading_of ys) C l).joins_after in
       let place : LexState = state_after_line (stays_open l) (place_after w.place (content l)) in
       let white = white_after_line (stays_open l) (place_after w.place (content l)) (white_after w.place w.white (content l)) in
@@ -136,7 +136,7 @@ module _ (o : Options) (m : Mode) (ys zs : List (Item Reading)) (qs : List (List
       }
 
   -- After a line of both outputs, they end in the same state.
-  pub left : ReadIn o m ys → (n : ℕ) (q : List ℕ) → ending_of q ≢ [] → Weave o m (with_line o m ys (line_at n q)) (with_line o m zs (line_behind qs q)) (qs ++ q ∷ [])
+  pub left : ReadIn o m ys → (n : ℕ) (q : List ℕ) → ending_of q ≢ [] → Weave o m (with_line o m ys (line_at n q)) (with_line o m zs (line_after qs q)) (qs ++ q ∷ [])
   left a n q h = left_by m refl a n q h
 
 -- 3. Pieces.

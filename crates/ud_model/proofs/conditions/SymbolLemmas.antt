@@ -32,8 +32,8 @@ pub ends_here : (t : List Argument) (k : ℕ) (n w : List ℕ) → defined_text 
 ends_here t k n w d e = grind (arith, d)
 
 -- The path goes on from the text.
-pub ends_behind : (t : List Argument) (k : ℕ) (n w : List ℕ) → defined_text t n ≡ Some w → is_identifier w ≡ true → resolve_within (suc k) t n ≡ resolve_within k t w
-ends_behind t k n w d e = grind (arith, d)
+pub ends_after : (t : List Argument) (k : ℕ) (n w : List ℕ) → defined_text t n ≡ Some w → is_identifier w ≡ true → resolve_within (suc k) t n ≡ resolve_within k t w
+ends_after t k n w d e = grind (arith, d)
 
 -- The table `u` has each text that the table `t` has for a name.
 abbrev pub Follows : List Argument → List Argument → Type 0
@@ -42,7 +42,7 @@ Follows t u = (n w : List ℕ) → defined_text t n ≡ Some w → defined_text 
 -- A step is taken over a table that follows, if the path after it is.
 step_follows : (j k : ℕ) (t u : List Argument) → Follows t u → (n v : List ℕ) → Goes t j n v →
     ((w : List ℕ) → resolve_within j t w ≡ Some v → resolve_within k u w ≡ Some v) → resolve_within (suc k) u n ≡ Some v
-step_follows j k t u f n v g further = search (rules, ends_here, ends_behind)
+step_follows j k t u f n v g further = search (rules, ends_here, ends_after)
 
 -- More steps, over a table that follows, come to the same end.
 pub ends_more : (j k : ℕ) (t u : List Argument) → Follows t u → (n v : List ℕ) → j ≤ k → resolve_within j t n ≡ Some v → resolve_within k u n ≡ Some v
@@ -114,9 +114,9 @@ same_follows : (t : List Argument) → Follows t t
 same_follows t n w d = d
 
 -- One step, and then a path over fewer arguments.
-soon_behind : (t : List Argument) (n w v : List ℕ) → defined_text t n ≡ Some w → is_identifier w ≡ true → resolve_within (length (without n t)) (without n t) w ≡ Some v →
+soon_after : (t : List Argument) (n w v : List ℕ) → defined_text t n ≡ Some w → is_identifier w ≡ true → resolve_within (length (without n t)) (without n t) w ≡ Some v →
     resolve_within (length t) t n ≡ Some v
-soon_behind t n w v d i e = grind (arith, fewer, ends_more, bytes_eq, bytes_eq-Decides, without_none, without_other, ends_behind)
+soon_after t n w v d i e = grind (arith, fewer, ends_more, bytes_eq, bytes_eq-Decides, without_none, without_other, ends_after)
 
 soon_step : (most : ℕ) (t : List Argument) → ((n w : List ℕ) → defined_text t n ≡ Some w → Soon (without n t)) → SoonWithin most t →
     (k : ℕ) (n v : List ℕ) → k ≤ most → Goes t k n v → resolve_within (length t) t n ≡ Some v
@@ -125,7 +125,7 @@ soon_step most t smaller within k n v l g = by g.on
     by : ((is_identifier g.text ≡ false) × (g.text ≡ v)) ⊎ ((is_identifier g.text ≡ true) × (resolve_within k t g.text ≡ Some v)) → resolve_within (length t) t n ≡ Some v
     by (inl p) = let q : length (without n t) < length t = fewer n g.text t g.sets in
         ends_more 1 (length t) t t (same_follows t) n v (omega arith) (ends_here t 0 n g.text g.sets p.0 ∙ ap Some p.1)
-    by (inr p) = grind (arith, soon_behind, smaller, within, l, g.sets, p.0, split k t n g.text v p.1)
+    by (inr p) = grind (arith, soon_after, smaller, within, l, g.sets, p.0, split k t n g.text v p.1)
 
 soon_within : (t : List Argument) → ((n w : List ℕ) → defined_text t n ≡ Some w → Soon (without n t)) → (most : ℕ) → SoonWithin most t
 soon_within t smaller most zero n v l e = absurd (none-some v e)
@@ -159,7 +159,7 @@ end_same t u f n = same_by (resolve t n) (resolve u n) (ends_over t u f n) (ends
 -- A path that ends has a number of steps.
 steps : (t : List Argument) (n v : List ℕ) → ResolvesTo t n v → (k : ℕ) × (resolve_within k t n ≡ Some v)
 steps t _ _ (at_text n v d i) = (1, ends_here t 0 n v d i)
-steps t _ _ (by_name n m v d i e) = let s : (k : ℕ) × (resolve_within k t m ≡ Some v) = steps t m v e in (suc s.0, ends_behind t s.0 n m d i ∙ s.1)
+steps t _ _ (by_name n m v d i e) = let s : (k : ℕ) × (resolve_within k t m ≡ Some v) = steps t m v e in (suc s.0, ends_after t s.0 n m d i ∙ s.1)
 
 -- The computed text is the one to which a name resolves.
 pub end_found : (t : List Argument) (n v : List ℕ) → ResolvesTo t n v → resolve t n ≡ Some v

@@ -30,23 +30,23 @@ past_word_most : (t : List ℕ) → length (skip_word t) ≤ length t
 past_word_most [] = omega arith
 past_word_most (b ∷ t) = grind (arith, past_word_most t)
 
-behind_within : (n : ℕ) (t : List ℕ) → Within (length t) (after_matching_paren n t)
-behind_within zero (b ∷ t) = grind (arith, behind_within 1 t, behind_within 0 t)
-behind_within (suc n) (b ∷ t) = grind (arith, behind_within (suc (suc n)) t, behind_within n t, behind_within (suc n) t)
-behind_within _ [] = tt
+after_within : (n : ℕ) (t : List ℕ) → Within (length t) (after_matching_paren n t)
+after_within zero (b ∷ t) = grind (arith, after_within 1 t, after_within 0 t)
+after_within (suc n) (b ∷ t) = grind (arith, after_within (suc (suc n)) t, after_within n t, after_within (suc n) t)
+after_within _ [] = tt
 
 name_shorter : (k : ℕ) (w rest : List ℕ) → length rest < k → Shorter k (name_token w rest)
-name_shorter k w rest l = grind (arith, length-skip_white, drop_one_most, behind_within)
+name_shorter k w rest l = grind (arith, length-skip_white, drop_one_most, after_within)
 
 word_shorter : (k : ℕ) (w rest : List ℕ) → length rest < k → Shorter k (word_token w rest)
 word_shorter k w rest l = search (rules, shorter_either, slice_index, bytes_eq, name_shorter)
 
-past_word_behind : (b : ℕ) (t : List ℕ) → is_word_byte b ≡ true → length (skip_word (b ∷ t)) < suc (length t)
-past_word_behind b t e = grind (arith, past_word_most)
+past_word_after : (b : ℕ) (t : List ℕ) → is_word_byte b ≡ true → length (skip_word (b ∷ t)) < suc (length t)
+past_word_after b t e = grind (arith, past_word_most)
 
 front_by : (b : ℕ) (t : List ℕ) (c : Bool) → is_word_byte b ≡ c →
     Shorter (suc (length t)) (if c then word_token (leading_word (b ∷ t)) (skip_word (b ∷ t)) else punctuator b t)
-front_by b t true e = word_shorter (suc (length t)) (leading_word (b ∷ t)) (skip_word (b ∷ t)) (past_word_behind b t e)
+front_by b t true e = word_shorter (suc (length t)) (leading_word (b ∷ t)) (skip_word (b ∷ t)) (past_word_after b t e)
 front_by b t false e = grind arith
 
 front_shorter : (t : List ℕ) → Shorter (length t) (leading_token t)

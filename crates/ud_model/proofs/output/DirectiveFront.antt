@@ -117,9 +117,9 @@ white_unslashed : (x : ℕ) (ws : List ℕ) → (x == slash) ≡ false → Each 
 white_unslashed x [] e h = e
 white_unslashed x (b ∷ ws) e h = white_unslashed b ws (each_white (λ c. (c == slash) ≡ false) refl refl refl refl refl b h.0) h.1
 
-slash_behind : (ws : List ℕ) (x : ℕ) (t : List ℕ) → ends_in_slash (ws ++ x ∷ t) ≡ ends_in_slash (x ∷ t)
-slash_behind (b ∷ c ∷ ws) x t = slash_behind (c ∷ ws) x t
-slash_behind _ _ _ = refl
+slash_after : (ws : List ℕ) (x : ℕ) (t : List ℕ) → ends_in_slash (ws ++ x ∷ t) ≡ ends_in_slash (x ∷ t)
+slash_after (b ∷ c ∷ ws) x t = slash_after (c ∷ ws) x t
+slash_after _ _ _ = refl
 
 -- Before a keyword no quote is shown.
 pub front_unquoted : (ws gs : List ℕ) → Each IsWhite ws → Each IsWhite gs → has_quote (ws ++ 35 ∷ gs) ≡ false
@@ -127,4 +127,4 @@ front_unquoted ws gs w g = white_unquoted ws (35 ∷ gs) w ∙ all_white_unquote
 
 -- Before a keyword no slash is last.
 pub front_unslashed : (ws gs : List ℕ) → Each IsWhite gs → ends_in_slash (ws ++ 35 ∷ gs) ≡ false
-front_unslashed ws gs g = slash_behind ws 35 gs ∙ white_unslashed 35 gs refl g
+front_unslashed ws gs g = slash_after ws 35 gs ∙ white_unslashed 35 gs refl g

@@ -21,16 +21,16 @@ Moves true v now = (v ≡ Remove) × (now ≡ true)
 Moves false ToEndif now = now ≡ true
 Moves false _ _ = Unit {0}
 
-ends_behind : (cs : List Cond) (c : Cond) → any_true cs ≡ true → (any_true (cs ++ c ∷ []) ≡ true) × (ends_with_first_true (cs ++ c ∷ []) ≡ false)
-ends_behind [] c e = cc
-ends_behind (Yes ∷ []) c e = (refl, refl)
-ends_behind (Yes ∷ d ∷ cs) c e = (refl, refl)
-ends_behind (_ ∷ cs) c e = ends_behind cs c e
+ends_after : (cs : List Cond) (c : Cond) → any_true cs ≡ true → (any_true (cs ++ c ∷ []) ≡ true) × (ends_with_first_true (cs ++ c ∷ []) ≡ false)
+ends_after [] c e = cc
+ends_after (Yes ∷ []) c e = (refl, refl)
+ends_after (Yes ∷ d ∷ cs) c e = (refl, refl)
+ends_after (_ ∷ cs) c e = ends_after cs c e
 
 -- Each opener does so.
 pub opener_moves : (cs : List Cond) (part : Part) (c : Cond) → Moves (is_past cs) (verdict_so_far cs part c) (is_past (cs ++ c ∷ []))
 opener_moves (No ∷ cs) part c = opener_moves cs part c
-opener_moves cs part c = grind (arith, ends_behind)
+opener_moves cs part c = grind (arith, ends_after)
 
 -- After such a group the `#endif` is removed.
 pub endif_past : (cs : List Cond) → is_past cs ≡ true → endif_verdict cs ≡ Remove

@@ -86,9 +86,9 @@ module _ {L : Type 0} where
   printed_between xs x ys ms m ns e = grind (arith, printed-append, more_long)
 
   -- The output for two lists and a line.
-  printed_behind : (xs ys : List (Item L)) (x : Item L) (ms ns : List Mark) (m : Mark) → length xs ≡ length ms → length ys ≡ length ns →
+  printed_after : (xs ys : List (Item L)) (x : Item L) (ms ns : List Mark) (m : Mark) → length xs ≡ length ms → length ys ≡ length ns →
       printed ((xs ++ ys) ++ x ∷ []) ((ms ++ ns) ++ m ∷ []) ≡ (printed xs ms ++ printed ys ns) ++ kept_line m.verdict x
-  printed_behind xs ys x ms ns m d e = grind (arith, printed-append, length-append)
+  printed_after xs ys x ms ns m d e = grind (arith, printed-append, length-append)
 
   mutual
     -- If a group around is removed, nothing is left.
@@ -98,7 +98,7 @@ module _ {L : Type 0} where
         printed-append (lines_of_nodes ns) (text_line l ∷ []) (nodes_so_far false ns) (marked false Keep ∷ []) (as_many_nodes false ns)
         ∙ two_empty (printed (lines_of_nodes ns) (nodes_so_far false ns)) (printed (text_line l ∷ []) (marked false Keep ∷ [])) (nodes_gone ns) refl
     nodes_gone (section ns gs e) =
-        printed_behind (lines_of_nodes ns) (lines_of_groups gs) (endif_line e) (nodes_so_far false ns) (groups_so_far false gs) (marked false (endif_verdict (conds_of_groups gs)))
+        printed_after (lines_of_nodes ns) (lines_of_groups gs) (endif_line e) (nodes_so_far false ns) (groups_so_far false gs) (marked false (endif_verdict (conds_of_groups gs)))
         (as_many_nodes false ns) (as_many_groups false gs)
         ∙ two_empty (printed (lines_of_nodes ns) (nodes_so_far false ns) ++ printed (lines_of_groups gs) (groups_so_far false gs)) []
         (two_empty (printed (lines_of_nodes ns) (nodes_so_far false ns)) (printed (lines_of_groups gs) (groups_so_far false gs)) (nodes_gone ns) (groups_gone gs)) refl
@@ -167,7 +167,7 @@ module _ {L : Type 0} where
   section_printed : (cs : List Cond) (left : KeptGroups L) (ps : Nodes (Edited L)) (e : L) (xs ys : List (Item L)) (ms ns : List Mark) → length xs ≡ length ms → length ys ≡ length ns →
       printed xs ms ≡ lines_of_nodes ps → Has cs left (printed ys ns) →
       printed ((xs ++ ys) ++ endif_line e ∷ []) ((ms ++ ns) ++ marked true (endif_verdict cs) ∷ []) ≡ lines_of_nodes (then_kept ps left e)
-  section_printed cs left ps e xs ys ms ns d f a h = grind (arith, printed_behind, endif_by_stage, append-nil, lines_then, append_assoc)
+  section_printed cs left ps e xs ys ms ns d f a h = grind (arith, printed_after, endif_by_stage, append-nil, lines_then, append_assoc)
 
   mutual
     nodes_printed : (ns : Nodes L) → printed (lines_of_nodes ns) (nodes_so_far true ns) ≡ lines_of_nodes (folded ns)

@@ -89,8 +89,8 @@ bytes_read : List (Item Reading) → List (List ℕ)
 bytes_read ys = map (λ y. line_bytes (reading_of y)) ys
 
 -- The line that this piece is after these.
-abbrev pub piece_behind_all : List (Item Reading) → List ℕ → Line
-piece_behind_all ys piece = line_at (suc (length (map (λ (y : Item Reading). line_bytes (reading_of y)) ys))) piece
+abbrev pub piece_after_all : List (Item Reading) → List ℕ → Line
+piece_after_all ys piece = line_at (suc (length (map (λ (y : Item Reading). line_bytes (reading_of y)) ys))) piece
 
 module _ (o : Options) (m : Mode) (xs : List (Item Reading)) (t u : Tree Reading) (ys : List (Item Reading)) (x : Item Reading) (mark : Mark)
     (more : marks u ≡ marks t ++ mark ∷ []) (long : length xs ≡ length (marks t)) (a : Again o m xs t ys) where
@@ -102,17 +102,17 @@ module _ (o : Options) (m : Mode) (xs : List (Item Reading)) (t u : Tree Reading
   gone_again e c = grind (arith, printed_next, append-nil)
 
   -- The case of a line that is left.
-  pub left_again : (r : Reading) (piece : List ℕ) → x ≡ item_of o r → Left o o.settings.unpadded mark.verdict r (read_after ys m (piece_behind_all ys piece)) →
-      Again o m (xs ++ x ∷ []) u (ys ++ item_of o (read_after ys m (piece_behind_all ys piece)) ∷ [])
+  pub left_again : (r : Reading) (piece : List ℕ) → x ≡ item_of o r → Left o o.settings.unpadded mark.verdict r (read_after ys m (piece_after_all ys piece)) →
+      Again o m (xs ++ x ∷ []) u (ys ++ item_of o (read_after ys m (piece_after_all ys piece)) ∷ [])
   unfolding bytes_read
-  left_again r piece is h = let q : Reading = read_after ys m (piece_behind_all ys piece) in
+  left_again r piece is h = let q : Reading = read_after ys m (piece_after_all ys piece) in
       let y : Item Reading = item_of o q in
       let q_is : reading_of y ≡ q = reading_of-item_of o q in
       let bytes : bytes_read (ys ++ y ∷ []) ≡ bytes_read ys ++ piece ∷ [] =
       map-append (λ (z : Item Reading). line_bytes (reading_of z)) ys (y ∷ [])
       ∙ ap (λ (p : List ℕ). bytes_read ys ++ p ∷ []) (ap line_bytes q_is ∙ text_of-line_at (suc (length (bytes_read ys))) piece) in
       record {
-        read = one_read ys a.read (piece_behind_all ys piece);
+        read = one_read ys a.read (piece_after_all ys piece);
         same = map-append (item_with scanned) ys (y ∷ [])
             ∙ ap₂ (λ (p s : List (Item Seen)). p ++ s) a.same (h.item ∙ ap (λ (z : Item Reading). map (item_with (left_seen o.settings.unpadded)) (kept_line mark.verdict z)) (sym is))
             ∙ sym (map-append (item_with (left_seen o.settings.unpadded)) (printed xs (marks t)) (kept_line mark.verdict x))

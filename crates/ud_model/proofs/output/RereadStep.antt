@@ -26,7 +26,7 @@ use Rattle.ud_model.proofs.output.LeftItems.{Left}
 use Rattle.ud_model.proofs.output.LeftModes.{left_plain, LeftCode, left_code}
 use Rattle.ud_model.proofs.text.LinesLemmas.{text_of-line_at}
 use Rattle.ud_model.proofs.output.LeavesOff.{LeavesOff, HasEnd, nowhere, joins_nothing, readings_last, joins_next, leaves_next, leaves_anew}
-use Rattle.ud_model.proofs.output.RereadMore.{Again, Between, Carry, alike, gone, Rests, IsLine, last_comment, last_removed, piece_behind_all, gone_again, left_again}
+use Rattle.ud_model.proofs.output.RereadMore.{Again, Between, Carry, alike, gone, Rests, IsLine, last_comment, last_removed, piece_after_all, gone_again, left_again}
 use Rattle.ud_model.proofs.text.ScanLaws.{place_after, white_after, joins_before-code}
 use Rattle.ud_model.proofs.text.ScanLemmas.{run_of_last}
 use Rattle.ud_model.proofs.sections.Stays.{marks_so_far_same, length_marks}
@@ -81,7 +81,7 @@ module _ (o : Options) (m : Mode) (xs : List (Item Reading)) (t : Tree Reading) 
   piece = piece_by o.settings.unpadded k.grown.mark.verdict (keyword_in (content_of (scan_after (map reading_of xs) m l))) l
 
   abbrev now : Line
-  now = piece_behind_all ys piece
+  now = piece_after_all ys piece
 
   now_line : IsLeft k.grown.mark.verdict → LeftLine o.settings.unpadded k.grown.mark.verdict (keyword_in (content_of (scan_after (map reading_of xs) m l))) l now
   now_line h = search (rules, piece_line)

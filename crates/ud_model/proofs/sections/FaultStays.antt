@@ -64,9 +64,9 @@ pub stops_at-append : (o : Options) (ls ms : List Line) (xs : List (Item Reading
 stops_at-append o ls ms xs t f h = grind (arith, append_assoc)
 
 -- A line after those that are read is the faulty one.
-pub stops_behind : (o : Options) (ls ms : List Line) (l : Line) (xs : List (Item Reading)) (t : Tree Reading) (f : Fault) →
+pub stops_after : (o : Options) (ls ms : List Line) (l : Line) (xs : List (Item Reading)) (t : Tree Reading) (f : Fault) →
     HasNoFault o ls xs t → FaultOf xs (next_item o xs t l) f → FirstFaultAt o (ls ++ l ∷ ms) xs t f
-stops_behind o ls ms l xs t f through fault = grind arith
+stops_after o ls ms l xs t f through fault = grind arith
 
 -- The line that the rest of the text so far begins, with more bytes after the rest.
 abbrev pub line_from : List ℕ → List ℕ → Line
@@ -100,7 +100,7 @@ limit_ends o given more xs t f through h = by_lines_of (lines_of-rest given more
   where
     by_lines_of : FindsLine given (lines_of (given ++ more)) → FirstFaultAt o (lines_of (given ++ more)) xs t f
     by_lines_of (x, later, e) = subst (λ (ls : List Line). FirstFaultAt o ls xs t f) (sym e)
-        (stops_behind o (lines_so_far given) later (line_from given x) xs t f through (rest_stays o given x xs t f h).fault)
+        (stops_after o (lines_so_far given) later (line_from given x) xs t f through (rest_stays o given x xs t f h).fault)
 
 -- A broken limit stays broken when the text goes on.
 pub limit_goes_on : (o : Options) (given more : List ℕ) (xs : List (Item Reading)) (t : Tree Reading) (f : Fault) →
@@ -111,7 +111,7 @@ limit_goes_on o given more xs t f through h = by_growth (grows given more)
     by_growth (ends_line x later e) = stops_so_far xs t f
         (subst (λ (ls : List Line). FirstFaultAt o ls xs t f)
         (sym (ap (numbered_from 1) e ∙ numbered_from-next (whole_lines given) (partial_line given ++ x) later))
-        (stops_behind o (lines_so_far given) (numbered_from (suc (suc (length (whole_lines given)))) later) (line_from given x) xs t f through
+        (stops_after o (lines_so_far given) (numbered_from (suc (suc (length (whole_lines given)))) later) (line_from given x) xs t f through
         (rest_stays o given x xs t f h).fault))
     by_growth (stays_open e r) = breaks xs t f
         (record { sound = through.sound; are = ap (numbered_from 1) e ∙ through.are })

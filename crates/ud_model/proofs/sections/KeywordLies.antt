@@ -24,10 +24,10 @@ lies_fresh : (scan : Scan) (fresh : Bool) (rest : List ℕ) (k : Option Kind) �
     Lies (length scan.masked) (if fresh then directive_at scan rest k else text)
 lies_fresh scan fresh rest k h = grind (arith, word_and_rest)
 
-lies_behind : (scan : Scan) (sign : Option (List ℕ)) → skip_white_and_hash scan.masked ≡ sign → Lies (length scan.masked) (content_after_hash scan sign)
-lies_behind scan None e = tt
-lies_behind scan (Some rest) e = search (rules, length-skip_white, sign_le, lies_fresh)
+lies_after : (scan : Scan) (sign : Option (List ℕ)) → skip_white_and_hash scan.masked ≡ sign → Lies (length scan.masked) (content_after_hash scan sign)
+lies_after scan None e = tt
+lies_after scan (Some rest) e = search (rules, length-skip_white, sign_le, lies_fresh)
 
 -- The keyword lies within the masked line.
 pub keyword_lies : (scan : Scan) → (keyword_in (content_of scan)).at + (keyword_in (content_of scan)).len ≤ length scan.masked
-keyword_lies scan = grind (arith, lies_behind)
+keyword_lies scan = grind (arith, lies_after)

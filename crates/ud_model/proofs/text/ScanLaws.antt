@@ -12,7 +12,7 @@ use Rattle.ud_model.specs.aids.LexStates.{LexState, in_text, LexesTo, next_state
 use Rattle.ud_model.specs.declared.kind.Mode.{Mode}
 use Rattle.ud_model.specs.declared.kind.Mode.TheVariants.{C}
 use Rattle.ud_model.proofs.text.LexStateLemmas.{LexesTo-nil, Masks-step}
-use Rattle.ud_model.proofs.text.ScanLemmas.{LexesTo-same, LexesTo-close, Masks-start, kind_at_place, spliced_text-append, joined_last, joins_last, scan_behind_is, run_of_last}
+use Rattle.ud_model.proofs.text.ScanLemmas.{LexesTo-same, LexesTo-close, Masks-start, kind_at_place, spliced_text-append, joined_last, joins_last, scan_after_is, run_of_last}
 use Rattle.ud_model.specs.aids.ReadAs.{read_in}
 use Rattle.std.proofs.lemmas.List.{map-append}
 
@@ -65,7 +65,7 @@ pub scan_after_run-from : (run : List Line) (line : Line) (w : LexState) (white 
     scan_after_run run line ≡ scan_from w white before line
 unfolding scan_from
 scan_after_run-from run line w white before r j =
-    scan_behind_is run line (masked_after w [] (content line)) w (place_after w (content line)) white
+    scan_after_is run line (masked_after w [] (content line)) w (place_after w (content line)) white
     (white_after w white (content line)) before r j (Masks-append (content line) (spliced_text run) w white [] (Masks-start r))
 
 -- After a newline at which no block comment is open, a text ends between lexemes.

@@ -133,7 +133,7 @@ same_scan e f g h i = cc
 
 -- The scan of a line: by the state after the text before it, by the masked content of the line, and
 -- by the state after the text with it.
-pub scan_behind_is : (run : List Line) (line : Line) (masked : List ℕ) (w v : LexState) (white now_white : Bool) (before : Bool) →
+pub scan_after_is : (run : List Line) (line : Line) (masked : List ℕ) (w v : LexState) (white now_white : Bool) (before : Bool) →
     LexesTo (spliced_text run) w white → before ≡ joins run → Masks (length (spliced_text run)) (spliced_text run ++ content line) v now_white masked →
     scan_after_run run line ≡ record {
       masked = masked;
@@ -144,7 +144,7 @@ pub scan_behind_is : (run : List Line) (line : Line) (masked : List ℕ) (w v : 
       comment = comment_at (is_spliced line) (kind_in_state (state_after_line (stays_open line) v));
     }
 unfolding scan_after_run
-scan_behind_is run line masked w v white now_white before r j m =
+scan_after_is run line masked w v white now_white before r j m =
     let at_end : kind_at_end (spliced_text run ++ spliced_part line) ≡ kind_in_state (state_after_line (stays_open line) v) =
     kind_at_place (LexesTo-close (spliced_text run) line v now_white m.reads) in
     same_scan (masked_is (spliced_text run) line m)

@@ -119,11 +119,11 @@ abbrev pub line_comment_size : List ℕ → ℕ
 line_comment_size [] = 0
 line_comment_size (a ∷ rest) = if a == newline then 0 else suc (line_comment_size rest)
 
--- `literal_size quote behind_backslash text`: how many bytes of `text` belong to the literal whose
+-- `literal_size quote after_backslash text`: how many bytes of `text` belong to the literal whose
 -- opening quote is before it. They end with the same quote, before the newline, or with the text.
--- An escaped quote doesn't count: `behind_backslash` means that the first byte is escaped.
+-- An escaped quote doesn't count: `after_backslash` means that the first byte is escaped.
 abbrev pub literal_size : ℕ → Bool → List ℕ → ℕ
-literal_size quote behind_backslash [] = 0
+literal_size quote after_backslash [] = 0
 literal_size quote true (a ∷ rest) = if a == newline then 0 else suc (literal_size quote false rest)
 literal_size quote false (a ∷ rest) =
     if a == newline then 0

@@ -260,8 +260,8 @@ impl Search {
             self.old place.entry walk.old self.new p walk.new) }
     {
         let until = clear_until(symbols, walk, place.until);
-        let most = passable_len(place, walk, until);
-        match walk.next_within(mode, most, masked) {
+        let maximum = passable_len(place, walk, until);
+        match walk.next_within(mode, maximum, masked) {
             Stretch::Texts(bytes) => Ok(Place {
                 number: place.number + self.listing.lines_in(bytes),
                 begun: None,

@@ -11,9 +11,9 @@ use Rattle.ud_text.specs.declared.bulk.blocks.Block.{Block}
 abbrev pub significant_bits : List ℕ → ℕ
 significant_bits bytes = mask_l (map is_significant bytes)
 
--- `IsBlock row bytes`: the block `row` begins within `bytes`, and has the bits of its 64 bytes. If
--- a bit is set, the block is full.
-pub record IsBlock (row : Block) (bytes : List ℕ) : Type 0 where
-  pub within : row.begin ≤ length bytes
-  pub whole : (row.bits ≡ 0 → ⊥) → row.begin + 64 ≤ length bytes
-  pub bits_are : row.bits ≡ significant_bits (take 64 (drop row.begin bytes))
+-- `IsBlock block bytes`: the block begins in `bytes`, and has the bits of its 64 bytes. If a bit is
+-- set, the block is full.
+pub record IsBlock (block : Block) (bytes : List ℕ) : Type 0 where
+  pub within : block.begin ≤ length bytes
+  pub whole : (block.bits ≡ 0 → ⊥) → block.begin + 64 ≤ length bytes
+  pub bits_are : block.bits ≡ significant_bits (take 64 (drop block.begin bytes))

@@ -61,14 +61,14 @@ fn block_bits(bytes: &[u8], at: usize) -> u64
 fn significant_from(bytes: &[u8], begin: usize) -> (usize, Block)
     requires within { begin ≤ length bytes.now }
     ensures value { result.0 ≡ begin + position_or_len is_significant (drop begin bytes.now) }
-    ensures row { IsBlock result.1 bytes.now }
+    ensures block { IsBlock result.1 bytes.now }
 {
     let mut at = begin;
     while bytes.len() - at >= BLOCK_BYTES {
         let bits = block_bits(bytes, at);
         if bits != 0 {
-            let place = at + bits.trailing_zeros() as usize;
-            return (place, Block { begin: at, bits });
+            let position = at + bits.trailing_zeros() as usize;
+            return (position, Block { begin: at, bits });
         }
         at += BLOCK_BYTES;
     }
@@ -76,25 +76,25 @@ fn significant_from(bytes: &[u8], begin: usize) -> (usize, Block)
 }
 
 /// Returns the position of the first significant byte from `at` on, and its block, as
-/// `significant_from` does. `row` is the block found before: its bits are used again if `at` lies
+/// `significant_from` does. `block` is the one found before: its bits are used again if `at` lies
 /// in it.
 #[inline(always)]
-pub(crate) fn next_significant(bytes: &[u8], row: Block, at: usize) -> (usize, Block)
+pub(crate) fn next_significant(bytes: &[u8], block: Block, at: usize) -> (usize, Block)
     requires within { at ≤ length bytes.now }
-    requires row { IsBlock row bytes.now }
+    requires block { IsBlock block bytes.now }
     ensures value { result.0 ≡ at + position_or_len is_significant (drop at bytes.now) }
     ensures bound { result.0 ≤ length bytes.now }
-    ensures row { IsBlock result.1 bytes.now }
+    ensures block { IsBlock result.1 bytes.now }
 {
     // One comparison: a position before the block is a great number.
-    let shift = at.wrapping_sub(row.begin);
+    let shift = at.wrapping_sub(block.begin);
     if shift >= BLOCK_BYTES {
         return significant_from(bytes, at);
     }
-    let bits = row.bits >> shift;
+    let bits = block.bits >> shift;
     if bits == 0 {
-        let end = row.begin + BLOCK_BYTES;
+        let end = block.begin + BLOCK_BYTES;
         return significant_from(bytes, end.min(bytes.len()));
     }
-    (at + bits.trailing_zeros() as usize, row)
+    (at + bits.trailing_zeros() as usize, block)
 }

@@ -82,30 +82,30 @@ fn last_line(lines: &[u8], p: Reach) -> Option<LineStart>
 }
 
 /// Returns the position of the first star pair from `at` on, whether it closes a block comment, and
-/// its block. The position is `lines.len()` if there is none. `row` is the block found before.
+/// its block. The position is `lines.len()` if there is none. `block` is the one found before.
 ///
 /// A star before a slash closes a block comment. A star before a backslash may do so, since a
 /// splice may stand between star and slash (C11 6.4.9).
 #[inline(always)]
-pub(crate) fn find_star_pair(lines: &[u8], row: Block, at: usize) -> (usize, bool, Block)
+pub(crate) fn find_star_pair(lines: &[u8], block: Block, at: usize) -> (usize, bool, Block)
     requires within { at ≤ length lines.now }
-    requires row { IsBlock row lines.now }
-    ensures row { IsBlock result.2 lines.now }
+    requires block { IsBlock block lines.now }
+    ensures block { IsBlock result.2 lines.now }
     ensures order { (at ≤ result.0) × (result.0 ≤ length lines.now) }
     ensures none { NoStarPair (take (result.0 - at) (drop at lines.now)) }
     ensures fits { result.1 ≡ true → result.0 + 2 ≤ length lines.now }
     ensures closes { result.1 ≡ true → take 2 (drop result.0 lines.now) ≡ star ∷ slash ∷ [] }
 {
-    let (mut end, mut row) = next_significant(lines, row, at);
+    let (mut end, mut block) = next_significant(lines, block, at);
     while end < lines.len() {
         if at < end && is_star_pair(lines[end - 1], lines[end]) {
-            return (end - 1, lines[end] == b'/', row);
+            return (end - 1, lines[end] == b'/', block);
         }
-        let (further, later) = next_significant(lines, row, end + 1);
+        let (further, later) = next_significant(lines, block, end + 1);
         end = further;
-        row = later;
+        block = later;
     }
-    (end, false, row)
+    (end, false, block)
 }
 
 /// Returns whether the logical line may be white before `p.at`. That isn't known for a line where a
@@ -278,16 +278,16 @@ fn code_step(lines: &[u8], p: Reach) -> Option<Reach>
 /// Skips a block comment. Stops if `lines` doesn't close it, or if a splice may stand between its
 /// star and its slash.
 #[inline(always)]
-fn block_step(lines: &[u8], row: Block, p: Reach) -> (Option<Reach>, Block)
+fn block_step(lines: &[u8], block: Block, p: Reach) -> (Option<Reach>, Block)
     requires order { InReach p lines.now }
-    requires row { IsBlock row lines.now }
+    requires block { IsBlock block lines.now }
     requires some { 2 ≤ length (drop p.at lines.now) }
     requires first { take 2 (drop p.at lines.now) ≡ slash ∷ star ∷ [] }
-    ensures row { IsBlock result.1 lines.now }
+    ensures block { IsBlock result.1 lines.now }
     ensures further { IfSome result.0 (λ q. InReach q lines.now × (p.at < q.at)) }
     ensures read { GoesOn lines.now p result.0 }
 {
-    let (pair, closes, last) = find_star_pair(lines, row, p.at + 2);
+    let (pair, closes, last) = find_star_pair(lines, block, p.at + 2);
     if closes {
         let next = Reach {
             base: pair + 2,
@@ -303,40 +303,40 @@ fn block_step(lines: &[u8], row: Block, p: Reach) -> (Option<Reach>, Block)
 
 /// Skips what a significant byte begins.
 #[inline(always)]
-fn step(lines: &[u8], row: Block, p: Reach) -> (Option<Reach>, Block)
+fn step(lines: &[u8], block: Block, p: Reach) -> (Option<Reach>, Block)
     requires order { InReach p lines.now }
-    requires row { IsBlock row lines.now }
+    requires block { IsBlock block lines.now }
     requires some { p.at < length lines.now }
-    ensures row { IsBlock result.1 lines.now }
+    ensures block { IsBlock result.1 lines.now }
     ensures further { IfSome result.0 (λ q. InReach q lines.now × (p.at < q.at)) }
     ensures read { GoesOn lines.now p result.0 }
 {
     let rest = &lines[p.at..];
     if rest.starts_with(b"/*") {
-        block_step(lines, row, p)
+        block_step(lines, block, p)
     } else {
-        (code_step(lines, p), row)
+        (code_step(lines, p), block)
     }
 }
 
 /// Skips text lines from `begun` on. Returns the beginning of the line where the skip stops.
-fn skip_text_from(lines: &[u8], row: Block, begun: Reach) -> Option<LineStart>
+fn skip_text_from(lines: &[u8], block: Block, begun: Reach) -> Option<LineStart>
     requires order { InReach begun lines.now }
-    requires row { IsBlock row lines.now }
+    requires block { IsBlock block lines.now }
     ensures bound { IfSome result (λ line. line.at ≤ length lines.now) }
     ensures skipped { (start : BulkState) → Reached start lines.now begun →
         IfSome result (λ line. SkippedBy start lines.now line) }
 {
-    let (at, first) = next_significant(lines, row, begun.at);
-    let mut row = first;
+    let (at, first) = next_significant(lines, block, begun.at);
+    let mut block = first;
     let mut p = Reach { at, ..begun };
     while p.at < lines.len() {
-        let (next, last) = step(lines, row, p);
+        let (next, last) = step(lines, block, p);
         let Some(next) = next else {
             return last_line(lines, p);
         };
         let (at, found) = next_significant(lines, last, next.at);
-        row = found;
+        block = found;
         p = Reach { at, ..next };
     }
     last_line(lines, p)
@@ -361,7 +361,7 @@ pub(crate) fn skip_text_lines(lexer: Lexer, lines: &[u8]) -> Option<LineStart>
             skip_text_from(lines, no_block(lines), begun)
         }
         LexState::Block => {
-            let (pair, closes, row) = find_star_pair(lines, no_block(lines), 0);
+            let (pair, closes, block) = find_star_pair(lines, no_block(lines), 0);
             if closes {
                 let begun = Reach {
                     base: pair + 2,
@@ -370,7 +370,7 @@ pub(crate) fn skip_text_lines(lexer: Lexer, lines: &[u8]) -> Option<LineStart>
                     at: pair + 2,
                     searched: 0,
                 };
-                return skip_text_from(lines, row, begun);
+                return skip_text_from(lines, block, begun);
             }
             None
         }

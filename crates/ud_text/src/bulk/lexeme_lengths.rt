@@ -11,7 +11,7 @@ ghost use Rattle.ud_text.specs.bulk.BulkLexemes.{is_significant, CodeLexeme, Lin
 ghost use Rattle.ud_text.specs.bulk.BulkLexemes.{may_splice};
 
 use crate::searching::is_significant;
-use crate::searching::simd::find_near;
+use crate::searching::simd::find_any_of;
 use memchr::memchr;
 
 /// Returns whether `byte` is a quote.
@@ -98,7 +98,7 @@ pub(crate) fn literal_len(rest: &[u8], quote: u8) -> Option<usize>
 {
     let mut at = 1;
     while at < rest.len() {
-        let end = at + find_near(&rest[at..], [quote, b'\\', b'\n', b'\n', b'\n']);
+        let end = at + find_any_of(&rest[at..], [quote, b'\\', b'\n', b'\n', b'\n']);
         if end >= rest.len() {
             return None;
         }
@@ -154,7 +154,7 @@ pub(crate) fn quoted_line_len(rest: &[u8]) -> Result<usize, usize>
     let mut begun = 0;
     let mut slashes = 0;
     while at < rest.len() {
-        let stop = at + find_near(&rest[at..], [b'\n', b'/', b'/', b'/', b'/']);
+        let stop = at + find_any_of(&rest[at..], [b'\n', b'/', b'/', b'/', b'/']);
         if stop >= rest.len() {
             return Err(stop);
         }

@@ -94,7 +94,7 @@ pub(crate) fn whole_lines_len(chunk: &[u8]) -> usize
     ensures bound { result ≤ length chunk.now }
     ensures ends { AreWholeLines (take result chunk.now) }
     ensures fits { EachFits (whole_lines (take result chunk.now)) }
-    ensures most { FirstIsLong (drop result chunk.now) }
+    ensures longest { FirstIsLong (drop result chunk.now) }
 {
     let mut at = 0;
     while at < chunk.len() {

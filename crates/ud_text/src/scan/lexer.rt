@@ -108,7 +108,7 @@ pub(crate) fn opens_comment(state: LexState, byte: u8) -> bool
     }
 }
 
-/// Returns `byte` as it is shown while nothing follows it.
+/// Returns what the masked line shows for `byte`, unless a later byte begins a comment with it.
 fn masked_byte(state: LexState, byte: u8) -> u8
     ensures { result ≡ masked_byte (lex_state_of state) byte }
 {

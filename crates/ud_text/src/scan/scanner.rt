@@ -168,7 +168,7 @@ fn scan_code<'a, H: LineBuffer>(
     let (inside, borrowed) = mask_or_borrow(scan_state.lexer, bytes, masked);
     let lexer = end_line(line, spliced, inside);
     let joins = spliced || is_in_block_comment(lexer.state);
-    let facts = LineFlags {
+    let flags = LineFlags {
         fresh,
         joins_before: scan_state.joins,
         joins_after: joins,
@@ -178,7 +178,7 @@ fn scan_code<'a, H: LineBuffer>(
     let scan_state = ScanState { lexer, joins };
     ScannedLine {
         scan_state,
-        flags: facts,
+        flags,
         borrowed,
     }
 }
@@ -238,17 +238,17 @@ fn scan_without_marks<'a>(scan_state: ScanState, line: &Line<'a>) -> Option<Scan
     if line.ending.is_empty() || !has_no_mark(line.body) {
         return None;
     }
-    let facts = LineFlags {
+    let flags = LineFlags {
         fresh: scan_state.lexer.white,
         joins_before: scan_state.joins,
         joins_after: false,
         spliced: false,
         comment: CommentAt::Outside,
     };
-    let left = initial_state();
+    let scan_state = initial_state();
     Some(ScannedLine {
-        scan_state: left,
-        flags: facts,
+        scan_state,
+        flags,
         borrowed: Some(line.body),
     })
 }
@@ -265,7 +265,7 @@ fn scan_plain<'a>(line: &Line<'a>) -> ScannedLine<'a>
     ensures fits { (masked : List ℕ) →
         length (shown_in result.borrowed masked) ≤ length line.now.body.now }
 {
-    let facts = LineFlags {
+    let flags = LineFlags {
         fresh: true,
         joins_before: false,
         joins_after: false,
@@ -276,7 +276,7 @@ fn scan_plain<'a>(line: &Line<'a>) -> ScannedLine<'a>
     let borrowed = Some(line.body);
     ScannedLine {
         scan_state,
-        flags: facts,
+        flags,
         borrowed,
     }
 }
@@ -382,11 +382,11 @@ fn skip_text_in_c_mode(scan_state: ScanState, lines: &[u8]) -> (usize, ScanState
     }
     let next = skip_text_lines(scan_state.lexer, lines);
     let joins = continues_line(next.lexer);
-    let left = ScanState {
+    let after = ScanState {
         lexer: next.lexer,
         joins,
     };
-    (next.at, left)
+    (next.at, after)
 }
 
 /// Skips text lines in plain mode. Returns how many bytes they have, and the state after them.

@@ -77,7 +77,7 @@ fn find_by_lanes<const N: usize>(bytes: &[u8], set: ByteSet) -> usize
 /// Returns the position of the first byte of `set`, or `bytes.len()` if there is none. Uses few
 /// lanes, for a byte that is near.
 #[inline(always)]
-pub(crate) fn find_near(bytes: &[u8], set: ByteSet) -> usize
+pub(crate) fn find_any_of(bytes: &[u8], set: ByteSet) -> usize
     ensures value { result ≡ position_or_len (is_one_of set) bytes.now }
     ensures bound { result ≤ length bytes.now }
 {

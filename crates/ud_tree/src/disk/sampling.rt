@@ -92,19 +92,19 @@ fn read_sample<F: Read>(file: &mut F, size: u64, text: &mut Vec<u8>) -> io::Resu
     Ok(Sample::Whole)
 }
 
-/// Reads more of a file that is to have `size` bytes, until it ends or `text` has `most` bytes.
+/// Reads more of a file that is to have `size` bytes, until it ends or `text` has `maximum` bytes.
 /// Each read takes at most as many bytes as `text` has, or `PROBE_BYTES`.
-fn read_most<F: Read>(file: &mut F, size: u64, most: usize, text: &mut Vec<u8>) -> io::Result<()>
-    requires some { length text.old.items ≤ most }
+fn read_most<F: Read>(file: &mut F, size: u64, maximum: usize, text: &mut Vec<u8>) -> io::Result<()>
+    requires some { length text.old.items ≤ maximum }
     ensures reads { OnOk result
         (ReadsOn (F.remaining file.old) (F.remaining file.new) text.old.items text.new.items) }
-    ensures within { OnOk result (length text.new.items ≤ most) }
-    ensures ended { OnOk result (length text.new.items < most →
+    ensures within { OnOk result (length text.new.items ≤ maximum) }
+    ensures ended { OnOk result (length text.new.items < maximum →
         IsAtEnd (F.remaining file.new) ⊎ (length text.new.items ≡ size)) }
 {
     for _block in 0..u64::MAX {
         let len = text.len();
-        let block = len.clamp(PROBE_BYTES, BLOCK_BYTES).min(most - len);
+        let block = len.clamp(PROBE_BYTES, BLOCK_BYTES).min(maximum - len);
         if block == 0 {
             return Ok(());
         }

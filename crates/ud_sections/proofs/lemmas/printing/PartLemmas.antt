@@ -90,17 +90,17 @@ module _ (p more body ending prefix back : List ℕ) (split : Split p body prefi
     ends : (back ≡ []) ⊎ (b ≡ [])
     ends = grind (arith, common_steps)
 
-    behind_body : bytes_eq (p ++ more) (body ++ ending) ≡ bytes_eq (back ++ more) (b ++ ending)
-    behind_body = grind (arith, common_steps, stripped, in_body)
+    after_body : bytes_eq (p ++ more) (body ++ ending) ≡ bytes_eq (back ++ more) (b ++ ending)
+    after_body = grind (arith, common_steps, stripped, in_body)
 
     -- the ending doesn't begin with the rest of the part
     pub other_ending : bytes_eq (take (length back) ending) back ≡ false → bytes_eq (p ++ more) (body ++ ending) ≡ false
-    other_ending h = grind (arith, common_steps, behind_body, other_front)
+    other_ending h = grind (arith, common_steps, after_body, other_front)
 
     -- without the part and what it equals, the rests are compared
     pub next_part : (e : List ℕ) → bytes_eq (take (length back) ending) back ≡ true → e ≡ drop (length back) ending →
         bytes_eq (p ++ more) (body ++ ending) ≡ bytes_eq more (b ++ e)
-    next_part e same last = search (rules, behind_body, stripped, same_front, ends)
+    next_part e same last = search (rules, after_body, stripped, same_front, ends)
 
 -- the part of no bytes
 abbrev pub no_part : Bor (List ℕ)

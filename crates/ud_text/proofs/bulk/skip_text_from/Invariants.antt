@@ -7,7 +7,7 @@ use Rattle.ud_text.proofs.bulk.skip_text_from.Given as goal
 
 abbrev pub invariant-loop-p : goal.invariant-loop-p
 invariant-loop-p l = record {
-  row : IsBlock l.row l.lines;
+  block : IsBlock l.block l.lines;
   order : InOrder l.p l.lines;
   read : (start : BulkState) → ReadBy start l.lines l.fn.begun → ReadBy start l.lines l.p;
 }

@@ -13,7 +13,7 @@ use Rattle.ud_model.specs.sections.Tree.{Item}
 use Rattle.ud_model.specs.sections.Items.{reading_of}
 use Rattle.ud_model.proofs.text.LexStateLemmas.{LexesTo-nil}
 use Rattle.ud_model.proofs.text.ScanLaws.{scan_after_run-from}
-use Rattle.ud_model.proofs.text.ScanLemmas.{LexesTo-same, LexesTo-close, kind_at_place, joined_run_last, run_of_last, joins_last, scan_behind_is}
+use Rattle.ud_model.proofs.text.ScanLemmas.{LexesTo-same, LexesTo-close, kind_at_place, joined_run_last, run_of_last, joins_last, scan_after_is}
 use Rattle.ud_text.specs.scan.ScannerState.{ScannerState, ScannerRepresents, initial_scanner_state, ends_in_block}
 use Rattle.ud_text.proofs.lemmas.scan.MaskLemmas.{no_newline-take}
 use Rattle.ud_model.specs.text.Lexemes.{LexemeKind}
@@ -54,7 +54,7 @@ module _ (carry : ScannerState) (before : List Reading) (line : Line) (masked : 
         spliced = is_spliced line;
         comment = comment_at (is_spliced line) (kind_in_state (state_after_line (stays_open line) v));
       }
-  scan_carried h m = scan_behind_is (c_run_of before) line masked carry.state v carry.white white carry.joins h.reads h.joins_is m
+  scan_carried h m = scan_after_is (c_run_of before) line masked carry.state v carry.white white carry.joins h.reads h.joins_is m
 
   -- the state that is carried over a line in C mode
   pub represents_code : (left : ScannerState) → ScannerRepresents carry before → Masks (length (spliced_text (c_run_of before))) (spliced_text (c_run_of before) ++ content line) v white masked →

@@ -6,13 +6,13 @@ use Rattle.ud_args.specs.ParsedSettings.{IsUsageOf}
 use Rattle.ud_args.specs.LeastSymbols.{least_argument}
 use Rattle.ud_args.specs.declared.usage.Usage.TheVariants.{OutOfMemory}
 use Rattle.ud_args.proofs.LeastLemmas.{stores}
-use Rattle.ud_args.proofs.ParsedArgLemmas.{first_fault-behind_operand}
+use Rattle.ud_args.proofs.ParsedArgLemmas.{first_fault-after_operand}
 use Rattle.ud_args.proofs.plans.PlanDraft.apply_least.Goals as goal
 
 pub returns-then-is_some-clause-err : goal.returns-then-is_some-clause-err
 returns-then-is_some-clause-err c = λ g s gs p more.
     let scanned : is_some (operand_in gs) ≡ true = grind arith in
-    first_fault-behind_operand gs more g p.right scanned
+    first_fault-after_operand gs more g p.right scanned
 
 pub returns-in_default-clause-err : goal.returns-in_default-clause-err
 returns-in_default-clause-err c = λ g s gs p more.

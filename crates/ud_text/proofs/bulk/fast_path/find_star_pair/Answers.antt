@@ -6,7 +6,7 @@ use Rattle.ud_text.proofs.bulk.fast_path.find_star_pair.Goals.{else-at-end-via-t
 
 pub loop-end-init : goal.loop-end-init
 loop-end-init c = record {
-  row = c.next_significant-end.ensures.row;
+  block = c.next_significant-end.ensures.block;
   later = omega (arith, c.next_significant-end.ensures.value);
   within = c.next_significant-end.ensures.bound;
   none = none_on c.args.lines.now c.args.at c.args.at c.next_significant-end.result.0 c.next_significant-end.ensures.value (λ k low high. absurd (omega (arith, low, high)));
@@ -14,7 +14,7 @@ loop-end-init c = record {
 
 pub loop-end-preserved : goal.loop-end-preserved
 loop-end-preserved c = record {
-  row = c.next_significant-further.ensures.row;
+  block = c.next_significant-further.ensures.block;
   later = omega (arith, c.next_significant-further.ensures.value, c.loop-end.invariant.later);
   within = c.next_significant-further.ensures.bound;
   none = none_on c.args.lines.now c.args.at (c.loop-end.end + 1) c.next_significant-further.result.0 c.next_significant-further.ensures.value

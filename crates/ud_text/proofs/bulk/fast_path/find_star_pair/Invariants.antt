@@ -6,7 +6,7 @@ use Rattle.ud_text.proofs.bulk.fast_path.find_star_pair.Given as goal
 
 abbrev pub invariant-loop-end : goal.invariant-loop-end
 invariant-loop-end l = record {
-  row : IsBlock l.row l.lines;
+  block : IsBlock l.block l.lines;
   later : l.at ≤ l.end;
   within : l.end ≤ length l.lines;
   none : (k : ℕ) → l.at ≤ k → k + 1 < l.end → is_star_pair (get_or l.lines k 0) (get_or l.lines (k + 1) 0) ≡ false;

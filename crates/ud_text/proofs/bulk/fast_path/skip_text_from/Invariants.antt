@@ -7,7 +7,7 @@ use Rattle.ud_text.proofs.bulk.fast_path.skip_text_from.Given as goal
 
 abbrev pub invariant-loop-p : goal.invariant-loop-p
 invariant-loop-p l = record {
-  row : IsBlock l.row l.lines;
+  block : IsBlock l.block l.lines;
   order : InReach l.p l.lines;
   read : (start : BulkState) → Reached start l.lines l.fn.begun → Reached start l.lines l.p;
 }

@@ -16,13 +16,13 @@ use Rattle.ud_text.proofs.bulk.lexeme_lengths.quoted_line_len.Goals as goal
 
 pub returns-then-rest-stop-eq10-clause-read : goal.returns-then-rest-stop-eq10-clause-read
 returns-then-rest-stop-eq10-clause-read c = λ white.
-    quoted_line c.args.rest.now c.loop-at.at c.find_near.result c.find_near.ensures.value
+    quoted_line c.args.rest.now c.loop-at.at c.find_any_of.result c.find_any_of.ensures.value
     c.loop-at.invariant.opens c.if-stop-rest.false c.if-rest-stop-eq10.true
     unspliced white c.loop-at.begun (omega (arith, c.if-begun-gt0.false))
     (c.loop-at.invariant.read white)
   where
     n : ℕ
-    n = c.loop-at.at + c.find_near.result
+    n = c.loop-at.at + c.find_any_of.result
 
     low : 1 ≤ n
     low = omega (arith, c.loop-at.invariant.low)
@@ -47,7 +47,7 @@ loop-at-preserved-then-rest-stop-eq42 c = record {
   few = c.loop-at.invariant.few;
   opens = grind arith;
   read = λ white.
-      quoted_star c.args.rest.now c.loop-at.at c.find_near.result c.find_near.ensures.value
+      quoted_star c.args.rest.now c.loop-at.at c.find_any_of.result c.find_any_of.ensures.value
       c.loop-at.invariant.opens white c.loop-at.begun (c.loop-at.invariant.read white)
       c.if-stop-rest-2.false (ne_eqb _ 10 c.if-rest-stop-eq10.false) c.if-rest-stop-eq42.true;
 }
@@ -63,7 +63,7 @@ loop-at-preserved c = record {
 }
   where
     n : ℕ
-    n = c.loop-at.at + c.find_near.result
+    n = c.loop-at.at + c.find_any_of.result
 
     not_later : c.if-begun-stop.begun ≤ n + 1
     not_later = elim c.if-begun-stop.branch [
@@ -75,13 +75,13 @@ loop-at-preserved c = record {
     read white = elim c.if-begun-stop.branch [
       | then-begun-stop+then-rest-stop-eq42-2 w ↦
           subst (λ (k : ℕ). QuotedTo white k c.args.rest.now (n + 1)) (sym w.begun-is)
-          (quoted_shut c.args.rest.now c.loop-at.at c.find_near.result c.find_near.ensures.value
+          (quoted_shut c.args.rest.now c.loop-at.at c.find_any_of.result c.find_any_of.ensures.value
           c.loop-at.invariant.opens white c.loop-at.begun (c.loop-at.invariant.read white)
           c.if-stop-rest.false (ne_eqb _ 10 c.if-rest-stop-eq10.false) w.if-begun-stop.true
           w.if-rest-stop-eq42-2.true)
       | else-begun-stop w ↦
           subst (λ (k : ℕ). QuotedTo white k c.args.rest.now (n + 1)) (sym w.begun-is)
-          (quoted_more c.args.rest.now c.loop-at.at c.find_near.result c.find_near.ensures.value
+          (quoted_more c.args.rest.now c.loop-at.at c.find_any_of.result c.find_any_of.ensures.value
           c.loop-at.invariant.opens white c.loop-at.begun (c.loop-at.invariant.read white)
           c.if-stop-rest.false (ne_eqb _ 10 c.if-rest-stop-eq10.false))
     ]

@@ -29,8 +29,8 @@ loop-at-preserved c = let short : c.min.result ≤ MAX_LINE_BYTES = omega (arith
           c.loop-at.invariant.fits;
     }
 
-pub returns-then-count-eq0-clause-most : goal.returns-then-count-eq0-clause-most
-returns-then-count-eq0-clause-most c =
+pub returns-then-count-eq0-clause-longest : goal.returns-then-count-eq0-clause-longest
+returns-then-count-eq0-clause-longest c =
     let rest : List ℕ = take (length c.args.chunk.now - c.loop-at.at) (drop c.loop-at.at c.args.chunk.now) in
     let begin : c.last_line_start-count.result ≡ 0 = c.if-count-eq0.true in
     let none : NoNewline (take c.min.result rest) = subst (λ (n : ℕ). NoNewline (drop n (take c.min.result rest))) begin c.last_line_start-count.ensures.one_line in

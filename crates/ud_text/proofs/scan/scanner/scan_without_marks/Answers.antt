@@ -10,7 +10,7 @@ pub returns-clause-represents : goal.returns-clause-represents
 returns-clause-represents c = λ before h.
     unmarked_carries (scanner_state_of c.args.scan_state) before (as_line c.args.line.now) h (ap lex_state_of c.in-Text.is)
     (length c.args.line.now.body.now) (sym (c.has_no_mark.ensures c.if-not-has_no_mark.false)) refl c.requires.one_line (sym c.is_empty.ensures ∙ c.if-is_empty.false)
-    (scanner_state_of c.initial_state-left.result) c.initial_state-left.ensures
+    (scanner_state_of c.initial_state-scan_state.result) c.initial_state-scan_state.ensures
 
 pub returns-clause-value : goal.returns-clause-value
 returns-clause-value c = λ masked before h.

@@ -17,7 +17,7 @@ returns-in-Texts-clause-searched c = λ calls h text start s.
     texts_searched c.args.symbols.now calls c.args.mode c.args.name.now text start c.args.self.now c.args.place c.args.walk.now s c.args.self.now _ c.next_within.new.self
     (subst (IsClearTo calls c.clear_until-until.result) (sym c.next_within.ensures.rest) (still_clear calls c.clear_until-until.result _ rest clear)) c.in-Texts.bytes.now n.0 n.1
     (texts_clear calls c.clear_until-until.result c.in-Texts.bytes.now rest n.0 clear (omega arith) front.1 n.2) n.2 n.3
-    (grind (arith, c.passable_len-most.ensures.begun, c.in-Texts.ensures.one)) refl c.lines_in.result c.lines_in.ensures.count refl refl refl refl refl refl
+    (grind (arith, c.passable_len-maximum.ensures.begun, c.in-Texts.ensures.one)) refl c.lines_in.result c.lines_in.ensures.count refl refl refl refl refl refl
 
 pub returns-in_ok-end_line-in-TooLong-clause-searched : goal.returns-in_ok-end_line-in-TooLong-clause-searched
 returns-in_ok-end_line-in-TooLong-clause-searched c = λ calls h text start s.

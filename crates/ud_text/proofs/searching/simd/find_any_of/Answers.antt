@@ -5,8 +5,8 @@ use Rattle.std.proofs.lemmas.Iterator.{YieldsList-from_slice}
 use Rattle.std.proofs.lemmas.Iterator.Search.{position_from_yields_List}
 use Rattle.ud_text.specs.searching.Searches.{is_one_of}
 use Rattle.ud_text.proofs.lemmas.searching.SimdLemmas.{search_bound}
-use Rattle.ud_text.proofs.searching.simd.find_near.Goals.{After-unwrap_or}
-use Rattle.ud_text.proofs.searching.simd.find_near.Goals as goal
+use Rattle.ud_text.proofs.searching.simd.find_any_of.Goals.{After-unwrap_or}
+use Rattle.ud_text.proofs.searching.simd.find_any_of.Goals as goal
 use Rattle.ud_model.proofs.text.ByteLemmas.{unwrap_or-position}
 
 found : (c : After-unwrap_or) → c.unwrap_or.result ≡ position_or_len (is_one_of c.args.set) c.args.bytes.now

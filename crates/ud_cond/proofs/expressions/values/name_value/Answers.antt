@@ -1,7 +1,7 @@
 use Rattle.std.proofs.Common.{◌∙◌, Some, option_map, sym, ap}
 use Rattle.ud_cond.specs.expressions.Evaluation.{table_in}
 use Rattle.ud_cond.proofs.lemmas.expressions.NamedLemmas.{worth-unlisted, worth-undefined, worth-defined}
-use Rattle.ud_cond.proofs.expressions.values.named.Goals as goal
+use Rattle.ud_cond.proofs.expressions.values.name_value.Goals as goal
 
 pub returns-in-None : goal.returns-in-None
 returns-in-None c = worth-unlisted (table_in c.args.scope.now) c.args.scope.now.unsigned c.args.name.now c.args.arguments (sym c.in-None.ensures)
