@@ -51,10 +51,6 @@ pub dropped_differ : (verdict : Verdict) (n : ℕ) (bytes : List ℕ) → AreWho
     some_other (map (λ (l : Line). []) (numbered_from n (whole_lines bytes))) (map (judged_text verdict) (numbered_from n (whole_lines bytes))) ≡ true
 dropped_differ verdict n bytes ends some = by_lines (whole_lines bytes) (ended_lines bytes ends) (are_whole bytes)
   where
-    some_text : (prefix : List ℕ) (d : Bool) → (not (bytes_eq [] (prefix ++ 10 ∷ [])) || d) ≡ true
-    some_text [] d = refl
-    some_text (b ∷ prefix) d = refl
-
     by_lines : (ls : List (List ℕ)) → bytes ≡ concat ls → AreWhole ls →
         some_other (map (λ (l : Line). []) (numbered_from n ls)) (map (judged_text verdict) (numbered_from n ls)) ≡ true
     by_lines [] e whole = absurd (let z = ap length e in omega (arith, z, some))

@@ -1,14 +1,12 @@
 -- The rules of a walk, one after another.
-use Rattle.std.proofs.Common.{◌≡◌, ◌⊎◌, inl, inr, refl, true≢false, ℕ, List, [], ◌∷◌, ◌++◌, Bool, true, false, Option, Some, None, sym, ap, ◌∙◌, subst, arith}
+use Rattle.std.proofs.Common.{◌≡◌, refl, true≢false, ℕ, List, [], ◌∷◌, ◌++◌, Bool, true, false, Option, Some, None, sym, subst, arith}
 use Rattle.std.proofs.lemmas.List.Elements.{Contains-push_cases}
 use Rattle.std.proofs.lemmas.Grind.{common_steps}
-use Rattle.std.specs.List.{Contains}
 use Rattle.std.specs.Prelude.{◌↔◌}
-use Rattle.ud_tree.specs.Patterns.{Matches}
 use Rattle.ud_tree.specs.Paths.{last_name}
 use Rattle.ud_tree.specs.declared.patterns.Effect.{Effect}
 use Rattle.ud_tree.specs.declared.patterns.Effect.TheVariants.{Leave}
-use Rattle.ud_tree.specs.Choices.{Rule, rule_of, Fits, FitsFile, Decides, last_fits, last_differs, LeavesDirectory, Chooses, decided, usual, unusual, chosen_by, is_fresh, IsUsual, MatchesOne}
+use Rattle.ud_tree.specs.Choices.{Rule, rule_of, Fits, FitsFile, Decides, last_fits, last_differs, LeavesDirectory, Chooses, decided, usual, unusual, chosen_by, is_fresh, IsUsual}
 
 -- The last rule matches.
 pub decides_fits : {below : List ℕ} {texts more : List (List ℕ)} {effect : Option Effect} (text : List ℕ) (rule : Rule) → more ≡ texts ++ text ∷ [] → rule ≡ rule_of text →
@@ -34,24 +32,6 @@ pub chooses_usual : {below : List ℕ} {texts : List (List ℕ)} {last : Option 
     (b ≡ true) ↔ IsUsual texts (last_name below) → Chooses texts below b
 chooses_usual {below = below} {texts = texts} true old is h by_name = usual old (subst (λ (e : Option Effect). Decides below texts e) is h) (by_name.0 refl)
 chooses_usual {below = below} {texts = texts} false old is h by_name = unusual (subst (λ (e : Option Effect). Decides below texts e) is h) (λ u. true≢false (sym (by_name.1 u)))
-
--- No pattern matches, and one more doesn't.
-pub matches_none : {name : List ℕ} {more : List (List ℕ)} (patterns : List (List ℕ)) (pattern : List ℕ) → more ≡ patterns ++ pattern ∷ [] → ¬ (Matches pattern name) → ¬ (MatchesOne patterns name) → ¬ (MatchesOne more name)
-matches_none {name = name} patterns pattern grown other none h = by_case (Contains-push_cases patterns pattern h.0 (subst (λ (ps : List (List ℕ)). Contains ps h.0) grown h.1))
-  where
-    by_case : Contains patterns h.0 ⊎ (pattern ≡ h.0) → ⊥
-    by_case (inl there) = none (h.0, there, h.2)
-    by_case (inr same) = other (subst (λ (p : List ℕ). Matches p name) (sym same) h.2)
-
--- One of the rules leaves out the directory.
-pub leaves_at : {below : List ℕ} {texts : List (List ℕ)} (text : List ℕ) (rule : Rule) → Contains texts text → rule ≡ rule_of text → rule.effect ≡ Leave → Fits rule below →
-    LeavesDirectory texts below
-leaves_at {below = below} text rule there is leaves fits = record {
-  text = text;
-  given = there;
-  leaves = ap (λ (r : Rule). r.effect) (sym is) ∙ leaves;
-  fits = subst (λ (r : Rule). Fits r below) is fits;
-}
 
 -- No rule does, and one more doesn't.
 pub leaves_none : {below : List ℕ} {texts more : List (List ℕ)} (text : List ℕ) (rule : Rule) → more ≡ texts ++ text ∷ [] → rule ≡ rule_of text →

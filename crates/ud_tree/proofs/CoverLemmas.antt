@@ -3,7 +3,7 @@ use Rattle.std.proofs.Common.{◌≡◌, ◌⊎◌, inl, inr, ℕ, ◌+◌, ◌<
 use Rattle.std.proofs.lemmas.List.{map-append, take_more}
 use Rattle.std.proofs.lemmas.List.Elements.{All-weaker, All-contains}
 use Rattle.std.specs.List.{All, Contains}
-use Rattle.std.specs.Prelude.{OnErr, OnOk, string_bytes}
+use Rattle.std.specs.Prelude.{OnErr, string_bytes}
 use Rattle.std.proofs.lemmas.Grind.{common_steps}
 use Rattle.ud_replace.specs.declared.node.Lookup.TheVariants.{Present}
 use Rattle.ud_replace.specs.Calls.{Call, walked, WalkCall, met, followed}
@@ -59,10 +59,7 @@ parts_are xs ys x y z h k = grind (arith, common_steps, map-append)
 pub one_more : {X : Type 0} (f : X → List ℕ) (xs : List X) (i : ℕ) (v : X) (name : List ℕ) → i < length xs → v ≡ get_or xs i v → name ≡ f v → map f (take (i + 1) xs) ≡ map f (take i xs) ++ name ∷ []
 one_more f xs i v name within is named = grind (arith, common_steps, take_more, map-append)
 
--- A result of which something holds in any case.
-pub on_ok_always : {T E Q : Type 0} (r : Result T E) → Q → OnOk r Q
-on_ok_always r q = grind arith
-
+-- An error has each property that always holds.
 pub on_err_always : {T E Q : Type 0} (r : Result T E) → Q → OnErr r Q
 on_err_always r q = grind arith
 

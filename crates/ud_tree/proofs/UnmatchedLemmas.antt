@@ -87,10 +87,6 @@ rule_here f xs i x name within is named = grind (arith, common_steps, get_or-map
 pub mark_here : (marks : List Bool) (i : ℕ) (b : Bool) → i < length marks → b ≡ get_or marks i b → is_marked marks i ≡ b
 mark_here marks i b within is = sym (is ∙ get_or_default marks i b true within)
 
--- No rule was tried yet.
-pub marks_begun : (kind : NodeKind) (below : List ℕ) (texts : List (List ℕ)) (marks : List Bool) → MarksFirst 0 kind below texts marks marks
-marks_begun kind below texts marks = record { count = refl; kept = λ i is. is; marked = λ i is. inl is; unmarked = λ i within. absurd (omega (arith, within)) }
-
 -- The next rule is marked already, or there is none.
 pub marks_skipped : {n : ℕ} {kind : NodeKind} {below : List ℕ} {texts : List (List ℕ)} {marks marks' : List Bool} → is_marked marks' n ≡ true → MarksFirst n kind below texts marks marks' →
     MarksFirst (n + 1) kind below texts marks marks'
