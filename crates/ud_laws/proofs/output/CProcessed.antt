@@ -49,7 +49,7 @@ module _ (o : Options) {S F : Type 0} (takes : S → List ℕ → Scan → S →
 
   -- The case of an `#if` that is reached.
   if_right : (q : Opener Reading) → Clear o (if_line q) (marked true (verdict_so_far [] an_if q.cond)) → IsRight p q
-  if_right q k s b t d = search (rules, item_fits, may_be)
+  if_right q k s b t d = search (rules, item_fits, may_be, ends_with)
 
   -- The case of an `#elif` that is reached.
   elif_right : (cs : List Cond) (q : Opener Reading) → Clear o (elif_line q) (marked true (verdict_so_far cs an_elif q.cond)) → IsRight p q

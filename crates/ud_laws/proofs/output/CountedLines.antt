@@ -33,7 +33,7 @@ use Rattle.ud_model.proofs.output.PrintedPruned.{printed-append}
 use Rattle.ud_model.proofs.output.RereadLaws.{left_piece, item_bytes}
 use Rattle.ud_model.proofs.output.RereadMore.{last_removed as last_removed_mark, Again, Between, Carry, alike, gone, IsLine, start}
 use Rattle.ud_model.proofs.output.RereadStep.{More, the_more, step, plain_run, stayed_alone, goes_or_left, left_stays}
-use Rattle.ud_laws.proofs.output.Inserting.{Weave, line_after, with_line, are_more, put, put_lone, left, left_seen, lines_last, read_once, piece_of, gone_blank, left_blank, removed_last}
+use Rattle.ud_laws.proofs.output.Inserting.{Weave, line_after, with_line, are_more, put, put_lone, left, left_seen, lines_last, read_once, piece_of, gone_blank, gone_nothing, left_blank, removed_last}
 
 -- 1. The positions at which lines are inserted.
 
@@ -415,13 +415,10 @@ module _ (o : Options) (m : Mode) (b n : Bool) (some : (b || n) ≡ true) (padde
       qs = s.qs;
       formed = formed_all s.qs s.whole;
       are = s.weave.are;
-      same = same_gone (nothing_shown b refl);
+      same = same_gone (gone_nothing b n (so_far xs t) j f (ap (λ (z : Line). z.ending) line_j ∙ none));
       next = s.next;
       counted = counted_gone f;
     }
-      where
-        nothing_shown : (c : Bool) → b ≡ c → piece_of b n (so_far xs t) j ≡ []
-        nothing_shown c g = grind arith
 
     pub next_state : HasEnd l → State (xs ++ x ∷ []) u
     next_state end = grind (arith, goes_or_left, gone_state, left_state)

@@ -1,13 +1,14 @@
 -- The content of a line, by the parts of its masked line.
-use Rattle.std.proofs.Common.{◌≡◌, ℕ, suc, ◌+◌, ◌-◌, List, [], ◌∷◌, ◌++◌, length, Bool, true, false, not, ◌&&◌, Option, Some, None, if◌then◌else◌, refl, sym, ◌∙◌, ap, ap₂, append-nil, arith, length-append, rules}
+use Rattle.std.proofs.Common.{◌≡◌, ℕ, suc, ◌+◌, ◌-◌, List, [], ◌∷◌, ◌++◌, length, Bool, true, false, not, ◌&&◌, ◌||◌, bytes_eq, Option, Some, None, ◌⊎◌, inl, inr, if◌then◌else◌, refl, sym, ◌∙◌, ap, ap₂, subst, append-nil, arith, length-append, rules}
 use Rattle.std.specs.Prelude.{◌↔◌}
 use Rattle.std.proofs.lemmas.Bool.{and_parts, or_cases}
 use Rattle.std.proofs.lemmas.Slice.Eq.{bytes_eq-Decides}
 use Rattle.ud_model.specs.text.Bytes.{number_sign, is_white, is_word_byte, are_white, are_word_bytes, skip_white, leading_word, skip_word}
 use Rattle.ud_model.specs.text.Scans.{Scan}
-use Rattle.ud_model.specs.sections.Directives.{Content, Directive, cut_keyword, directive, text, content_of, skip_white_and_hash, skip_hash, may_split_keyword, has_split_keyword, content_after_hash, directive_at, kind_of, is_in_line, is_continued_outside_comment}
+use Rattle.ud_model.proofs.sections.Keywords.{prefix_is_word}
+use Rattle.ud_model.specs.sections.Directives.{Content, Directive, cut_keyword, directive, text, content_of, skip_white_and_hash, skip_hash, may_split_keyword, has_split_keyword, content_after_hash, directive_at, kind_of, is_in_line, is_continued_outside_comment, is_prefix_of_keyword}
 use Rattle.ud_model.specs.aids.DirectiveParts.{DirectiveParts, AreParts, first_is, EndsInKeyword}
-use Rattle.ud_model.specs.aids.DirectiveParts.{nothing_follows, IsSplitKeyword, HasDirective}
+use Rattle.ud_model.specs.aids.DirectiveParts.{nothing_follows, word_follows, IsSplitKeyword, HasDirective}
 use Rattle.ud_model.specs.declared.kind.Kind.{Kind}
 
 -- White space after white space is skipped, too.
@@ -93,7 +94,14 @@ module _ (scan : Scan) (p : DirectiveParts) where
       may_split_keyword scan (word ++ rest) ≡ true → EndsInKeyword scan p
   ends_by [] [] e f h n m = nothing_follows e f
   ends_by [] (b ∷ rest) e f h n m = grind (arith, bytes_eq-Decides)
-  ends_by (b ∷ word) rest e f h n m = grind (arith, or_cases, no_rest, append-nil)
+  ends_by (b ∷ word) rest e f h n m =
+      let p : (is_continued_outside_comment scan ≡ true) × ((bytes_eq (b ∷ (word ++ rest)) (47 ∷ []) || is_prefix_of_keyword (b ∷ (word ++ rest))) ≡ true) = and_parts _ _ m in
+      by p.0 (or_cases _ _ p.1)
+    where
+      by : is_continued_outside_comment scan ≡ true → (bytes_eq (b ∷ (word ++ rest)) (47 ∷ []) ≡ true) ⊎ (is_prefix_of_keyword (b ∷ (word ++ rest)) ≡ true) → EndsInKeyword scan p
+      by c (inl s) = grind (arith, bytes_eq-Decides)
+      by c (inr k) = let r : rest ≡ [] = no_rest (b ∷ word) rest (prefix_is_word (b ∷ (word ++ rest)) k) n in
+          word_follows (λ z. cc) (f ∙ r) (subst (λ (t : List ℕ). is_prefix_of_keyword t ≡ true) (ap (λ (t : List ℕ). b ∷ (word ++ t)) r ∙ append-nil (b ∷ word) ∙ sym e) k) c
 
   -- A masked line that may split a keyword ends so, and the other way round.
   to_ends : AreParts p scan.masked → may_split_keyword scan (p.word ++ p.rest) ≡ true → EndsInKeyword scan p

@@ -13,7 +13,7 @@ use Rattle.std.specs.Prelude.{ℕ, ◌-◌, ◌==◌, List, [], ◌∷◌, lengt
 use Rattle.std.specs.Prelude.{◌||◌, if◌then◌else◌, Option, Some, None, bytes_eq, codes}
 use Rattle.std.specs.List.{list_any, starts_with}
 use Rattle.std.specs.Prelude.{nat_eq}
-use Rattle.ud_model.specs.text.Bytes.{skip_white, leading_word, skip_word, are_word_bytes}
+use Rattle.ud_model.specs.text.Bytes.{skip_white, leading_word, skip_word}
 use Rattle.ud_model.specs.text.Bytes.{is_word_byte}
 use Rattle.ud_model.specs.text.Scans.{Scan}
 use Rattle.ud_model.specs.declared.kind.Kind.{Kind}
@@ -131,18 +131,13 @@ abbrev pub is_prefix_of_keyword : List ℕ → Bool
 is_prefix_of_keyword word = list_any (λ (row : List ℕ × Kind). starts_with nat_eq row.0 word)
     keywords
 
--- `is_keyword_prefix text`: `text` is nonempty, has only word bytes, and is a prefix of a keyword.
-abbrev pub is_keyword_prefix : List ℕ → Bool
-is_keyword_prefix [] = false
-is_keyword_prefix (b ∷ bs) = are_word_bytes (b ∷ bs) && is_prefix_of_keyword (b ∷ bs)
-
 -- `may_split_keyword scan rest`: the keyword that `rest` begins can't be known. `rest` follows the
 -- `#` and white space. It is empty, or the line is cut outside comments within it: after a single
--- `/`, which may begin a comment, or after a word that may become a keyword.
+-- `/`, which may begin a comment, or after a prefix of a keyword.
 abbrev pub may_split_keyword : Scan → List ℕ → Bool
 may_split_keyword scan [] = true
 may_split_keyword scan (b ∷ bs) = is_continued_outside_comment scan &&
-    (bytes_eq (b ∷ bs) (47 ∷ []) || is_keyword_prefix (b ∷ bs))
+    (bytes_eq (b ∷ bs) (47 ∷ []) || is_prefix_of_keyword (b ∷ bs))
 
 -- `has_split_keyword scan rest`: the line is fresh and joins the next one, and the keyword in
 -- `rest` can't be known. `rest` follows the `#`, if any.

@@ -5,7 +5,7 @@ ghost use Rattle.std.specs.Prelude.{None, true};
 ghost use Rattle.ud_model.specs.text.Bytes.{skip_white};
 ghost use Rattle.ud_model.specs.sections.Directives.{text, content_of, skip_white_and_hash};
 ghost use Rattle.ud_model.specs.sections.Directives.{is_continued_outside_comment};
-ghost use Rattle.ud_model.specs.sections.Directives.{is_keyword_prefix, may_split_keyword};
+ghost use Rattle.ud_model.specs.sections.Directives.{may_split_keyword};
 ghost use Rattle.ud_model.specs.sections.Directives.{has_split_keyword, content_after_hash};
 ghost use Rattle.ud_model.specs.text.Scans.{Scan as LineScan};
 ghost use Rattle.ud_model.specs.aids.LineViews.{as_scan};
@@ -14,7 +14,7 @@ ghost use Rattle.ud_sections.specs.directives.ParsedDirectives.{content_found, d
 use crate::directives::keywords::leading_keyword;
 use crate::directives::{Cut, Directive};
 use crate::sections::Span;
-use ud_model::bytes::{are_word_bytes, is_white, skip_white};
+use ud_model::bytes::{is_white, skip_white};
 use ud_model::keywords::is_prefix_of_keyword;
 use ud_model::{CommentAt, Scan};
 
@@ -88,7 +88,7 @@ fn may_split_keyword(cut_off: bool, rest: &[u8]) -> bool
     ensures { (scan : LineScan) → cut_off ≡ is_continued_outside_comment scan →
         result ≡ may_split_keyword scan rest.now }
 {
-    rest.is_empty() || cut_off && (rest == b"/".as_slice() || is_keyword_prefix(rest))
+    rest.is_empty() || cut_off && (rest == b"/".as_slice() || is_prefix_of_keyword(rest))
 }
 
 /// Returns whether a continuation cuts the line outside comments.
@@ -96,16 +96,6 @@ fn is_continued_outside_comment(scan: &Scan<'_>) -> bool
     ensures { result ≡ is_continued_outside_comment (as_scan scan.now) }
 {
     scan.spliced && scan.comment == CommentAt::Outside
-}
-
-/// Returns whether `text` is a nonempty run of word bytes that a keyword begins with.
-fn is_keyword_prefix(text: &[u8]) -> bool
-    ensures { result ≡ is_keyword_prefix text.now }
-{
-    match text.first() {
-        Some(_) => are_word_bytes(text) && is_prefix_of_keyword(text),
-        None => false,
-    }
 }
 
 /// Parses the directive whose keyword follows the `#` of a fresh line.

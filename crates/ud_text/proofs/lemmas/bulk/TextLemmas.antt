@@ -7,7 +7,7 @@ use Rattle.ud_model.specs.text.Bytes.{is_white, is_quote, is_word_byte, skip_whi
 use Rattle.ud_model.specs.text.Lines.{NoNewline}
 use Rattle.ud_model.specs.text.Scans.{Scan}
 use Rattle.ud_model.specs.aids.LexStates.{LexState, in_text, at_slash, in_block, at_star, in_line, in_literal, at_backslash, next_state, opens_comment, masked_byte, blank_last}
-use Rattle.ud_model.specs.sections.Directives.{cut_keyword, text, content_of, skip_white_and_hash, skip_hash, has_split_keyword, content_after_hash, directive_at, may_split_keyword, kind_of, is_keyword_prefix, is_no_keyword, may_begin, keywords}
+use Rattle.ud_model.specs.sections.Directives.{cut_keyword, text, content_of, skip_white_and_hash, skip_hash, has_split_keyword, content_after_hash, directive_at, may_split_keyword, kind_of, is_prefix_of_keyword, is_no_keyword, may_begin, keywords}
 use Rattle.ud_model.proofs.sections.Keywords.{no_keyword}
 use Rattle.ud_model.specs.declared.kind.Kind.{Kind}
 use Rattle.ud_text.specs.bulk.BulkStates.{BulkState, starts_with_no_keyword, is_other_word, HasNoStop}
@@ -17,7 +17,7 @@ use Rattle.ud_text.proofs.lemmas.searching.ByteLemmas.{both}
 -- `is_unsure word`: the word is a prefix of a keyword, or a single slash: what follows it might
 -- make a directive
 abbrev pub is_unsure : List ℕ → Bool
-is_unsure word = bytes_eq word (slash ∷ []) || is_keyword_prefix word
+is_unsure word = bytes_eq word (slash ∷ []) || is_prefix_of_keyword word
 
 -- `IsOther bytes`: the bytes begin with no keyword, nor with a prefix of one, but with a byte
 pub record IsOther (bytes : List ℕ) : Type 0 where
