@@ -1,5 +1,6 @@
 //! The table of symbols.
 
+use std::alloc::AllocError;
 use std::process::Abort;
 use std::test::Fail;
 use ud_cond::{Entry, SymbolCalls, SymbolFault, Symbols};
@@ -106,14 +107,13 @@ fn three_hundred_names_are_kept_apart(rt: HostRuntime) -> Result<(), Fail> {
 }
 
 /// Returns the table of 300 names in falling order, and of a last call for one of them.
-fn falling(rt: &(impl Abort + AllocGlobal)) -> Result<Symbols, SymbolFault> {
+fn falling(rt: &impl AllocGlobal) -> Result<Symbols, AllocError> {
     let mut calls = SymbolCalls::new(rt.alloc());
     for number in (0..300).rev() {
         let name = numbered(number);
         calls.push(&name, Some(&name[1..]), false)?;
     }
     calls.push(b"N007", None, true)?;
-    assert!(rt; calls.push(b"7N", None, false) == Err(SymbolFault::BadName));
     calls.into_symbols()
 }
 

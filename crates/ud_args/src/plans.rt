@@ -6,15 +6,15 @@
 //! The arguments are read twice, by `input_of` before the file is opened and by `plan` inside
 //! `tool`. Rejected: handing the plan to `tool`, where a caller could pass another one.
 
-ghost use Rattle.std.specs.Prelude.{◌≡◌, ◌++◌, ◌∷◌, [], List, Some, None, IsSome, OnOk, IfOk};
-ghost use Rattle.std.specs.Prelude.{IfErr, IfSome, IfNone, false};
+ghost use Rattle.std.specs.Prelude.{◌≡◌, ◌++◌, ◌∷◌, [], List, Some, None, IsSome, IfOk};
+ghost use Rattle.std.specs.Prelude.{IfErr, IfSome, IfNone, option_map};
 ghost use Rattle.ud_model.specs.conditions.Table.{Argument};
 ghost use Rattle.ud_cond.specs.symbols.SymbolTable.{TableRepresents};
 ghost use Rattle.ud_cond.specs.CondViews.{argument_for};
 ghost use Rattle.ud_model.specs.answer.CommandLine.{ParsedArg as GivenInWords};
 ghost use Rattle.ud_model.specs.answer.CommandLine.{argument_in};
 ghost use Rattle.ud_args.specs.ParsedArgs.{as_parsed, parsed_arg};
-ghost use Rattle.ud_args.specs.ParsedSettings.{IsSetting, IsUsageOf, SetsSymbol, as_argument};
+ghost use Rattle.ud_args.specs.ParsedSettings.{IsSetting, IsUsageOf, SetsSymbol};
 ghost use Rattle.ud_args.specs.LeastSymbols.{least_argument};
 ghost use Rattle.ud_args.specs.TreeWords.{unifdef_arg};
 ghost use Rattle.ud_args.specs.Drafts.{AddsGiven, FailsAt};
@@ -22,7 +22,7 @@ ghost use Rattle.ud_args.specs.Plans.{PlanRepresents};
 
 use crate::command_line::ParsedArg;
 use crate::least::{LeastSymbol, least_symbol, least_value};
-use crate::options::{Setting, Symbol, parse_arg, with_flag};
+use crate::options::{Setting, parse_arg, with_flag};
 use crate::usage::Usage;
 use std::alloc::Global;
 use std::marker::Model;
@@ -138,10 +138,8 @@ impl PlanDraft {
         ensures ok { AddsGiven (parsed_arg given.entry) self.old self.new result }
         ensures err { FailsAt (parsed_arg given.entry) self.old result }
     {
-        match parse_arg(given, self.operand.is_some()) {
-            Err(fault) => Err(fault),
-            Ok(setting) => self.set(setting),
-        }
+        let setting = parse_arg(given, self.operand.is_some())?;
+        self.set(setting)
     }
 
     /// Adds the next option or operand of unifdef-tree(1), as `apply` adds one of unifdef(1).
@@ -171,32 +169,8 @@ impl PlanDraft {
         if self.operand.is_some() {
             return Err(Usage::TooManyFiles);
         }
-        let Ok(value) = least_value(self.alloc, least.number) else {
-            return Err(Usage::OutOfMemory);
-        };
-        self.define(least.name, value.as_slice())
-    }
-
-    /// Adds a symbol that is defined as `value`. The draft has no operand yet.
-    ///
-    /// # Errors
-    /// `OutOfMemory` if an allocation fails.
-    fn define<'a>(&mut self, name: &'a [u8], value: &'a [u8]) -> Result<(), Usage>
-        ensures ok { (g : GivenInWords) → self.old.operand ≡ None →
-            SetsSymbol g (argument_for name.now (Some value.now) false) →
-            AddsGiven g self.old self.new result }
-        ensures err { (g : GivenInWords) →
-            SetsSymbol g (argument_for name.now (Some value.now) false) →
-            IfErr result (λ u. (u ≡ Usage.OutOfMemory) × IsSome (argument_in g)) }
-    {
-        let value = Some(value);
-        let symbol = Symbol {
-            name,
-            value,
-            ignoring: false,
-        };
-        let setting = Setting::Symbol { symbol };
-        self.set(setting)
+        let value = least_value(self.alloc, least.number)?;
+        self.set_symbol(least.name, Some(value.as_slice()), false)
     }
 
     /// Adds a setting to the draft, which has no operand yet.
@@ -218,7 +192,9 @@ impl PlanDraft {
                 self.settings.exit_mode = mode;
                 Ok(())
             }
-            Setting::Symbol { symbol } => self.set_symbol(symbol),
+            Setting::Symbol { symbol } => {
+                self.set_symbol(symbol.name, symbol.value, symbol.ignoring)
+            }
             Setting::Operand { index, .. } => {
                 self.operand = Some(index);
                 Ok(())
@@ -226,19 +202,17 @@ impl PlanDraft {
         }
     }
 
-    /// Adds a symbol.
+    /// Adds a symbol, which is undefined if `value` is `None`. The draft has no operand yet.
     ///
     /// # Errors
-    /// `OutOfMemory` if an allocation fails. The name is valid, so nothing else can fail.
-    fn set_symbol(&mut self, symbol: Symbol<'_>) -> Result<(), Usage>
-        ensures ok { OnOk result (self.new.symbols ≡
-            self.old.symbols ++ as_argument symbol.entry ∷ []) }
-        ensures same { (self.new.settings ≡ self.old.settings) ×
-            (self.new.operand ≡ self.old.operand) }
+    /// `OutOfMemory` if an allocation fails.
+    fn set_symbol(&mut self, name: &[u8], value: Option<&[u8]>, ignoring: bool) -> Result<(), Usage>
+        ensures ok { (g : GivenInWords) → self.old.operand ≡ None → SetsSymbol g
+            (argument_for name.now (option_map (λ v. v.now) value.entry) ignoring) →
+            AddsGiven g self.old self.new result }
         ensures err { IfErr result (λ u. u ≡ Usage.OutOfMemory) }
     {
-        let pushed = self.calls.push(symbol.name, symbol.value, symbol.ignoring);
-        pushed.map_err(|_| Usage::OutOfMemory)
+        Ok(self.calls.push(name, value, ignoring)?)
     }
 
     /// Returns the plan, with the table of all symbols.
@@ -251,14 +225,11 @@ impl PlanDraft {
         ensures err { (gs : List GivenInWords) → PlanRepresents self gs →
             IfErr result (IsUsageOf gs) }
     {
-        match self.calls.into_symbols() {
-            Ok(symbols) => Ok(Plan {
-                settings: self.settings,
-                symbols,
-                operand: self.operand,
-            }),
-            Err(_) => Err(Usage::OutOfMemory),
-        }
+        Ok(Plan {
+            settings: self.settings,
+            symbols: self.calls.into_symbols()?,
+            operand: self.operand,
+        })
     }
 }
 

@@ -1,5 +1,6 @@
 //! The faults of a command line, as data. The crate unifdef has the tool's messages.
 
+use std::alloc::AllocError;
 use thiserror::Error;
 
 /// A fault of a command line, or a lack of memory for it.
@@ -37,4 +38,15 @@ pub enum Usage {
     /// Memory for a symbol couldn't be allocated.
     #[error("out of memory")]
     OutOfMemory,
+}
+
+impl From<AllocError> for Usage {
+    ghost use Rattle.std.specs.Prelude.{◌≡◌};
+    ghost use Rattle.ud_args.specs.declared.usage.Usage.TheVariants.{OutOfMemory};
+
+    ghost from_gives = { λ _ fault. fault ≡ OutOfMemory };
+
+    fn from(_: AllocError) -> Self {
+        Usage::OutOfMemory
+    }
 }

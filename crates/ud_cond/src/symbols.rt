@@ -24,7 +24,7 @@ ghost use Rattle.ud_cond.specs.CondViews.{as_entry, argument_for};
 use keys::key_of;
 use memchr::memmem;
 use name_filter::NameFilter;
-use std::alloc::Global;
+use std::alloc::{AllocError, Global};
 use std::cmp::Ordering;
 use std::marker::Model;
 use ud_model::bytes::{is_identifier, is_name};
@@ -89,16 +89,15 @@ impl Row {
     /// Returns the row of `name`, which is defined as `value`, or undefined if `value` is `None`.
     ///
     /// # Errors
-    /// `OutOfMemory` if an allocation fails.
+    /// Fails if memory runs out.
     fn of(
         alloc: Global,
         name: &[u8],
         value: Option<&[u8]>,
         ignores: bool,
-    ) -> Result<Row, SymbolFault>
-        ensures row { IfOk result (λ r. r ≡ argument_for name.now
+    ) -> Result<Row, AllocError>
+        ensures { IfOk result (λ r. r ≡ argument_for name.now
             (option_map (λ v. v.now) value.entry) ignores) }
-        ensures fault { OnErr result (IsErrOf result SymbolFault.OutOfMemory) }
     {
         let text = try_clone(alloc, value)?;
         let symbol = Vec::from_slice(alloc, name)?;
@@ -107,13 +106,10 @@ impl Row {
             text,
             ignores,
         };
-        match Box::new(alloc, named) {
-            Ok(named) => Ok(Row {
-                number: key_of(name),
-                named,
-            }),
-            Err(_) => Err(SymbolFault::OutOfMemory),
-        }
+        Ok(Row {
+            number: key_of(name),
+            named: Box::new(alloc, named)?,
+        })
     }
 
     /// Returns the key of the row's name.
@@ -385,14 +381,13 @@ impl Symbols {
             return Err(SymbolFault::BadName);
         }
         let row = Row::of(self.alloc, name, value, ignoring)?;
-        self.add(row)
+        Ok(self.add(row)?)
     }
 
     /// Replaces the row of the same name, or inserts the row.
-    fn add(&mut self, row: Row) -> Result<(), SymbolFault>
+    fn add(&mut self, row: Row) -> Result<(), AllocError>
         ensures ok { OnOk result (SetsEntry self.old self.new row) }
         ensures err { OnErr result (self.new ≡ self.old) }
-        ensures fault { OnErr result (IsErrOf result SymbolFault.OutOfMemory) }
     {
         let key = row.key();
         match self.binary_search(key, row.name()) {
@@ -413,27 +408,22 @@ impl Symbols {
     }
 
     /// Inserts a row at the position of its name.
-    fn insert_at(&mut self, i: usize, key: u64, row: Row) -> Result<(), SymbolFault>
+    fn insert_at(&mut self, i: usize, key: u64, row: Row) -> Result<(), AllocError>
         requires gap { IsGapFor self.old i row.name }
         requires keyed { key ≡ spec.key_of row.name }
         ensures ok { OnOk result (self.new ≡ insert self.old i row) }
         ensures err { OnErr result (self.new ≡ self.old) }
-        ensures fault { OnErr result (IsErrOf result SymbolFault.OutOfMemory) }
     {
         self.filter.insert(key);
         let added = self.rows.insert(i, row);
-        match added {
-            Ok(()) => Ok(()),
-            Err(_) => Err(SymbolFault::OutOfMemory),
-        }
+        added.map_err(|_| AllocError)
     }
 }
 
 /// Copies a value into memory of its own.
-fn try_clone(alloc: Global, value: Option<&[u8]>) -> Result<Option<Vec<u8>>, SymbolFault>
-    ensures ok { IfOk result (λ c. option_map (λ v. v.items) c ≡
+fn try_clone(alloc: Global, value: Option<&[u8]>) -> Result<Option<Vec<u8>>, AllocError>
+    ensures { IfOk result (λ c. option_map (λ v. v.items) c ≡
         option_map (λ v. v.now) value.entry) }
-    ensures fault { OnErr result (IsErrOf result SymbolFault.OutOfMemory) }
 {
     match value {
         Some(bytes) => Ok(Some(Vec::from_slice(alloc, bytes)?)),

@@ -1,18 +1,12 @@
 //! Many calls for symbols at once.
 
-ghost use Rattle.std.specs.Prelude.{◌≡◌, ◌++◌, ◌∷◌, [], option_map, OnOk, OnErr, IfOk, IsErrOf};
-ghost use Rattle.std.specs.Prelude.{IfErr, ◌↔◌, false};
-ghost use Rattle.ud_model.specs.answer.SymbolArguments as names;
+ghost use Rattle.std.specs.Prelude.{◌≡◌, ◌++◌, ◌∷◌, [], option_map, OnOk, OnErr, IfOk};
 ghost use Rattle.ud_cond.specs.symbols.SymbolTable.{TableRepresents};
 ghost use Rattle.ud_cond.specs.CondViews.{argument_for};
 
-use super::{Row, SymbolFault, Symbols};
-use std::alloc::Global;
+use super::{Row, Symbols};
+use std::alloc::{AllocError, Global};
 use std::marker::Model;
-use ud_model::bytes::is_name;
-
-/// The most rows that aren't sorted: moving them on insertion costs less.
-const FEW_ROWS: usize = 64;
 
 /// Calls for a table of symbols, each defining or undefining a name.
 ///
@@ -45,67 +39,54 @@ impl SymbolCalls {
         }
     }
 
-    /// Adds a call that defines `name` as `value`, or undefines it if `value` is `None`.
+    /// Adds a call that defines `name` as `value`, or undefines it if `value` is `None`. The name
+    /// isn't checked.
     ///
     /// If `ignoring`, the sections that `name` controls are plain text.
     ///
     /// # Errors
-    /// As `define` of `Symbols`. The calls stay as they were.
+    /// Fails if memory runs out. The calls stay as they were.
     pub fn push(
         &mut self,
         name: &[u8],
         value: Option<&[u8]>,
         ignoring: bool,
-    ) -> Result<(), SymbolFault>
+    ) -> Result<(), AllocError>
         ensures ok { OnOk result (self.new ≡ self.old ++
             argument_for name.now (option_map (λ v. v.now) value.entry) ignoring ∷ []) }
         ensures err { OnErr result (self.new ≡ self.old) }
-        ensures bad { IsErrOf result SymbolFault.BadName ↔ names.is_name name.now ≡ false }
     {
-        if !is_name(name) {
-            return Err(SymbolFault::BadName);
-        }
         let row = Row::of(self.alloc, name, value, ignoring)?;
-        match self.rows.push(row) {
-            Ok(()) => Ok(()),
-            Err(_) => Err(SymbolFault::OutOfMemory),
-        }
+        Ok(self.rows.push(row)?)
     }
 
     /// Returns the table after these calls.
     ///
     /// # Errors
-    /// `OutOfMemory` if an allocation fails; never without any call.
-    pub fn into_symbols(self) -> Result<Symbols, SymbolFault>
+    /// Fails if memory runs out; never without any call.
+    pub fn into_symbols(self) -> Result<Symbols, AllocError>
         ensures ok { IfOk result (λ table. TableRepresents table self) }
-        ensures fault { IfErr result (λ u. (u ≡ SymbolFault.OutOfMemory) × (self ≡ [] → ⊥)) }
+        ensures err { OnErr result (self ≡ [] → ⊥) }
     {
         let mut symbols = Symbols::new(self.alloc);
         if self.rows.is_empty() {
             return Ok(symbols);
         }
-        let rows = sorted(self.rows)?;
-        'rows: for row in rows {
+        'rows: for row in sorted(self.rows)? {
             symbols.add(row)?;
         }
         Ok(symbols)
     }
 }
 
-/// Sorts rows by name, unless there are few. Rows of the same name keep their order.
+/// Sorts rows by name. Rows of the same name keep their order.
 ///
 /// # Errors
-/// `OutOfMemory` if an allocation fails.
-fn sorted(rows: Vec<Row>) -> Result<Vec<Row>, SymbolFault>
-    ensures ok { IfOk result (λ sorted. TableRepresents sorted.items rows.items) }
-    ensures fault { OnErr result (IsErrOf result SymbolFault.OutOfMemory) }
+/// Fails if memory runs out.
+fn sorted(rows: Vec<Row>) -> Result<Vec<Row>, AllocError>
+    ensures { IfOk result (λ sorted. TableRepresents sorted.items rows.items) }
 {
     let mut rows = rows;
-    if rows.len() <= FEW_ROWS {
-        return Ok(rows);
-    }
-    match rows.sort_by(|a, b| a.compare_row(b)) {
-        Ok(()) => Ok(rows),
-        Err(_) => Err(SymbolFault::OutOfMemory),
-    }
+    rows.sort_by(|a, b| a.compare_row(b))?;
+    Ok(rows)
 }

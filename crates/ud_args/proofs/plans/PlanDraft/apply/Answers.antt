@@ -8,15 +8,15 @@ use Rattle.ud_args.proofs.ParsedArgLemmas.{operand_in-none, first_fault-append}
 use Rattle.ud_args.proofs.PlanLemmas.{first_fault-said}
 use Rattle.ud_args.proofs.plans.PlanDraft.apply.Goals as goal
 
-pub returns-in-Err-clause-err : goal.returns-in-Err-clause-err
-returns-in-Err-clause-err c = λ gs p more.
+pub returns-in_err-setting-clause-err : goal.returns-in_err-setting-clause-err
+returns-in_err-setting-clause-err c = λ gs p more.
     let scanned : is_some (operand_in gs) ≡ c.is_some.result = grind arith in
-    grind (arith, c.in-Err.ensures.err gs more p.right scanned)
+    grind (arith, c.in_err-setting.ensures.err gs more p.right scanned)
 
-pub returns-in-Ok-clause-err : goal.returns-in-Ok-clause-err
-returns-in-Ok-clause-err c = λ gs p more.
+pub returns-clause-err : goal.returns-clause-err
+returns-clause-err c = λ gs p more.
     let scanned : is_some (operand_in gs) ≡ c.is_some.result = grind arith in
-    let none : operand_in gs ≡ None = operand_in-none (operand_in gs) (scanned ∙ c.in-Ok.ensures.first) in
+    let none : operand_in gs ≡ None = operand_in-none (operand_in gs) (scanned ∙ c.in_ok-setting.ensures.first) in
     IfErr-weaker c.set.result (λ u. (u ≡ OutOfMemory) × IsSome (argument_in (parsed_arg c.args.given))) (IsUsageOf (gs ++ parsed_arg c.args.given ∷ more))
-    (λ u h. (grind (arith, first_fault-append, first_fault-said, p.right, none, c.in-Ok.ensures.ok, h)))
-    (c.set.ensures.err (parsed_arg c.args.given) c.in-Ok.ensures.ok)
+    (λ u h. (grind (arith, first_fault-append, first_fault-said, p.right, none, c.in_ok-setting.ensures.ok, h)))
+    (c.set.ensures.err (parsed_arg c.args.given) c.in_ok-setting.ensures.ok)
