@@ -17,9 +17,7 @@ use crate::expressions::stacks::{
     SHORT_TEXT_BYTES, SHORT_TEXT_OPERANDS, Stacks, TINY_TEXT_BYTES, TINY_TEXT_OPERANDS,
     VERY_LONG_TEXT_BYTES, VERY_LONG_TEXT_OPERANDS,
 };
-use crate::expressions::values::{
-    NO_VALUE, Scope, Value, binary, constant, defined, name_value, unary,
-};
+use crate::expressions::values::{Scope, Value, binary, constant, defined, name_value, unary};
 use ud_model::{MAX_LINE_BYTES, Operator};
 
 impl Keeper for Scope<'_> {
@@ -39,21 +37,15 @@ impl Keeper for Scope<'_> {
     fn note(&self, _notes: &mut ()) {}
 
     fn constant(&self, word: &[u8], _notes: &mut ()) -> PackedValue {
-        let mut value = NO_VALUE;
-        constant(word, &mut value);
-        PackedValue::of(value)
+        PackedValue::of(constant(word))
     }
 
     fn named(&self, name: &[u8], arguments: bool, _notes: &mut ()) -> PackedValue {
-        let mut value = NO_VALUE;
-        name_value(self, name, arguments, &mut value);
-        PackedValue::of(value)
+        PackedValue::of(name_value(self, name, arguments))
     }
 
     fn asked(&self, name: &[u8], _enclosed: bool, _notes: &mut ()) -> PackedValue {
-        let mut value = NO_VALUE;
-        defined(self, name, &mut value);
-        PackedValue::of(value)
+        PackedValue::of(defined(self, name))
     }
 
     fn unary(&self, operator: Operator, operand: PackedValue, _notes: &mut ()) -> PackedValue {

@@ -32,8 +32,7 @@ use crate::expressions::stacks::{
     Stacks, VERY_LONG_TEXT_BYTES, VERY_LONG_TEXT_OPERANDS,
 };
 use crate::expressions::values::{
-    NO_VALUE, Scope, Value, binary, binary_amount, constant, defined, name_value, unary,
-    unary_amount,
+    Scope, Value, binary, binary_amount, constant, defined, name_value, unary, unary_amount,
 };
 use crate::symbols::Symbols;
 use crate::token_flags::TokenFlags;
@@ -219,18 +218,15 @@ impl Keeper for Residuals<'_> {
     fn constant(&self, word: &[u8], flags: &mut TokenFlags) -> Part {
         let first = flags.len();
         flags.push(true);
-        let mut value = NO_VALUE;
-        constant(word, &mut value);
+        let value = constant(word);
         leaf_part(self.rules, value, value.number, false, first)
     }
 
     fn named(&self, name: &[u8], arguments: bool, flags: &mut TokenFlags) -> Part {
         let first = flags.len();
         flags.push(true);
-        let mut value = NO_VALUE;
-        name_value(&self.scope(false), name, arguments, &mut value);
-        let mut other = NO_VALUE;
-        name_value(&self.scope(true), name, arguments, &mut other);
+        let value = name_value(&self.scope(false), name, arguments);
+        let other = name_value(&self.scope(true), name, arguments);
         leaf_part(self.rules, value, other.number, false, first)
     }
 
@@ -242,8 +238,7 @@ impl Keeper for Residuals<'_> {
             flags.push(true);
             flags.push(true);
         }
-        let mut value = NO_VALUE;
-        defined(&self.scope(false), name, &mut value);
+        let value = defined(&self.scope(false), name);
         leaf_part(self.rules, value, value.number, true, first)
     }
 

@@ -71,7 +71,7 @@ impl Scope<'_> {
     }
 }
 
-/// A value before it is set.
+/// The value of an unlisted name: nothing is known.
 pub(crate) const NO_VALUE: Value = Value {
     number: Amount::Anything,
     unsigned: false,
@@ -79,21 +79,23 @@ pub(crate) const NO_VALUE: Value = Value {
     calls_undefined: false,
 };
 
-/// Evaluates a constant into `value`.
+/// Returns the value of a constant.
 #[inline(always)]
-pub(crate) fn constant(word: &[u8], value: &mut Value)
-    ensures { value.new ≡ constant_value_of word.now }
+pub(crate) fn constant(word: &[u8]) -> Value
+    ensures { result ≡ constant_value_of word.now }
 {
-    value.listed = false;
-    value.calls_undefined = false;
     let digit = single_digit_value(word);
     if digit.is_some() {
-        value.number = exactly(digit);
-        value.unsigned = false;
-        return;
+        return Value {
+            number: exactly(digit),
+            ..NO_VALUE
+        };
     }
-    value.number = exactly(constant_value(word));
-    value.unsigned = has_u(word);
+    Value {
+        number: exactly(constant_value(word)),
+        unsigned: has_u(word),
+        ..NO_VALUE
+    }
 }
 
 /// Returns exactly this number; anything without one.
@@ -176,74 +178,66 @@ fn end_has_u(text: &[u8]) -> bool
     }
 }
 
-/// Evaluates a name that is defined as `text` into `value`.
+/// Returns the value of a name that is defined as `text`.
 #[tactic(auto, unfolding(ud_model::specs::conditions::Values::name_has_u))]
 #[inline(always)]
-fn defined_as(scope: &Scope<'_>, name: &[u8], text: &[u8], value: &mut Value)
+fn defined_as(scope: &Scope<'_>, name: &[u8], text: &[u8]) -> Value
     requires { defined_text (table_in scope.now) name.now ≡ Some text.now }
-    ensures { value.new ≡ defined_name_value_of (table_in scope.now) scope.now.unsigned name.now }
+    ensures { result ≡ defined_name_value_of (table_in scope.now) scope.now.unsigned name.now }
 {
-    value.listed = true;
-    value.calls_undefined = false;
+    let listed = Value {
+        listed: true,
+        ..NO_VALUE
+    };
     let digit = single_digit_value(text);
     if digit.is_some() {
-        value.number = exactly(digit);
-        value.unsigned = false;
-        return;
+        return Value {
+            number: exactly(digit),
+            ..listed
+        };
     }
     match scope.resolve_from(name, text) {
-        Some(end) => {
-            value.number = end_value(scope.unsigned, end);
-            value.unsigned = end_has_u(end);
-        }
-        None => {
-            value.number = Amount::Anything;
-            value.unsigned = false;
-        }
+        Some(end) => Value {
+            number: end_value(scope.unsigned, end),
+            unsigned: end_has_u(end),
+            ..listed
+        },
+        None => listed,
     }
 }
 
-/// Evaluates a name with or without arguments into `value`.
+/// Returns the value of a name with or without arguments.
 #[inline(always)]
-pub(crate) fn name_value(scope: &Scope<'_>, name: &[u8], arguments: bool, value: &mut Value)
-    ensures { value.new ≡ name_value_of (table_in scope.now) scope.now.unsigned name.now arguments }
+pub(crate) fn name_value(scope: &Scope<'_>, name: &[u8], arguments: bool) -> Value
+    ensures { result ≡ name_value_of (table_in scope.now) scope.now.unsigned name.now arguments }
 {
     match scope.find(name) {
-        None => {
-            value.number = Amount::Anything;
-            value.unsigned = false;
-            value.listed = false;
-            value.calls_undefined = false;
-        }
+        None => NO_VALUE,
         Some(entry) => match entry.value {
-            None => {
-                value.number = Amount::Exactly(0);
-                value.unsigned = false;
-                value.listed = true;
-                value.calls_undefined = arguments;
-            }
-            Some(text) => defined_as(scope, name, text, value),
+            None => Value {
+                number: Amount::Exactly(0),
+                unsigned: false,
+                listed: true,
+                calls_undefined: arguments,
+            },
+            Some(text) => defined_as(scope, name, text),
         },
     }
 }
 
-/// Evaluates `defined` and a name into `value`.
+/// Returns the value of `defined` and a name.
 #[tactic(auto, unfolding(ud_model::specs::conditions::Values::defined_value))]
 #[inline(always)]
-pub(crate) fn defined(scope: &Scope<'_>, name: &[u8], value: &mut Value)
-    ensures { value.new ≡ defined_value_of (table_in scope.now) name.now }
+pub(crate) fn defined(scope: &Scope<'_>, name: &[u8]) -> Value
+    ensures { result ≡ defined_value_of (table_in scope.now) name.now }
 {
-    value.unsigned = false;
-    value.calls_undefined = false;
     match scope.find(name) {
-        None => {
-            value.number = Amount::Anything;
-            value.listed = false;
-        }
-        Some(entry) => {
-            value.number = Amount::Exactly(truth(entry.value.is_some()));
-            value.listed = true;
-        }
+        None => NO_VALUE,
+        Some(entry) => Value {
+            number: Amount::Exactly(truth(entry.value.is_some())),
+            listed: true,
+            ..NO_VALUE
+        },
     }
 }
 
