@@ -193,13 +193,8 @@ fn number(base: Base, digits: &[u8]) -> Option<i64>
     let mut number: u64 = 0;
     let mut rest = digits;
     'digits: while let [digit, others @ ..] = rest {
-        let Some(product) = number.checked_mul(times) else {
-            return None;
-        };
-        let Some(sum) = product.checked_add(u64::from(digit_value(*digit))) else {
-            return None;
-        };
-        number = sum;
+        let product = number.checked_mul(times)?;
+        number = product.checked_add(u64::from(digit_value(*digit)))?;
         rest = others;
     }
     if number < 0x8000_0000_0000_0000 {

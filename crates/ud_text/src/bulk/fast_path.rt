@@ -132,9 +132,7 @@ fn comment_step(lines: &[u8], p: Reach) -> Option<Reach>
     ensures further { IfSome result (λ q. InReach q lines.now × (p.at < q.at)) }
     ensures read { GoesOn lines.now p result }
 {
-    let Some(count) = line_comment_len(&lines[p.at..]) else {
-        return None;
-    };
+    let count = line_comment_len(&lines[p.at..])?;
     let at = p.at + count;
     Some(Reach {
         base: at,
@@ -195,9 +193,7 @@ fn text_step(lines: &[u8], p: Reach) -> Option<Reach>
     ensures further { IfSome result (λ q. InReach q lines.now × (p.at < q.at)) }
     ensures read { GoesOn lines.now p result }
 {
-    let Some(count) = lexeme_len(&lines[p.at..]) else {
-        return None;
-    };
+    let count = lexeme_len(&lines[p.at..])?;
     Some(Reach {
         at: p.at + count,
         ..p
@@ -213,9 +209,7 @@ fn literal_step(lines: &[u8], p: Reach) -> Option<Reach>
     ensures further { IfSome result (λ q. InReach q lines.now × (p.at < q.at)) }
     ensures read { GoesOn lines.now p result }
 {
-    let Some(count) = literal_len(&lines[p.at..], lines[p.at]) else {
-        return None;
-    };
+    let count = literal_len(&lines[p.at..], lines[p.at])?;
     Some(Reach {
         at: p.at + count,
         ..p

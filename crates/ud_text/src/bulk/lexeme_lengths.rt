@@ -44,9 +44,7 @@ fn slash_len(rest: &[u8]) -> Option<usize>
     ensures bound { IfSome result (λ n. (0 < n) × (n ≤ length rest.now)) }
     ensures read { IfSome result (λ n. (white : Bool) → CodeLexeme white (take n rest.now)) }
 {
-    let Some(byte) = insignificant_second(rest) else {
-        return None;
-    };
+    let byte = insignificant_second(rest)?;
     if byte == b'*' {
         return None;
     }
@@ -60,9 +58,7 @@ fn backslash_len(rest: &[u8]) -> Option<usize>
     ensures bound { IfSome result (λ n. (0 < n) × (n ≤ length rest.now)) }
     ensures read { IfSome result (λ n. (white : Bool) → CodeLexeme white (take n rest.now)) }
 {
-    let Some(byte) = insignificant_second(rest) else {
-        return None;
-    };
+    let byte = insignificant_second(rest)?;
     if byte == b'\n' {
         return None;
     }
@@ -211,9 +207,7 @@ pub(crate) fn line_comment_len(rest: &[u8]) -> Option<usize>
     ensures read { IfSome result (λ n. (white : Bool) → LineLexeme white (take n rest.now)) }
     ensures ends { IfSome result (λ n. slice_index rest.now (n - 1) ≡ newline) }
 {
-    let Some(count) = memchr(b'\n', &rest[2..]) else {
-        return None;
-    };
+    let count = memchr(b'\n', &rest[2..])?;
     let last = rest[count + 1];
     if last == b'\\' {
         return None;

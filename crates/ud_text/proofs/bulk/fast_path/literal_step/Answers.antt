@@ -3,4 +3,4 @@ use Rattle.ud_text.proofs.lemmas.bulk.ReachLemmas.{reach_text}
 use Rattle.ud_text.proofs.bulk.fast_path.literal_step.Goals as goal
 
 pub returns-clause-read : goal.returns-clause-read
-returns-clause-read c = λ start r. reach_text r c.in-Some.count c.in-Some.ensures.bound.1 c.in-Some.ensures.read
+returns-clause-read c = λ start r. reach_text r c.in_ok-count.count c.in_ok-count.ensures.bound.1 c.in_ok-count.ensures.read

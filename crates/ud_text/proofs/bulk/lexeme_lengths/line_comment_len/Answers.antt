@@ -17,30 +17,30 @@ use Rattle.ud_text.proofs.bulk.lexeme_lengths.line_comment_len.Goals as goal
 pub returns-clause-read : goal.returns-clause-read
 returns-clause-read c =
     let tail : List ℕ = take (length c.args.rest.now - 2) (drop 2 c.args.rest.now) in
-    comment_spans c.args.rest.now c.in-Some.count c.requires.first
-    (subst (λ (l : List ℕ). NoNewline (take c.in-Some.count l)) (take_rest c.args.rest.now 2) (no_newline_front tail c.in-Some.count c.in-Some.ensures.0.before))
-    (subst (λ (l : List ℕ). c.in-Some.count < length l) (take_rest c.args.rest.now 2) c.in-Some.ensures.0.high)
-    (feed_there c.args.rest.now c.in-Some.count c.in-Some.ensures.1)
+    comment_spans c.args.rest.now c.in_ok-count.count c.requires.first
+    (subst (λ (l : List ℕ). NoNewline (take c.in_ok-count.count l)) (take_rest c.args.rest.now 2) (no_newline_front tail c.in_ok-count.count c.in_ok-count.ensures.0.before))
+    (subst (λ (l : List ℕ). c.in_ok-count.count < length l) (take_rest c.args.rest.now 2) c.in_ok-count.ensures.0.high)
+    (feed_there c.args.rest.now c.in_ok-count.count c.in_ok-count.ensures.1)
     unspliced
   where
     none_spliced : (a b : ℕ) → (b == backslash) ≡ false → (b == carriage_return) ≡ false →
         may_splice a b ≡ false
     none_spliced a b e f = rw (e, f) refl
 
-    unspliced : may_splice (get_or c.args.rest.now c.in-Some.count 0)
-        (get_or c.args.rest.now (c.in-Some.count + 1) 0) ≡ false
+    unspliced : may_splice (get_or c.args.rest.now c.in_ok-count.count 0)
+        (get_or c.args.rest.now (c.in_ok-count.count + 1) 0) ≡ false
     unspliced = elim c.else-last-eq13.branch [
       | else-last-eq13-via-then-last-eq13+else-may_splice w ↦
-          ap (λ (b : ℕ). may_splice (get_or c.args.rest.now c.in-Some.count 0) b)
+          ap (λ (b : ℕ). may_splice (get_or c.args.rest.now c.in_ok-count.count 0) b)
           w.if-last-eq13.true ∙ sym w.may_splice.ensures ∙ w.if-may_splice.false
       | else-last-eq13-via-else-last-eq13 w ↦
-          none_spliced (get_or c.args.rest.now c.in-Some.count 0)
-          (get_or c.args.rest.now (c.in-Some.count + 1) 0)
-          (ne_eqb (get_or c.args.rest.now (c.in-Some.count + 1) 0) 92 c.if-last-eq92.false)
-          (ne_eqb (get_or c.args.rest.now (c.in-Some.count + 1) 0) 13 w.if-last-eq13.false)
+          none_spliced (get_or c.args.rest.now c.in_ok-count.count 0)
+          (get_or c.args.rest.now (c.in_ok-count.count + 1) 0)
+          (ne_eqb (get_or c.args.rest.now (c.in_ok-count.count + 1) 0) 92 c.if-last-eq92.false)
+          (ne_eqb (get_or c.args.rest.now (c.in_ok-count.count + 1) 0) 13 w.if-last-eq13.false)
     ]
 
 pub returns-clause-ends : goal.returns-clause-ends
 returns-clause-ends c =
-    let there : 2 + c.in-Some.count ≡ 2 + c.in-Some.count + 1 - 1 = omega arith in
-    subst (λ (n : ℕ). get_or c.args.rest.now n 0 ≡ newline) there (feed_there c.args.rest.now c.in-Some.count c.in-Some.ensures.1)
+    let there : 2 + c.in_ok-count.count ≡ 2 + c.in_ok-count.count + 1 - 1 = omega arith in
+    subst (λ (n : ℕ). get_or c.args.rest.now n 0 ≡ newline) there (feed_there c.args.rest.now c.in_ok-count.count c.in_ok-count.ensures.1)
