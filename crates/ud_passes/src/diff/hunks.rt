@@ -67,9 +67,7 @@ fn next_hunk(script: &[DiffLine<'_>], from: usize) -> Option<(usize, usize)>
     ensures fits { IfSome result (λ range. range.1 < 2 ^ 64) }
 {
     let rest = &script[from..];
-    let Some(first) = first_change(rest) else {
-        return None;
-    };
+    let first = first_change(rest)?;
     let start = from + first.saturating_sub(CONTEXT);
     let last = from + first + changes_len(&rest[first..]);
     Some((start, script.len().min(last.saturating_add(CONTEXT))))
