@@ -3,7 +3,7 @@
 use std::alloc::AllocError;
 use std::process::Abort;
 use std::test::Fail;
-use ud_cond::{Entry, SymbolCalls, SymbolFault, Symbols};
+use ud_cond::{Entry, SymbolFault, SymbolRow, Symbols};
 
 /// Compares the table's entry for a name: its value, and whether it is ignoring.
 fn check(rt: &impl Abort, symbols: &Symbols, name: &[u8], value: Option<&[u8]>, ignoring: bool) {
@@ -106,19 +106,19 @@ fn three_hundred_names_are_kept_apart(rt: HostRuntime) -> Result<(), Fail> {
     Ok(())
 }
 
-/// Returns the table of 300 names in falling order, and of a last call for one of them.
+/// Returns the table of 300 names in falling order, and of a last row for one of them.
 fn falling(rt: &impl AllocGlobal) -> Result<Symbols, AllocError> {
-    let mut calls = SymbolCalls::new(rt.alloc());
+    let mut rows = Vec::new(rt.alloc());
     for number in (0..300).rev() {
         let name = numbered(number);
-        calls.push(&name, Some(&name[1..]), false)?;
+        rows.push(SymbolRow::of(rt.alloc(), &name, Some(&name[1..]), false)?)?;
     }
-    calls.push(b"N007", None, true)?;
-    calls.into_symbols()
+    rows.push(SymbolRow::of(rt.alloc(), b"N007", None, true)?)?;
+    Symbols::from_rows(rt.alloc(), rows)
 }
 
 #[test]
-fn calls_in_falling_order_make_a_table(rt: HostRuntime) -> Result<(), Fail> {
+fn rows_in_falling_order_make_a_table(rt: HostRuntime) -> Result<(), Fail> {
     let symbols = falling(&rt)?;
     check(&rt, &symbols, b"N299", Some(b"299"), false);
     check(&rt, &symbols, b"N007", None, true);

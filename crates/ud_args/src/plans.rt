@@ -26,7 +26,7 @@ use crate::options::{Setting, parse_arg, with_flag};
 use crate::usage::Usage;
 use std::alloc::Global;
 use std::marker::Model;
-use ud_cond::{SymbolCalls, Symbols};
+use ud_cond::{SymbolRow, Symbols};
 use ud_model::Settings;
 
 /// The plan of a run: the settings, the symbols and the operand of a command line.
@@ -97,8 +97,8 @@ pub(crate) struct PlanDraft {
     alloc: Global,
     /// The settings so far.
     settings: Settings,
-    /// The calls for symbols so far.
-    calls: SymbolCalls,
+    /// A row for each option so far that sets a symbol, in order.
+    rows: Vec<SymbolRow>,
     /// The operand's index among the arguments, counted from 0.
     operand: Option<usize>,
 }
@@ -110,7 +110,7 @@ impl Model for PlanDraft {
 
     ghost view = { λ p. record {
       settings = p.settings;
-      symbols = p.calls;
+      symbols = p.rows.items;
       operand =
           p.operand;
     } };
@@ -124,7 +124,7 @@ impl PlanDraft {
         PlanDraft {
             alloc,
             settings: Settings::default(),
-            calls: SymbolCalls::new(alloc),
+            rows: Vec::new(alloc),
             operand: None,
         }
     }
@@ -212,7 +212,11 @@ impl PlanDraft {
             AddsGiven g self.old self.new result }
         ensures err { IfErr result (λ u. u ≡ Usage.OutOfMemory) }
     {
-        Ok(self.calls.push(name, value, ignoring)?)
+        let row = SymbolRow::of(self.alloc, name, value, ignoring)?;
+        if self.rows.push(row).is_err() {
+            return Err(Usage::OutOfMemory);
+        }
+        Ok(())
     }
 
     /// Returns the plan, with the table of all symbols.
@@ -227,7 +231,7 @@ impl PlanDraft {
     {
         Ok(Plan {
             settings: self.settings,
-            symbols: self.calls.into_symbols()?,
+            symbols: Symbols::from_rows(self.alloc, self.rows)?,
             operand: self.operand,
         })
     }

@@ -22,5 +22,5 @@ pub use expressions::tokens::{NextToken, Token, next_token};
 pub use expressions::values::is_number;
 pub use list_names::names;
 pub use list_names::names_iter::Names;
-pub use symbols::{Entry, SymbolCalls, SymbolFault, Symbols};
+pub use symbols::{Entry, SymbolFault, SymbolRow, Symbols};
 pub use token_flags::TokenFlags;

@@ -29,13 +29,11 @@ use std::cmp::Ordering;
 use std::marker::Model;
 use ud_model::bytes::{is_identifier, is_name};
 
-mod calls;
 mod fault;
 mod keys;
 mod marks;
 mod name_filter;
 
-pub use calls::SymbolCalls;
 pub use fault::SymbolFault;
 
 /// The most names for which `may_stand_in` searches. Each search of a text costs a fifth of what
@@ -62,16 +60,16 @@ struct Named {
     ignores: bool,
 }
 
-/// A row: a name and its entry. Inserting one moves others, so rows are small.
+/// A row of a table: a name and its entry. Inserting one moves others, so rows are small.
 #[derive(Drop)]
-struct Row {
+pub struct SymbolRow {
     /// The key of the name.
     number: u64,
     /// The name and its entry.
     named: Box<Named>,
 }
 
-impl Model for Row {
+impl Model for SymbolRow {
     ghost use Rattle.std.specs.Prelude.{◌≡◌, option_map};
     ghost use Rattle.ud_model.specs.conditions.Table.{Argument};
     ghost use Rattle.ud_cond.specs.CondViews.{argument_for};
@@ -85,17 +83,20 @@ impl Model for Row {
     ghost invariant = { λ r. r.number ≡ key_of r.named.value.symbol.items };
 }
 
-impl Row {
+impl SymbolRow {
     /// Returns the row of `name`, which is defined as `value`, or undefined if `value` is `None`.
+    /// The name isn't checked.
+    ///
+    /// If `ignores`, the sections that `name` controls are plain text.
     ///
     /// # Errors
     /// Fails if memory runs out.
-    fn of(
+    pub fn of(
         alloc: Global,
         name: &[u8],
         value: Option<&[u8]>,
         ignores: bool,
-    ) -> Result<Row, AllocError>
+    ) -> Result<SymbolRow, AllocError>
         ensures { IfOk result (λ r. r ≡ argument_for name.now
             (option_map (λ v. v.now) value.entry) ignores) }
     {
@@ -106,7 +107,7 @@ impl Row {
             text,
             ignores,
         };
-        Ok(Row {
+        Ok(SymbolRow {
             number: key_of(name),
             named: Box::new(alloc, named)?,
         })
@@ -145,7 +146,7 @@ impl Row {
     }
 
     /// Compares the row's name with another row's.
-    fn compare_row(&self, other: &Row) -> Ordering
+    fn compare_row(&self, other: &SymbolRow) -> Ordering
         ensures { result ≡ name_cmp self.now.name other.now.name }
     {
         self.compare(other.number, other.named.symbol.as_slice())
@@ -181,7 +182,7 @@ pub struct Symbols {
     /// The allocator that memory comes from.
     alloc: Global,
     /// The rows, one for each name, sorted by key, then by length, then by bytes.
-    rows: Vec<Row>,
+    rows: Vec<SymbolRow>,
     /// The filter of the rows' names.
     filter: NameFilter,
 }
@@ -211,6 +212,26 @@ impl Symbols {
             rows: Vec::new(alloc),
             filter: NameFilter::new(),
         }
+    }
+
+    /// Returns the table of these rows. Of several rows for a name, the last one counts.
+    ///
+    /// The rows are sorted first, so that each is appended, whatever their order.
+    ///
+    /// # Errors
+    /// Fails if memory runs out; never without any row.
+    pub fn from_rows(alloc: Global, rows: Vec<SymbolRow>) -> Result<Symbols, AllocError>
+        ensures ok { IfOk result (λ table. TableRepresents table rows.items) }
+        ensures err { OnErr result (rows.items ≡ [] → ⊥) }
+    {
+        let mut symbols = Symbols::new(alloc);
+        if rows.is_empty() {
+            return Ok(symbols);
+        }
+        'rows: for row in sorted(rows)? {
+            symbols.add(row)?;
+        }
+        Ok(symbols)
     }
 
     /// Defines `name` as `value`, which may be empty. If a byte 255 precedes the constant in
@@ -380,12 +401,12 @@ impl Symbols {
         if !is_name(name) {
             return Err(SymbolFault::BadName);
         }
-        let row = Row::of(self.alloc, name, value, ignoring)?;
+        let row = SymbolRow::of(self.alloc, name, value, ignoring)?;
         Ok(self.add(row)?)
     }
 
     /// Replaces the row of the same name, or inserts the row.
-    fn add(&mut self, row: Row) -> Result<(), AllocError>
+    fn add(&mut self, row: SymbolRow) -> Result<(), AllocError>
         ensures ok { OnOk result (SetsEntry self.old self.new row) }
         ensures err { OnErr result (self.new ≡ self.old) }
     {
@@ -400,7 +421,7 @@ impl Symbols {
     }
 
     /// Replaces the row of a name.
-    fn replace_at(&mut self, i: usize, row: Row)
+    fn replace_at(&mut self, i: usize, row: SymbolRow)
         requires row { IsRowOf self.old i row.name }
         ensures { self.new ≡ set self.old i row }
     {
@@ -408,7 +429,7 @@ impl Symbols {
     }
 
     /// Inserts a row at the position of its name.
-    fn insert_at(&mut self, i: usize, key: u64, row: Row) -> Result<(), AllocError>
+    fn insert_at(&mut self, i: usize, key: u64, row: SymbolRow) -> Result<(), AllocError>
         requires gap { IsGapFor self.old i row.name }
         requires keyed { key ≡ spec.key_of row.name }
         ensures ok { OnOk result (self.new ≡ insert self.old i row) }
@@ -429,4 +450,16 @@ fn try_clone(alloc: Global, value: Option<&[u8]>) -> Result<Option<Vec<u8>>, All
         Some(bytes) => Ok(Some(Vec::from_slice(alloc, bytes)?)),
         None => Ok(None),
     }
+}
+
+/// Sorts rows by name. Rows of the same name keep their order.
+///
+/// # Errors
+/// Fails if memory runs out.
+fn sorted(rows: Vec<SymbolRow>) -> Result<Vec<SymbolRow>, AllocError>
+    ensures { IfOk result (λ sorted. TableRepresents sorted.items rows.items) }
+{
+    let mut rows = rows;
+    rows.sort_by(|a, b| a.compare_row(b))?;
+    Ok(rows)
 }

@@ -5,8 +5,8 @@ use Rattle.ud_args.specs.Plans.{PlanState}
 use Rattle.ud_args.proofs.PlanLemmas.{IsUsageOf-table}
 use Rattle.ud_args.proofs.plans.PlanDraft.into_plan.Goals as goal
 
-pub returns-in_err-into_symbols-clause-err : goal.returns-in_err-into_symbols-clause-err
-returns-in_err-into_symbols-clause-err c = λ gs p.
+pub returns-in_err-from_rows-clause-err : goal.returns-in_err-from_rows-clause-err
+returns-in_err-from_rows-clause-err c = λ gs p.
     let e = err_from_is_err_and c.from_residual.result c.from_residual.ensures.1 in
     rw e.1
-    (IsUsageOf-table c.args.self gs _ p e.2 (λ none. c.in_err-into_symbols.ensures.err (ap (λ (q : PlanState). q.symbols) c.self.view_is ∙ none)))
+    (IsUsageOf-table c.args.self gs _ p e.2 (λ none. c.in_err-from_rows.ensures.err (ap (λ (q : PlanState). q.symbols) c.self.view_is ∙ none)))

@@ -1,5 +1,6 @@
 -- The symbol is added as the last one.
-use Rattle.std.proofs.Common.{◌++◌, ◌∷◌, [], refl, option_map, arith}
+use Rattle.std.proofs.lemmas.Grind.{common_steps}
+use Rattle.std.proofs.Common.{◌≡◌, ◌++◌, ◌∷◌, [], refl, option_map, arith}
 use Rattle.std.specs.List.{filter_map}
 use Rattle.ud_cond.specs.CondViews.{argument_for}
 use Rattle.ud_cond.specs.symbols.SymbolTable.{TableRepresents}
@@ -13,6 +14,8 @@ returns-clause-ok c = λ g free sets gs p.
     let before = rw (← c.self.view_is) at p in
     let none = rw (← c.self.view_is) at free in
     let a = argument_for c.args.name.now (option_map (λ v. v.now) c.args.value) c.args.ignoring in
-    let table : TableRepresents (c.self.inside.calls ++ a ∷ [])
+    let table : TableRepresents (c.self.inside.rows.items ++ a ∷ [])
     (filter_map argument_in gs ++ a ∷ []) = grind (arith, entry_from-push) in
-    rw c.in_ok-push.ensures.ok (represents_symbol _ _ gs g a before none sets refl table refl)
+    let pushed : c.push.new.self.items ≡ c.self.inside.rows.items ++ a ∷ [] =
+    grind (arith, common_steps) in
+    represents_symbol _ _ gs g a before none sets refl (rw pushed table) refl

@@ -4,7 +4,7 @@ use Rattle.std.proofs.lemmas.Fn.{always_returns_same}
 use Rattle.std.proofs.lemmas.List.Sorted.{ranks_by}
 use Rattle.ud_cond.proofs.lemmas.symbols.SortedLemmas.{name_total}
 use Rattle.ud_cond.proofs.lemmas.symbols.StableLemmas.{comes_before, stable_represents}
-use Rattle.ud_cond.proofs.symbols.calls.sorted.Goals as goal
+use Rattle.ud_cond.proofs.symbols.sorted.Goals as goal
 
 pub returns : goal.returns
 returns c = stable_represents c.args.rows.items c.sort_by.new.self.items
