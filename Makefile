@@ -327,6 +327,7 @@ pruned: unifdef-tree
 ## compares what a C compiler selects before and after
 selects: unifdef unifdef-tree
 	bench/selects.py $(SELECTS)
+	bench/selects.py --least $(SELECTS)
 	bench/selects.py --programs $(PROGRAMS)
 
 ## compares the lines' numbers before and after -n and -b

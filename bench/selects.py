@@ -10,6 +10,9 @@ With --programs, each seed gives a file and some headers, which define and undef
 those of the options, and include each other in sections. If no condition names a symbol of the
 options any more, the compiler must select the same without it, and with any other value.
 
+With --least, a symbol that a file compares with a constant is at least such a constant, for
+./unifdef-tree with and without -p. The compiler must select the same for each of some values.
+
 The status is 1 if something is selected in another way, or changed by a second run.
 """
 
@@ -39,6 +42,12 @@ NAME = re.compile(rb"[A-Za-z_][A-Za-z0-9_]*")
 NOT_CHOSEN = re.compile(
     rb"defined$|__(has_|is_|STDC|LINE__|FILE__|COUNTER__|INCLUDE_LEVEL__|DATE__|TIME__)"
 )
+
+# A name that is compared with a constant, its digits and its suffix. A value is at most LARGEST.
+RELATION = re.compile(
+    rb"([A-Za-z_]\w*)\s*(?:[<>]|[<>=!]=)\s*(0[xX][0-9a-fA-F]+|0[0-7]*|[1-9]\d*)([uUlL]*)(?!\w)"
+)
+LARGEST = 2**63 - 1
 
 # The names of a program, the forms of its conditions, and how these are found.
 DECIDED, OTHERS = ("A", "B"), ("C", "D", "E", "F")
@@ -112,12 +121,12 @@ def selected(arguments, text=b"", path="-"):
     return run.stdout.split() if run.returncode == 0 else None
 
 
-def pruned(options, text):
-    """Returns what -p makes of a text, its edits, and whether a second run changes nothing."""
+def replaced(options, text):
+    """Returns what a run makes of a text, its edits, and whether a second run changes nothing."""
     with tempfile.TemporaryDirectory() as directory:
         path = Path(directory, "text.c")
         path.write_bytes(text)
-        command = [UNIFDEF_TREE, "-p", *options, "--", path]
+        command = [UNIFDEF_TREE, *options, "--", path]
         runs = [subprocess.run(command, capture_output=True) for _ in range(2)]
         out = path.read_bytes()
     edited = re.search(rb"(\d+) conditions? edited", runs[0].stderr)
@@ -145,12 +154,47 @@ def compare(job):
     how = "changed" if run.returncode else "left as they are"
     # Without a symbol and -k, unifdef-tree refuses to run.
     is_pruned = set(options) - {"-K"}
-    out, edited, settled = pruned(options, source) if is_pruned else (source, 0, True)
+    out, edited, settled = replaced(["-p", *options], source) if is_pruned else (source, 0, True)
     if not settled:
         return "changed by a second run", of
     if edited and selected(arguments, out) != before:
         return "selected in another way", f"{of} -p"
     return f"{how} and edited" if edited else how, of
+
+
+def number(digits):
+    return int(digits, 8 if digits.startswith(b"0") and digits.isdigit() else 0)
+
+
+def compare_least(job):
+    """Returns what a comparison with a least value found, of what, and with how many values."""
+    path, seed = job
+    rng = random.Random(f"{seed} {path}")
+    source, conditions = neutral(Path(path).read_bytes())
+    found = RELATION.findall(b"\n".join(conditions))
+    relations = [it for it in found if not NOT_CHOSEN.match(it[0])]
+    if not relations:
+        return "without a relation", path, 0
+    options, arguments = chosen(conditions, rng)
+    name, digits, suffix = rng.choice(relations)
+    options.append(b"-D%s>=%s%s" % (name, digits, suffix))
+    least = number(digits)
+    other = number(rng.choice([it[1] for it in relations if it[0] == name]))
+    values = {least, least + 1, least + 2, max(least, other), max(least, other + 1), LARGEST}
+    defines = [b"-D%s=%d%s" % (name, it, suffix) for it in sorted(values) if it <= LARGEST]
+    selected_before = {it: selected([*arguments, it], source) for it in defines}
+    # The compiler rejects the text under some, in which a condition has no value.
+    selected_before = {it: before for it, before in selected_before.items() if before is not None}
+    how = "left as they are"
+    for prune in ([], ["-p"]):
+        out, _, settled = replaced([*prune, *options], source)
+        of = f"{path}, seed {seed}: {shown(prune + options)}"
+        if not settled:
+            return "faulty" if out == source else "changed by a second run", of, 0
+        if any(selected([*arguments, it], out) != before for it, before in selected_before.items()):
+            return "selected in another way", of, 0
+        how = "changed" if out != source else how
+    return how, of, len(selected_before)
 
 
 def parsed(description, **flags):
@@ -263,13 +307,18 @@ def compare_program(seed):
 
 def main():
     programs = "random programs in place of files, 300 by default"
-    options, jobs = parsed("Compares what a compiler selects before and after.", programs=programs)
+    least = "symbols that are at least a number"
+    description = "Compares what a compiler selects before and after."
+    options, jobs = parsed(description, programs=programs, least=least)
     first, count = options.seed * 10**6, options.count or 300
     with multiprocessing.Pool() as pool:
         if options.programs:
             results = pool.imap_unordered(compare_program, range(first, first + count), chunksize=8)
             sums, status = report(results, "programs")
             print(f"{sums[0]} times a symbol was gone")
+        elif options.least:
+            sums, status = report(pool.imap_unordered(compare_least, jobs, chunksize=16), "files")
+            print(f"{sums[0]} values of a symbol that is at least a number")
         else:
             _, status = report(pool.imap_unordered(compare, jobs, chunksize=16), "files")
     sys.exit(status)
