@@ -12,7 +12,16 @@ use Rattle.ud_sections.specs.declared.sections.step.Step.{Step}
 use Rattle.ud_sections.specs.sections.MachineState.{MachineRepresents, StepsLine, machine_fault}
 use Rattle.ud_sections.proofs.lemmas.sections.NextLemmas.{readings_more}
 use Rattle.ud_engine.specs.declared.line_decider.LineDecider.{LineDecider as TheReader}
-use Rattle.ud_engine.specs.DecidedLines.{HasScanned, DecidesLine}
+use Rattle.ud_engine.specs.DecidedLines.{DecidesLine}
+
+-- `HasScanned o r xs t l scan`: the machine of `r` has read the items `xs`, whose tree is `t`. Its
+-- scanner has also read the line `l`, which has this scan.
+pub record HasScanned (o : Options) (r : TheReader) (xs : List (Item Reading)) (t : Tree Reading)
+    (l : Line) (scan : Scan) : Type 0 where
+  pub read : MachineRepresents r.machine o xs t
+  pub no_fault : machine_fault r.machine ≡ None
+  pub scanned : scan ≡ scan_after (map reading_of xs) (mode_after o t) l
+  pub carries : ScannerRepresents r.scanner (map reading_of (xs ++ next_item o xs t l ∷ []))
 
 module _ (o : Options) (new : TheReader) (xs : List (Item Reading)) (t : Tree Reading) (l : Line) where
   -- The scanner has read the line.

@@ -1,7 +1,6 @@
 -- DecidedLines: the state of a line decider.
 --
 --   DeciderRepresents o r xs t        a decider has read these items
---   HasScanned o r xs t l scan        its scanner has also read the line `l`
 --   DecidesLine o r xs t l step       it has also read this line
 --   DecidesNext symbols r new l result   the same for any items, or the line is faulty
 --   CanBeDecided room l               a line within the limits, and with as many bytes
@@ -12,14 +11,13 @@
 use Rattle.std.specs.Prelude.{◌≡◌, ℕ, suc, ◌+◌, ◌≤◌, List, [], ◌∷◌, ◌++◌, length, map}
 use Rattle.std.specs.Prelude.{None, Result, MatchResult, IsTrue}
 use Rattle.ud_model.specs.text.Lines.{Line, NoNewline, is_ending, whole_lines, numbered_from}
-use Rattle.ud_model.specs.text.Scans.{Scan, Reading}
-use Rattle.ud_model.specs.text.Scanning.{scan_after}
+use Rattle.ud_model.specs.text.Scans.{Reading}
 use Rattle.ud_model.specs.sections.Directives.{text, content_of}
 use Rattle.ud_model.specs.sections.Faults.{FaultOf}
 use Rattle.ud_model.specs.conditions.Table.{Argument}
 use Rattle.ud_model.specs.sections.Tree.{Item, Tree}
 use Rattle.ud_model.specs.sections.Pruning.{Mark, marks}
-use Rattle.ud_model.specs.sections.Items.{Options, reading_of, mode_after, line_of, next_item}
+use Rattle.ud_model.specs.sections.Items.{Options, reading_of, line_of, next_item}
 use Rattle.ud_model.specs.answer.Printing.{judged_line, judged_lines}
 use Rattle.ud_model.specs.declared.verdict.Verdict.{Verdict}
 use Rattle.ud_cond.specs.symbols.SymbolTable.{TableRepresents}
@@ -42,15 +40,6 @@ pub record DeciderRepresents (o : Options) (r : LineDecider) (xs : List (Item Re
   pub read : MachineRepresents r.machine o xs t
   pub no_fault : machine_fault r.machine ≡ None
   pub carries : ScannerRepresents r.scanner (map reading_of xs)
-
--- `HasScanned o r xs t l scan`: the machine of `r` has read the items `xs`, whose tree is `t`. Its
--- scanner has also read the line `l`, which has this scan.
-pub record HasScanned (o : Options) (r : LineDecider) (xs : List (Item Reading)) (t : Tree Reading)
-    (l : Line) (scan : Scan) : Type 0 where
-  pub read : MachineRepresents r.machine o xs t
-  pub no_fault : machine_fault r.machine ≡ None
-  pub scanned : scan ≡ scan_after (map reading_of xs) (mode_after o t) l
-  pub carries : ScannerRepresents r.scanner (map reading_of (xs ++ next_item o xs t l ∷ []))
 
 -- `DecidesLine o r xs t l step`: after the items `xs`, `r` has also read the line `l`. The step has
 -- the verdict of the last mark, and the span of the line's keyword.

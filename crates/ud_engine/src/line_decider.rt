@@ -8,7 +8,7 @@ ghost use Rattle.ud_model.specs.sections.Items.{Options};
 ghost use Rattle.ud_model.specs.sections.Faults.{end_fault};
 ghost use Rattle.ud_model.specs.declared.limits.TheConstants.{MAX_LINES};
 ghost use Rattle.ud_text.specs.lines.LinesState.{LinesRepresent};
-ghost use Rattle.ud_model.specs.aids.LineViews.{as_line, as_scan};
+ghost use Rattle.ud_model.specs.aids.LineViews.{as_line};
 ghost use Rattle.ud_text.specs.bulk.BulkScanning.{AreWholeLines};
 ghost use Rattle.ud_text.specs.lines.Consuming.{CanConsume};
 ghost use Rattle.ud_sections.specs.sections.Limits.{IsWithinLimits};
@@ -16,7 +16,7 @@ ghost use Rattle.ud_sections.specs.sections.StepViews.{HoldsKeyword};
 ghost use Rattle.ud_sections.specs.sections.MachineState.{end_fault_of};
 ghost use Rattle.ud_sections.specs.sections.Transitions.{text_policy_of};
 ghost use Rattle.ud_engine.specs.DecidedLines.{DeciderRepresents, DecidesNext, DecidesText};
-ghost use Rattle.ud_engine.specs.DecidedLines.{CanBeDecided, HasScanned, consumed};
+ghost use Rattle.ud_engine.specs.DecidedLines.{CanBeDecided, consumed};
 ghost use Rattle.ud_engine.specs.NameListing.{ListsNames};
 
 use crate::listing::append_names;
@@ -24,7 +24,7 @@ use crate::output::Output;
 use std::io::Write;
 use ud_cond::Symbols;
 use ud_io::Watched;
-use ud_model::{Scan, Settings};
+use ud_model::Settings;
 use ud_sections::{Lister, Machine, SectionFault, Step, TextPolicy, directive};
 use ud_text::{Line, LineBuffer, Lines, Scanner};
 
@@ -47,26 +47,11 @@ impl LineDecider {
         }
     }
 
-    /// Scans the next line. The masked line is written to `masked`, unless it is the line itself.
-    #[inline(always)]
-    fn scan<'s, 'a: 's, H: LineBuffer>(&mut self, line: &Line<'a>, masked: &'s mut H) -> Scan<'s>
-        requires { CanBeDecided H.CAPACITY (as_line line.now) }
-        ensures scans { (o : Options) → (xs : List (Item Reading)) → (t : Tree Reading) →
-            DeciderRepresents o self.old xs t →
-            HasScanned o self.new xs t (as_line line.now) (as_scan result) }
-        ensures fits { length result.masked.now ≤ length line.now.body.now }
-    {
-        if let Some(scan) = self.scanner.read_unmarked(line) {
-            return scan;
-        }
-        let mode = self.machine.mode();
-        self.scanner.read_into(mode, line, masked)
-    }
-
     /// Decides the next line. Returns its step. `masked` is a buffer for the masked line.
     ///
     /// # Errors
     /// Fails if the line is faulty.
+    #[inline(always)]
     pub(crate) fn decide<H: LineBuffer>(
         &mut self,
         line: &Line<'_>,
@@ -77,7 +62,12 @@ impl LineDecider {
         ensures decides { DecidesNext symbols.now self.old self.new (as_line line.now) result }
         ensures keyword { IfOk result (λ s. HoldsKeyword s line.now) }
     {
-        let scan = self.scan(line, masked);
+        // The compiler knows this scan, so most lines have a step of their own.
+        if let Some(unmarked) = self.scanner.read_unmarked(line) {
+            return self.machine.step(&unmarked, line, symbols);
+        }
+        let mode = self.machine.mode();
+        let scan = self.scanner.read_into(mode, line, masked);
         self.machine.step(&scan, line, symbols)
     }
 
@@ -100,7 +90,7 @@ impl LineDecider {
         ensures { ListsNames W.contents symbols.now self.old self.new (as_line line.now)
             lister.old lister.new pending.now output.old output.new out.old out.new result }
     {
-        let scan = self.scan(line, masked);
+        let scan = self.scanner.read_into(self.machine.mode(), line, masked);
         let content = directive(&scan);
         self.machine.step_by(&scan, content, line, symbols)?;
         output.append(pending, out);
