@@ -1,6 +1,8 @@
 //! Laws of residuals: conditions and texts without the operands that the table decides.
 
-ghost use Rattle.std.specs.Prelude.{◌≡◌, ◌↔◌, ℕ, List, ◌∷◌, ◌++◌, map, Bool, None, false};
+ghost use Rattle.std.specs.Prelude.{◌≡◌, ◌↔◌, ℕ, List, ◌∷◌, ◌++◌, length, map, Bool, None};
+ghost use Rattle.std.specs.Prelude.{true, false};
+ghost use Rattle.ud_model.specs.aids.SpacedBytes.{spaced};
 ghost use Rattle.ud_model.specs.text.Lines.{lines_of};
 ghost use Rattle.ud_model.specs.text.Scans.{Reading};
 ghost use Rattle.ud_model.specs.conditions.Table.{Argument};
@@ -57,7 +59,8 @@ pub fn law_residual_truth()
 /// A simplified text has bytes of the text, in their order, and no others.
 ///
 /// Simplifying again removes nothing. Its lines are the simplified lines of the text, one for one,
-/// with their numbers.
+/// with their numbers. C reads each `#else` and `#endif` line as before, since only its comment
+/// loses bytes.
 pub fn law_simplified_text()
     ensures bytes { (table : List Argument) (rules : Rules) (bytes : List ℕ) →
         IsSublist (simplified_text table rules bytes) bytes }
@@ -67,6 +70,13 @@ pub fn law_simplified_text()
     ensures lines { (table : List Argument) (rules : Rules) (bytes : List ℕ) →
         lines_of (simplified_text table rules bytes) ≡
         map (simplified_line table rules) (read_as Mode.C bytes) }
+    ensures closings { (table : List Argument) (rules : Rules) (bytes : List ℕ)
+        (before after others more : List Reading) (r s : Reading) (d : Directive) →
+        read_as Mode.C bytes ≡ before ++ r ∷ after →
+        read_as Mode.C (simplified_text table rules bytes) ≡ others ++ s ∷ more →
+        length others ≡ length before → content_of r.scan ≡ directive d →
+        test_of d.kind ≡ Test.Nothing → (e : Directive) × (content_of s.scan ≡ directive e) ×
+        (e.kind ≡ d.kind) × (spaced true e.after ≡ spaced true d.after) }
 {}
 
 /// A simplified text keeps a decided operand only for one of a few reasons.

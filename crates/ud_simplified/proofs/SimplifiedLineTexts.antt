@@ -1,5 +1,5 @@
 -- The lines of a simplified text are the simplified lines, and bytes are only removed.
-use Rattle.std.proofs.Common.{◌≡◌, ℕ, suc, ◌-◌, List, [], ◌∷◌, ◌++◌, length, map, take, refl, sym, ◌∙◌, ap, ap₂, subst, ◌⊎◌, inl, inr, length-append, arith, zero, drop}
+use Rattle.std.proofs.Common.{◌≡◌, ℕ, suc, ◌-◌, List, [], ◌∷◌, ◌++◌, length, map, take, refl, sym, ◌∙◌, ap, ap₂, subst, ◌⊎◌, inl, inr, length-append, arith, zero, drop, Bool, true, false, if◌then◌else◌}
 use Rattle.std.proofs.lemmas.List.{map-append, drop-map, take_at}
 use Rattle.ud_model.specs.text.Lines.{Line, NoNewline, IsWhole, IsUnterminated, AreFormed, text_of, ending_of, line_at, numbered_from, lines_of, texts_of}
 use Rattle.ud_model.specs.text.Scans.{Scan, Reading}
@@ -11,14 +11,16 @@ use Rattle.ud_model.specs.conditions.Conditions.{Rules}
 use Rattle.ud_simplified.specs.Sublists.{IsSublist, nothing, without, with_same}
 use Rattle.ud_model.specs.sections.Directives.{Directive}
 use Rattle.ud_model.specs.aids.ReadAs.{read_as, read_in}
-use Rattle.ud_simplified.specs.SimplifiedTexts.{keyword_end, condition_cells, left_cells_of, left_line, simplified_line, simplified_text}
+use Rattle.ud_simplified.specs.CommentTexts.{comment_cells}
+use Rattle.ud_simplified.specs.ResidualTexts.{simplified_cells}
+use Rattle.ud_simplified.specs.SimplifiedTexts.{keyword_end, condition_cells, is_closing, left_cells_of, left_line, simplified_line, simplified_text}
 use Rattle.ud_model.specs.declared.kind.Mode.TheVariants.{C}
 use Rattle.ud_model.proofs.text.ScanBytes.{bytes-content_cells, content-prefix}
 use Rattle.ud_model.proofs.text.LinesLemmas.{no_newline-append, text_of-line_at, lines_exist, map-lines_of}
 use Rattle.ud_model.proofs.text.Pushes.{ByPush, none as nothing_pushed, push, by_push}
-use Rattle.ud_model.proofs.output.Formed.{whole_ending, end_is_some, ending_none, ended, whole_body, no_feed_parts, no_feed_cut}
+use Rattle.ud_model.proofs.output.Formed.{whole_ending, end_is_some, ending_none, ended, whole_body, no_feed_cut}
 use Rattle.ud_model.proofs.output.OutputPieces.{output_lines}
-use Rattle.ud_simplified.proofs.SimplifiedLines.{byte_of, Becomes, it_stays, it_changes, becomes}
+use Rattle.ud_simplified.proofs.SimplifiedLines.{byte_of, bytes-comment_cells, Becomes, it_stays, it_changes, becomes}
 use Rattle.ud_simplified.proofs.ResidualRead.{cells_go, of_parts}
 use Rattle.std.specs.List.{concat}
 use Rattle.ud_simplified.proofs.ResidualShape.{all_of_it, none_of_it, of_both, of_left}
@@ -27,27 +29,46 @@ use Rattle.ud_model.proofs.text.ScanLaws.{read_more}
 pub cut_there : (b e : List ℕ) → take (length (b ++ e) - length e) (b ++ e) ≡ b
 cut_there b e = take_at b e (length (b ++ e) - length e) (omega (arith, length-append b e))
 
--- Cells that are left have no newline.
-pub fewer : {xs ys : List Cell} → IsSublist xs ys → NoNewline (map byte_of ys) → NoNewline (map byte_of xs)
+-- Bytes that are left have no newline.
+pub fewer : {xs ys : List ℕ} → IsSublist xs ys → NoNewline ys → NoNewline xs
 fewer nothing h = tt
 fewer (without p) h = fewer p h.1
 fewer (with_same p) h = (h.0, fewer p h.1)
+
+mapped : {xs ys : List Cell} → IsSublist xs ys → IsSublist (map byte_of xs) (map byte_of ys)
+mapped nothing = nothing
+mapped (without p) = without (mapped p)
+mapped (with_same p) = with_same (mapped p)
+
+-- Members after a position of a prefix come after it in the list.
+in_longer : {xs : List ℕ} (n : ℕ) (prefix rest : List ℕ) → IsSublist xs (drop n prefix) → IsSublist xs (drop n (prefix ++ rest))
+in_longer zero prefix rest p = of_left rest p
+in_longer (suc n) [] rest nothing = none_of_it (drop (suc n) rest)
+in_longer (suc n) (b ∷ prefix) rest p = in_longer n prefix rest p
 
 -- A line with its own ending is the line of its bytes.
 pub own_line : (k : Line) → ending_of (text_of k) ≡ k.ending → k ≡ line_at k.number (text_of k)
 own_line k e = grind (arith, cut_there)
 
 module _ (table : List Argument) (rules : Rules) where
+  -- After the keyword bytes are only removed.
+  pub bytes_after : (l : Line) (d : Directive) → IsSublist (map byte_of (left_cells_of table rules l d)) (drop (keyword_end d) l.body)
+  bytes_after l d = by (is_closing d.kind)
+    where
+      go : (cells : List Cell) (bytes : List ℕ) → map byte_of cells ≡ bytes → IsSublist (map byte_of (simplified_cells table rules cells)) bytes
+      go cells bytes e = subst (IsSublist (map byte_of (simplified_cells table rules cells))) e (mapped (cells_go table rules cells))
+
+      by : (b : Bool) → IsSublist (map byte_of (simplified_cells table rules (if b then comment_cells (drop (keyword_end d) l.body) else condition_cells l d))) (drop (keyword_end d) l.body)
+      by true = go (comment_cells (drop (keyword_end d) l.body)) (drop (keyword_end d) l.body) (bytes-comment_cells (drop (keyword_end d) l.body))
+      by false = let n : ℕ = keyword_end d in
+          let p = content-prefix l in
+          subst (λ (xs : List ℕ). IsSublist (map byte_of (simplified_cells table rules (condition_cells l d))) (drop n xs)) (sym p.1)
+          (in_longer n (content l) p.0 (go (condition_cells l d) (drop n (content l)) (sym (drop-map byte_of n (content_cells [] l)) ∙ ap (λ (xs : List ℕ). drop n xs) (bytes-content_cells [] l))))
+
   -- An edited line has no newline in its body.
   pub edited_body : (l : Line) (d : Directive) → NoNewline l.body → NoNewline (left_line table rules l d).body
-  edited_body l d h = let p = content-prefix l in
-      let c : NoNewline (content l) = (no_feed_parts (content l) p.0 (subst NoNewline p.1 h)).0 in
-      let f : NoNewline (map byte_of (condition_cells l d)) =
-      subst NoNewline (drop-map byte_of (keyword_end d) (content_cells [] l))
-      (no_feed_cut (keyword_end d) (map byte_of (content_cells [] l))
-      (subst NoNewline (sym (bytes-content_cells [] l)) c)).1 in
-      no_newline-append (take (keyword_end d) l.body) (map byte_of (left_cells_of table rules l d)) (no_feed_cut (keyword_end d) l.body h).0
-      (fewer (cells_go table rules (condition_cells l d)) f)
+  edited_body l d h = let p = no_feed_cut (keyword_end d) l.body h in
+      no_newline-append (take (keyword_end d) l.body) (map byte_of (left_cells_of table rules l d)) p.0 (fewer (bytes_after l d) p.1)
 
   -- A line of a text, and the line that it becomes.
   record Left (n : ℕ) (t : List ℕ) (k : Line) : Type 0 where
@@ -112,26 +133,9 @@ module _ (table : List Argument) (rules : Rules) where
 
 -- Bytes are only removed.
 
-mapped : {xs ys : List Cell} → IsSublist xs ys → IsSublist (map byte_of xs) (map byte_of ys)
-mapped nothing = nothing
-mapped (without p) = without (mapped p)
-mapped (with_same p) = with_same (mapped p)
-
--- Members after a position of a prefix come after it in the list.
-in_longer : {xs : List ℕ} (n : ℕ) (prefix rest : List ℕ) → IsSublist xs (drop n prefix) → IsSublist xs (drop n (prefix ++ rest))
-in_longer zero prefix rest p = of_left rest p
-in_longer (suc n) [] rest nothing = none_of_it (drop (suc n) rest)
-in_longer (suc n) (b ∷ prefix) rest p = in_longer n prefix rest p
-
 module _ (table : List Argument) (rules : Rules) where
   left_body : (l : Line) (d : Directive) → IsSublist (left_line table rules l d).body l.body
-  left_body l d = let n : ℕ = keyword_end d in
-      let p = content-prefix l in
-      let q : IsSublist (map byte_of (left_cells_of table rules l d)) (drop n (content l)) =
-      subst (λ (xs : List ℕ). IsSublist (map byte_of (left_cells_of table rules l d)) xs)
-      (sym (drop-map byte_of n (content_cells [] l)) ∙ ap (λ (xs : List ℕ). drop n xs) (bytes-content_cells [] l)) (mapped (cells_go table rules (condition_cells l d))) in
-      of_parts n l.body (all_of_it (take n l.body))
-      (subst (λ (xs : List ℕ). IsSublist (map byte_of (left_cells_of table rules l d)) (drop n xs)) (sym p.1) (in_longer n (content l) p.0 q))
+  left_body l d = of_parts (keyword_end d) l.body (all_of_it (take (keyword_end d) l.body)) (bytes_after table rules l d)
 
   -- Of a line bytes are only removed.
   pub line_bytes : (l : Line) (scan : Scan) (k : Line) → Becomes table rules l scan k → IsSublist (text_of k) (text_of l)

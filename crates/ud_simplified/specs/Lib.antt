@@ -1,4 +1,5 @@
 pub mod Sublists
 pub mod ResidualTexts
+pub mod CommentTexts
 pub mod SimplifiedTexts
 pub mod FoldedTexts

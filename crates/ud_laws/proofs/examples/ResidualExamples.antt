@@ -12,6 +12,7 @@ use Rattle.ud_model.specs.conditions.Symbols.{resolve}
 use Rattle.ud_model.specs.conditions.Values.{name_value, name_has_u, defined_value, apply_binary_known, apply_unary_known}
 use Rattle.ud_model.specs.conditions.Conditions.{Rules}
 use Rattle.ud_simplified.specs.ResidualTexts.{simplified_cells}
+use Rattle.ud_simplified.specs.CommentTexts.{comment_cells}
 use Rattle.ud_simplified.specs.SimplifiedTexts.{simplified_text}
 use Rattle.ud_laws.proofs.examples.CValueExamples.{sets, undefines}
 
@@ -72,6 +73,16 @@ pub texts : TextBecomes (codes "#if X||A // c\na\n#elif A||Y\n#endif\n")
     TextStays (codes "#if X/**/\r||A\n#endif\n") ×
     TextStays (codes "/*\n#if X||A\n*/\n#if X||\\\nA\n#endif\n#if X||A/*\n*/\n#endif")
 unfolding split_lines lexeme_at lex_from lex kind_at_end joins scan_after_run simplified_cells
-    expression_of reads tokens_of next_token suffix_sign apply_binary_known apply_unary_known
+    comment_cells expression_of reads tokens_of next_token suffix_sign apply_binary_known apply_unary_known
     name_value name_has_u resolve defined_value
 texts = (refl, refl, refl)
+
+-- An operand goes from the comment of an `#else` or `#endif`. The comment stays if it is decided,
+-- or if another one follows.
+pub closings : TextBecomes (codes "#else // !A&&X\n#endif /* A||X */\n")
+    (codes "#else // X\n#endif /* X */\n") ×
+    TextStays (codes "#else // A\n#endif /* A||X *//**/\n")
+unfolding split_lines lexeme_at lex_from lex kind_at_end joins scan_after_run simplified_cells
+    comment_cells expression_of reads tokens_of next_token suffix_sign apply_binary_known
+    apply_unary_known name_value name_has_u resolve defined_value
+closings = (refl, refl)

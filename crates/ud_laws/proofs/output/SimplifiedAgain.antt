@@ -1,31 +1,34 @@
 -- Simplified again: a simplified text stays as it is, and each of its conditions is reduced, or may
 -- stay.
-use Rattle.std.proofs.Common.{◌≡◌, ℕ, ◌-◌, List, [], ◌∷◌, ◌++◌, length, map, take, drop, Bool, false, Some, None, if◌then◌else◌, refl, sym, ◌∙◌, ap, ap₂, subst, ◌⊎◌, inl, inr, arith, ◌≤◌, true, not, Option, length-append, ◌&&◌}
-use Rattle.std.proofs.lemmas.List.{drop-map, take-append-drop, length-map}
+use Rattle.std.proofs.Common.{◌≡◌, ℕ, List, [], ◌∷◌, ◌++◌, length, map, take, drop, Bool, false, Some, None, if◌then◌else◌, refl, sym, ◌∙◌, ap, ap₂, subst, ◌⊎◌, inl, inr, arith, ◌≤◌, true, not, Option, length-append, ◌&&◌}
+use Rattle.std.proofs.lemmas.List.{take-append-drop, length-map}
 use Rattle.std.proofs.lemmas.Bool.{or_parts, cases_Bool, and_from, not_from_false, and_parts, not-true}
+use Rattle.ud_model.specs.aids.SpacedBytes.{spaced}
+use Rattle.ud_model.specs.text.Bytes.{space, is_white, are_white}
 use Rattle.ud_model.specs.text.Lines.{Line, text_of}
 use Rattle.ud_model.specs.text.Scans.{Reading, is_spanning}
-use Rattle.ud_model.specs.text.Splicing.{is_spliced, content, is_empty}
+use Rattle.ud_model.specs.text.Splicing.{is_spliced, is_empty}
 use Rattle.ud_model.specs.text.Lexemes.{Cell, shown}
-use Rattle.ud_model.specs.text.Scanning.{content_cells, scan_after_run, scan_after}
-use Rattle.ud_model.specs.sections.Directives.{Content, directive, Directive, content_of}
+use Rattle.ud_model.specs.text.Scanning.{scan_after_run, scan_after}
+use Rattle.ud_model.specs.sections.Directives.{Content, directive, Directive, content_of, test_of}
 use Rattle.ud_model.specs.conditions.Table.{Argument}
 use Rattle.ud_model.specs.conditions.Expressions.{Expression, unary, binary, parens}
 use Rattle.ud_model.specs.conditions.Conditions.{Rules, tree_cond}
 use Rattle.ud_model.specs.aids.Residuals.{residual, is_unknown, is_undecided, keeps, is_unit, stands_alone, joined_flags}
 use Rattle.ud_simplified.specs.ResidualTexts.{simplified_cells, left_cells, is_literal, may_go, is_read, simplified_by}
 use Rattle.ud_model.specs.conditions.Parsing.{expression_of}
-use Rattle.ud_simplified.specs.SimplifiedTexts.{keyword_end, condition_cells, left_line, may_change, line_by, simplified_line, simplified_text, is_lone, left_cells_of, is_read_alone}
-use Rattle.ud_model.proofs.text.ScanBytes.{bytes-content_cells}
+use Rattle.ud_simplified.specs.SimplifiedTexts.{keyword_end, condition_cells, is_closing, text_cells, left_line, may_change, line_by, simplified_line, simplified_text, is_lone, left_cells_of, is_read_alone}
 use Rattle.ud_simplified.proofs.ResidualRead.{same_or_left, untouched, cells_go, written_left}
 use Rattle.ud_model.proofs.output.Each.{Pairs, no_pair, pair}
-use Rattle.ud_simplified.proofs.SimplifiedLines.{byte_of, option_is, after_is}
+use Rattle.ud_simplified.proofs.SimplifiedLines.{SameKind, byte_of, option_is, after_is, comment_left, condition_text, text_bytes, text_now}
 use Rattle.ud_simplified.proofs.SimplifiedLineTexts.{lines_left}
 use Rattle.ud_simplified.proofs.SimplifiedReadings.{IsLeft, ReadingSimplified, reading_stays, reading_edited, readings_simplified}
 use Rattle.std.specs.List.{list_any}
 use Rattle.ud_simplified.specs.Sublists.{IsSublist, nothing, without, with_same}
 use Rattle.ud_model.specs.aids.ReadAs.{read_in, read_as}
 use Rattle.ud_laws.specs.output.LeftOperands.{IsReduced, IsSimplified, joins_line, not_understood, has_quote, decided, rest_decided, rest_misread, HasNoUnit}
+use Rattle.ud_model.specs.declared.kind.Kind.{Kind}
+use Rattle.ud_model.specs.declared.kind.Test.TheVariants.{Nonzero, Nothing}
 use Rattle.ud_model.specs.declared.kind.Mode.TheVariants.{C}
 use Rattle.ud_model.proofs.text.ScanLaws.{unspliced}
 use Rattle.ud_laws.proofs.conditions.ResidualAgain.{residual_stays, AreTrue, fixed_true}
@@ -65,19 +68,15 @@ TrueOrFalse b = (b ≡ true) ⊎ (b ≡ false)
 
 module _ (table : List Argument) (rules : Rules) where
   -- A line of which all cells are left is the line.
-  whole_line : (l : Line) (d : Directive) → is_spliced l ≡ false → simplified_cells table rules (condition_cells l d) ≡ condition_cells l d → left_line table rules l d ≡ l
-  whole_line l d s e =
-      let c : content l ≡ l.body = ap (λ (b : Bool). if b then take (length l.body - 1) l.body else l.body) s in
-      let n : ℕ = keyword_end d in
+  whole_line : (l : Line) (d : Directive) → is_spliced l ≡ false → simplified_cells table rules (text_cells l d) ≡ text_cells l d → left_line table rules l d ≡ l
+  whole_line l d s e = let n : ℕ = keyword_end d in
       ap (λ (b : List ℕ). record { body = b; ending = l.ending; number = l.number })
-      (ap (λ (cells : List Cell). take n l.body ++ map byte_of cells) e
-      ∙ ap (λ (x : List ℕ). take n l.body ++ x)
-      (sym (drop-map byte_of n (content_cells [] l)) ∙ ap (λ (x : List ℕ). drop n x) (bytes-content_cells [] l ∙ c)) ∙ take-append-drop n l.body)
+      (ap (λ (cells : List Cell). take n l.body ++ map byte_of cells) e ∙ ap (λ (x : List ℕ). take n l.body ++ x) (text_bytes table rules l d s) ∙ take-append-drop n l.body)
 
   -- The line is edited to itself.
   module _ (r s : Reading) (d : Directive) (i : IsLeft table rules r s d) where
     abbrev cells_before : List Cell
-    cells_before = condition_cells r.line d
+    cells_before = text_cells r.line d
 
     same_line : left_line table rules r.line d ≡ r.line → simplified_line table rules s ≡ s.line
     same_line w = grind arith
@@ -95,10 +94,9 @@ module _ (table : List Argument) (rules : Rules) where
     left_again : (e : Expression) → expression_of (map shown (simplified_cells table rules cells_before)) ≡ Some (residual table rules e).tree →
         simplified_line table rules s ≡ s.line
     left_again e p = let now : Directive = i.edited.now in
-        let scanned : s.scan ≡ scan_after_run [] s.line = i.after ∙ ap (λ (k : Line). scan_after_run [] k) (sym i.line) in
-        let q : expression_of (map shown (condition_cells s.line now)) ≡ Some (residual table rules e).tree =
-        ap expression_of (after_is table rules s.line s.scan now scanned has_now ∙ i.edited.after) ∙ p in
-        let w = whole_line s.line now still_lone (residual_stays table rules e (condition_cells s.line now) q) in
+        let q : expression_of (map shown (text_cells s.line now)) ≡ Some (residual table rules e).tree =
+        ap (λ (k : Line). expression_of (map shown (text_cells k now))) i.line ∙ ap expression_of (text_now table rules r.line r.scan d i.edited) ∙ p in
+        let w = whole_line s.line now still_lone (residual_stays table rules e (text_cells s.line now) q) in
         ap (λ (c : Content). line_by table rules s.scan s.line c) has_now ∙ by (may_change table rules s.scan s.line now) w
       where
         by : (b : Bool) → left_line table rules s.line i.edited.now ≡ s.line → (if b then left_line table rules s.line i.edited.now else s.line) ≡ s.line
@@ -155,14 +153,16 @@ sub_same (with_same {y = y} p) e = ap (λ zs. y ∷ zs) (sub_same p (omega (arit
 is_some : {A : Type 0} {x y : A} → ◌≡◌ {A = Option A} (Some x) (Some y) → x ≡ y
 is_some e = cc
 
+not_closing : (k : Kind) → test_of k ≡ Nonzero → is_closing k ≡ false
+not_closing k e = grind arith
+
 module _ (table : List Argument) (rules : Rules) where
-  -- 2. If a line is edited to itself, all cells of its condition are left.
-  all_left : (l : Line) (d : Directive) → is_spliced l ≡ false → left_line table rules l d ≡ l → left_cells_of table rules l d ≡ condition_cells l d
+  -- 2. If a line is edited to itself, all cells of its text are left.
+  all_left : (l : Line) (d : Directive) → is_spliced l ≡ false → left_line table rules l d ≡ l → left_cells_of table rules l d ≡ text_cells l d
   all_left l d s e = let n : ℕ = keyword_end d in
       let left : List Cell = left_cells_of table rules l d in
-      let cells : List Cell = condition_cells l d in
-      let c : content l ≡ l.body = ap (λ (b : Bool). if b then take (length l.body - 1) l.body else l.body) s in
-      let k = ap (λ (x : List ℕ). drop n x) (sym (bytes-content_cells [] l ∙ c)) ∙ drop-map byte_of n (content_cells [] l) in
+      let cells : List Cell = text_cells l d in
+      let k = sym (text_bytes table rules l d s) in
       let a : length (take n l.body ++ map byte_of left) ≡ length l.body = ap (λ (x : Line). length x.body) e in
       let b = length-append (take n l.body) (map byte_of left) in
       let f = length-append (take n l.body) (drop n l.body) in
@@ -172,10 +172,13 @@ module _ (table : List Argument) (rules : Rules) where
       sub_same (cells_go table rules cells) (omega (arith, a, b, f, g, i, j))
 
   -- 3. A line that stays, whose condition may change.
-  module _ (r : Reading) (d : Directive) (has : content_of r.scan ≡ directive d) (same : simplified_line table rules r ≡ r.line)
+  module _ (r : Reading) (d : Directive) (has : content_of r.scan ≡ directive d) (value : test_of d.kind ≡ Nonzero) (same : simplified_line table rules r ≡ r.line)
       (alone : r.scan.joins_before ≡ false → r.scan ≡ scan_after [] C r.line) where
     abbrev cells : List Cell
     cells = condition_cells r.line d
+
+    cells_are : text_cells r.line d ≡ cells
+    cells_are = condition_text table rules r.line d (not_closing d.kind value)
 
     abbrev Reason : Type 0
     Reason = IsSimplified table rules r d
@@ -211,10 +214,10 @@ module _ (table : List Argument) (rules : Rules) where
           reduced q z =
               let a = all_left r.line d unspliced_line (same_now (and_from (is_lone r.scan r.line) (is_read_alone table rules r.line d) lone z)) in
               let b : left_cells_of table rules r.line d ≡ rest =
-              ap (λ o. simplified_by table rules o cells) tree_is
+              ap (simplified_cells table rules) cells_are ∙ ap (λ o. simplified_by table rules o cells) tree_is
               ∙ ap (λ (t : Bool). if t then rest else cells) (and_from (may_go table rules e cells) (is_read table rules e rest) g q) in
               let w = written_left table rules e cells tree_is rest q in
-              let f = is_some (sym w ∙ ap (λ (cs : List Cell). expression_of (map shown cs)) (sym b ∙ a) ∙ tree_is) in
+              let f = is_some (sym w ∙ ap (λ (cs : List Cell). expression_of (map shown cs)) (sym b ∙ a ∙ cells_are) ∙ tree_is) in
               fixed_reduced table rules e f (and_parts (is_unknown (residual table rules e).cond) (is_unknown (tree_cond (residual table rules e).tree table rules)) u).0
 
           by_line : is_read table rules e rest ≡ true → TrueOrFalse (is_read_alone table rules r.line d) → Reason
@@ -264,7 +267,56 @@ module _ (table : List Argument) (rules : Rules) where
   -- Each condition is reduced, or may stay.
   pub operands_left : (bytes : List ℕ) (before after : List Reading) (s : Reading) (d : Directive) →
       read_as C (simplified_text table rules bytes) ≡ before ++ s ∷ after → content_of s.scan ≡ directive d →
-      IsSimplified table rules s d
-  operands_left bytes before after s d e h =
+      test_of d.kind ≡ Nonzero → IsSimplified table rules s d
+  operands_left bytes before after s d e h v =
       let f = from (readings_simplified table rules bytes) before after s (ap (λ (ls : List Line). read_in C ls) (sym (lines_left table rules bytes)) ∙ e) in
-      reason s d h (line_stays table rules f.0 s f.1) (lone_scan f.0 s f.1)
+      reason s d h v (line_stays table rules f.0 s f.1) (lone_scan f.0 s f.1)
+
+-- `#else` and `#endif` lines: C reads the same.
+
+white_spaced : (bytes : List ℕ) → are_white bytes ≡ true → spaced true bytes ≡ []
+white_spaced [] e = refl
+white_spaced (b ∷ bytes) e = let p = and_parts (is_white b) (are_white bytes) e in
+    ap (λ (w : Bool). if w then spaced true bytes else (space ∷ b ∷ []) ++ spaced false bytes) p.0 ∙ white_spaced bytes p.1
+
+closing_kind : (k : Kind) → test_of k ≡ Nothing → is_closing k ≡ true
+closing_kind k e = grind arith
+
+same_closing : (j k : Kind) → SameKind j k → k ≡ j
+same_closing j k h = grind arith
+
+-- The line `s` has a directive of the kind of `d`, and C reads the same after the keyword.
+abbrev IsSameToC : Directive → Reading → Type 0
+IsSameToC d s = (e : Directive) × (content_of s.scan ≡ directive e) × (e.kind ≡ d.kind) × (spaced true e.after ≡ spaced true d.after)
+
+module _ (table : List Argument) (rules : Rules) where
+  closing_same : (r s : Reading) (d : Directive) → ReadingSimplified table rules r s → content_of r.scan ≡ directive d → test_of d.kind ≡ Nothing → IsSameToC d s
+  closing_same r s d (reading_stays e q h) has t = (d, ap (λ (x : Reading). content_of x.scan) q ∙ has, refl, refl)
+  closing_same r s d (reading_edited f i) has t =
+      let same : f ≡ d = cc (i.edited.has, has) in
+      let c = comment_left table rules r.line r.scan f i.edited (closing_kind f.kind (ap (λ (x : Directive). test_of x.kind) same ∙ t)) in (
+        i.edited.now,
+        ap content_of i.after ∙ i.edited.has_now,
+        same_closing f.kind i.edited.now.kind i.edited.kind ∙ ap (λ (x : Directive). x.kind) same,
+        white_spaced i.edited.now.after c.1 ∙ sym (white_spaced f.after c.0) ∙ ap (λ (x : Directive). spaced true x.after) same,
+      )
+
+  at_pair : {rs ss : List Reading} → Pairs (ReadingSimplified table rules) rs ss → (before after others more : List Reading) (r s : Reading) →
+      rs ≡ before ++ r ∷ after → ss ≡ others ++ s ∷ more → length others ≡ length before → ReadingSimplified table rules r s
+  at_pair no_pair [] after others more r s e f n = cc
+  at_pair no_pair (b ∷ before) after others more r s e f n = cc
+  at_pair (pair {x = a} {y = b} i p) [] after [] more r s e f n =
+      let x : a ≡ r = cc in
+      let y : b ≡ s = cc in subst (λ (q : Reading). ReadingSimplified table rules q s) x (subst (ReadingSimplified table rules a) y i)
+  at_pair (pair i p) [] after (o ∷ others) more r s e f n = absurd (omega (arith, n))
+  at_pair (pair i p) (b ∷ before) after [] more r s e f n = absurd (omega (arith, n))
+  at_pair (pair {xs = rs} {ys = ss} i p) (b ∷ before) after (o ∷ others) more r s e f n =
+      let x : rs ≡ before ++ r ∷ after = cc in
+      let y : ss ≡ others ++ s ∷ more = cc in at_pair p before after others more r s x y (omega (arith, n))
+
+  -- C reads these lines of the simplified text as before.
+  pub closings_same : (bytes : List ℕ) (before after others more : List Reading) (r s : Reading) (d : Directive) →
+      read_as C bytes ≡ before ++ r ∷ after → read_as C (simplified_text table rules bytes) ≡ others ++ s ∷ more → length others ≡ length before →
+      content_of r.scan ≡ directive d → test_of d.kind ≡ Nothing → IsSameToC d s
+  closings_same bytes before after others more r s d e f n has t =
+      closing_same r s d (at_pair (readings_simplified table rules bytes) before after others more r s e (ap (λ (ls : List Line). read_in C ls) (sym (lines_left table rules bytes)) ∙ f) n) has t

@@ -6,12 +6,12 @@ use Rattle.ud_model.specs.text.Scans.{Scan, Reading}
 use Rattle.ud_model.specs.text.Splicing.{is_spliced, spliced_text, spliced_part}
 use Rattle.ud_model.specs.text.Lexemes.{kind_at_end, Cell, shown}
 use Rattle.ud_model.specs.text.Scanning.{is_block, comment_at, scan_after_run}
-use Rattle.ud_model.specs.sections.Directives.{Directive, content_of, is_outside}
+use Rattle.ud_model.specs.sections.Directives.{Content, Directive, content_of, is_outside, role_of, test_of}
 use Rattle.ud_model.specs.aids.DirectiveParts.{HasDirective}
 use Rattle.ud_model.specs.conditions.Table.{Argument}
 use Rattle.ud_model.specs.conditions.Conditions.{Rules, Decision, undecided, decision_on, condition_of, expression_cond, tree_cond_if}
 use Rattle.ud_model.specs.sections.Tree.{Tree, Item, Nodes, Groups, Elifs, closed}
-use Rattle.ud_model.specs.sections.Items.{Options, reading_of, item_of, rules_of}
+use Rattle.ud_model.specs.sections.Items.{Options, reading_of, item_of, item_by, directive_item, rules_of}
 use Rattle.ud_model.specs.sections.Faults.{is_cut, is_in_block, ends_in_comment, end_by, last_number}
 use Rattle.ud_model.specs.laws.Pruned.{IsUndecided, IsUnknown, Any}
 use Rattle.ud_model.proofs.output.EachLines.{IsOf, to_items, from_items}
@@ -23,9 +23,10 @@ use Rattle.ud_laws.specs.answer.Successes.{copy_answer}
 use Rattle.ud_model.specs.laws.Rereading.{IsPlainC, IsTreeOf, LinesFit}
 use Rattle.ud_model.specs.aids.ReadAs.{read_as}
 use Rattle.ud_laws.proofs.output.NodesAlike.{nothing_alike, text_alike, section_alike, conditional_alike, otherwise_alike, first_alike, elif_alike}
-use Rattle.ud_simplified.specs.SimplifiedTexts.{condition_cells, simplified_line, simplified_under}
+use Rattle.ud_simplified.specs.SimplifiedTexts.{condition_cells, is_closing, simplified_line, simplified_under}
 use Rattle.ud_model.specs.declared.cond.Cond.TheVariants.{Unknown}
 use Rattle.ud_model.specs.declared.kind.Kind.{Kind}
+use Rattle.ud_model.specs.declared.kind.Test.TheVariants.{Nonzero}
 use Rattle.ud_model.specs.declared.kind.Mode.TheVariants.{C}
 use Rattle.ud_model.specs.declared.limits.TheConstants.{MAX_LINE_BYTES, MAX_LINES, MAX_DEPTH}
 use Rattle.ud_model.proofs.text.ScanLaws.{joins_after-code}
@@ -42,8 +43,8 @@ use Rattle.ud_laws.proofs.output.InsertedText.{items_are}
 use Rattle.ud_simplified.proofs.SimplifiedLineTexts.{lines_left, line_bytes}
 use Rattle.ud_laws.proofs.output.SimplifiedTree.{Like, GroupsLike, ElifsLike, simplified_tree}
 use Rattle.ud_laws.proofs.output.InsertedTree.{items}
-use Rattle.ud_simplified.proofs.SimplifiedLines.{SameIf, becomes, after_is}
-use Rattle.ud_simplified.proofs.SimplifiedReadings.{IsLeft, ReadingSimplified, readings_simplified}
+use Rattle.ud_simplified.proofs.SimplifiedLines.{SameKind, both_if, both_elif, both_else, both_endif, becomes, after_is, after_left}
+use Rattle.ud_simplified.proofs.SimplifiedReadings.{IsLeft, ReadingSimplified, reading_stays, reading_edited, readings_simplified}
 use Rattle.ud_laws.proofs.output.SimplifiedAgain.{lone, sub_fewer}
 use Rattle.ud_model.specs.conditions.Expressions.{Expression}
 use Rattle.ud_model.specs.conditions.Parsing.{expression_of}
@@ -104,10 +105,8 @@ module _ (table : List Argument) (rules : Rules) where
   calm_left : (r s : Reading) → ReadingSimplified table rules r s → is_in_block r.scan.comment ≡ false → is_in_block s.scan.comment ≡ false
   calm_left r s h g = grind (arith, out_of_comment)
 
-  cond_first : (j k : Kind) (after : List ℕ) → SameIf j k →
-      ((condition_of j after table rules).cond ≡ expression_cond after table rules) ×
-      ((condition_of k after table rules).cond ≡ expression_cond after table rules)
-  cond_first j k after h = grind arith
+  cond_first : (k : Kind) (after : List ℕ) → test_of k ≡ Nonzero → (condition_of k after table rules).cond ≡ expression_cond after table rules
+  cond_first k after h = grind arith
 
   -- The decision on a directive, by whether it is broken.
   abbrev decision_by : Scan → Directive → Bool → Decision
@@ -127,13 +126,13 @@ module _ (table : List Argument) (rules : Rules) where
       h.broken ∙ ap (λ (b : Bool). b && is_outside r.scan.comment) p
 
   -- The condition of an edited line stays unknown.
-  still_unknown : (r s : Reading) (d : Directive) (i : IsLeft table rules r s d) →
+  still_unknown : (r s : Reading) (d : Directive) (i : IsLeft table rules r s d) → test_of d.kind ≡ Nonzero → test_of i.edited.now.kind ≡ Nonzero → is_closing d.kind ≡ false →
       (decision_on r.scan d table rules).cond ≡ Unknown → (decision_on s.scan i.edited.now table rules).cond ≡ Unknown
-  still_unknown r s d i h = let now : Directive = i.edited.now in
-      let a = sym (cond_first d.kind now.kind d.after i.edited.kind).0 ∙ known_by r.scan d d.broken (unbroken r s d i) h in
+  still_unknown r s d i t u v h = let now : Directive = i.edited.now in
+      let a = sym (cond_first d.kind d.after t) ∙ known_by r.scan d d.broken (unbroken r s d i) h in
       let b = ap (λ (xs : List ℕ). expression_cond xs table rules) (after_is table rules r.line r.scan d i.before i.edited.has) ∙ a in
-      let c = ap (λ (xs : List ℕ). expression_cond xs table rules) i.edited.after ∙ left_unknown table rules (condition_cells r.line d) b in
-      unknown_by s.scan now now.broken ((cond_first d.kind now.kind now.after i.edited.kind).1 ∙ c)
+      let c = ap (λ (xs : List ℕ). expression_cond xs table rules) (after_left table rules r.line r.scan d i.edited v) ∙ left_unknown table rules (condition_cells r.line d) b in
+      unknown_by s.scan now now.broken (cond_first now.kind now.after u ∙ c)
 
 -- 3. The items of the simplified text.
 
@@ -141,8 +140,19 @@ module _ (o : Options) where
   abbrev Simplified : Reading → Reading → Type 0
   Simplified r s = ReadingSimplified o.table (rules_of o.settings) r s
 
+  open_by : (r s : Reading) {j k : Kind} (d e : Decision) → SameKind j k → (test_of j ≡ Nonzero → test_of k ≡ Nonzero → is_closing j ≡ false → d.cond ≡ Unknown → e.cond ≡ Unknown) →
+      IsOpen (directive_item r (role_of j) d) → IsOpen (directive_item s (role_of k) e)
+  open_by r s d e both_if f g = f refl refl refl g
+  open_by r s d e both_elif f g = f refl refl refl g
+  open_by r s d e both_else f g = tt
+  open_by r s d e both_endif f g = tt
+
   open_left : (r s : Reading) → Simplified r s → IsOpen (item_of o r) → IsOpen (item_of o s)
-  open_left r s h g = grind (arith, still_unknown)
+  open_left r s (reading_stays e q h) g = subst (λ (x : Reading). IsOpen (item_of o x)) (sym q) g
+  open_left r s (reading_edited d i) g =
+      subst (λ (c : Content). IsOpen (item_by o s c)) (sym (ap content_of i.after ∙ i.edited.has_now))
+      (open_by r s (decision_on r.scan d o.table (rules_of o.settings)) (decision_on s.scan i.edited.now o.table (rules_of o.settings)) i.edited.kind (still_unknown o.table (rules_of o.settings) r s d i)
+      (subst (λ (c : Content). IsOpen (item_by o r c)) i.edited.has g))
 
   -- A property of the lines is one of the items.
   of_reading : (P : Reading → Type 0) (r s : Reading) → (P r → P s) → P (reading_of (item_of o r)) → P (reading_of (item_of o s))

@@ -22,7 +22,7 @@ use Rattle.ud_laws.proofs.output.SimplifiedConditions.{LineSimplified, condition
 use Rattle.ud_model.specs.sections.Directives.{Content, directive, Directive, content_of, role_of}
 use Rattle.ud_model.specs.conditions.Conditions.{Decision, decision_on}
 use Rattle.ud_model.specs.declared.kind.Kind.{Kind}
-use Rattle.ud_simplified.proofs.SimplifiedLines.{SameIf, both_if, both_elif}
+use Rattle.ud_simplified.proofs.SimplifiedLines.{SameKind, both_if, both_elif, both_else, both_endif}
 
 -- A simplified text has the items of the text, line for line, with the residuals of their
 -- conditions.
@@ -36,8 +36,8 @@ module _ (o : Options) where
     a_text : {r : Reading} → ItemSimplified (text_line r) (text_line r)
     an_if : {p q : Opener Reading} → Simplified p.line q.line → ItemSimplified (if_line p) (if_line q)
     an_elif : {p q : Opener Reading} → Simplified p.line q.line → ItemSimplified (elif_line p) (elif_line q)
-    an_else : {r : Reading} → ItemSimplified (else_line r) (else_line r)
-    an_endif : {r : Reading} → ItemSimplified (endif_line r) (endif_line r)
+    an_else : {r s : Reading} → ItemSimplified (else_line r) (else_line s)
+    an_endif : {r s : Reading} → ItemSimplified (endif_line r) (endif_line s)
 
   same_item : (x : Item Reading) → ItemSimplified x x
   same_item (text_line r) = a_text
@@ -46,12 +46,14 @@ module _ (o : Options) where
   same_item (else_line r) = an_else
   same_item (endif_line r) = an_endif
 
-  by_kind : (r s : Reading) {j k : Kind} (d e : Decision) → SameIf j k → Simplified r s → ItemSimplified (directive_item r (role_of j) d) (directive_item s (role_of k) e)
+  by_kind : (r s : Reading) {j k : Kind} (d e : Decision) → SameKind j k → Simplified r s → ItemSimplified (directive_item r (role_of j) d) (directive_item s (role_of k) e)
   by_kind r s d e both_if g = an_if g
   by_kind r s d e both_elif g = an_elif g
+  by_kind r s d e both_else g = an_else
+  by_kind r s d e both_endif g = an_endif
 
   edited_item : (r s : Reading) (d e : Directive) → content_of r.scan ≡ directive d → content_of s.scan ≡ directive e →
-      SameIf d.kind e.kind → Simplified r s → ItemSimplified (item_of o r) (item_of o s)
+      SameKind d.kind e.kind → Simplified r s → ItemSimplified (item_of o r) (item_of o s)
   edited_item r s d e p q i j = subst (λ (c : Content). ItemSimplified (item_by o r c) (item_of o s)) (sym p)
       (subst (λ (c : Content). ItemSimplified (directive_item r (role_of d.kind) (decision_on r.scan d o.table (rules_of o.settings))) (item_by o s c)) (sym q)
       (by_kind r s (decision_on r.scan d o.table (rules_of o.settings)) (decision_on s.scan e o.table (rules_of o.settings)) i j))
@@ -90,10 +92,10 @@ module _ (o : Options) where
   text_goes r _ a_text = (r, refl, λ ns us n. text_alike n refl)
 
   endif_goes : (r : Reading) (z : Item Reading) → ItemSimplified o (endif_line r) z → EndifGoes Like GroupsLike ElifsLike r z
-  endif_goes r _ an_endif = (r, refl, λ ns us gs hs n g. section_alike n g)
+  endif_goes r _ (an_endif {s = s}) = (s, refl, λ ns us gs hs n g. section_alike n g)
 
   else_goes : (r : Reading) (z : Item Reading) → ItemSimplified o (else_line r) z → ElseGoes Like GroupsLike ElifsLike r z
-  else_goes r _ an_else = (r, refl, λ es fs ns us e n. otherwise_alike e n)
+  else_goes r _ (an_else {s = s}) = (s, refl, λ es fs ns us e n. otherwise_alike e n)
 
   if_goes : (p : Opener Reading) (z : Item Reading) → ItemSimplified o (if_line p) z → IfGoes Like GroupsLike ElifsLike p z
   if_goes p _ (an_if {q = q} k) = (q, refl, λ ns us n. first_alike k n)
