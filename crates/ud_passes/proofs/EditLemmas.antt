@@ -1,31 +1,29 @@
 -- Edited lines: the line that is edited, and the line that is read.
-use Rattle.std.proofs.Common.{◌≡◌, ℕ, ◌-◌, List, [], ◌++◌, length, map, take, drop, Bool, true, false, if◌then◌else◌, bytes_eq, refl, sym, ◌∙◌, ap, subst, ◌⊎◌, arith, take-append-drop}
-use Rattle.std.proofs.lemmas.List.{drop-map, take_all}
+use Rattle.std.proofs.Common.{◌≡◌, ℕ, ◌-◌, List, [], ◌++◌, length, map, take, drop, Bool, true, false, if◌then◌else◌, ◌&&◌, bytes_eq, refl, sym, ◌∙◌, ap, subst, ◌⊎◌, arith, take-append-drop}
+use Rattle.std.proofs.lemmas.List.{take_all}
 use Rattle.std.proofs.lemmas.Bool.{and_right}
 use Rattle.std.proofs.lemmas.Slice.Eq.{bytes_eq-Decides}
 use Rattle.ud_model.specs.text.Lines.{Line, NoNewline, IsWhole, text_of, ending_of, line_at, is_ending}
 use Rattle.ud_model.specs.text.Scans.{Scan, Reading}
-use Rattle.ud_model.specs.text.Splicing.{is_empty, content}
+use Rattle.ud_model.specs.text.Splicing.{is_empty}
 use Rattle.ud_model.specs.text.Lexemes.{Cell, shown}
-use Rattle.ud_model.specs.text.Scanning.{content_cells, scan_after_run}
-use Rattle.ud_model.specs.sections.Directives.{Content, directive, Directive, content_of}
+use Rattle.ud_model.specs.text.Scanning.{scan_after_run}
+use Rattle.ud_model.specs.sections.Directives.{Content, cut_keyword, directive, text, Directive, content_of}
 use Rattle.ud_model.specs.conditions.Table.{Argument}
 use Rattle.ud_model.specs.conditions.Conditions.{Rules}
 use Rattle.ud_simplified.specs.ResidualTexts.{simplified_cells}
-use Rattle.ud_simplified.specs.SimplifiedTexts.{keyword_end, condition_cells, same_if, has_condition, keeps_ending, is_lone, left_cells_of, left_line, is_read_alone, line_by, simplified_line}
+use Rattle.ud_simplified.specs.CommentTexts.{comment_cells}
+use Rattle.ud_simplified.specs.SimplifiedTexts.{keyword_end, condition_cells, is_closing, text_cells, same_kind, has_text, has_directive, keeps_ending, is_lone, left_cells_of, left_line, is_read_alone, line_by, simplified_line}
 use Rattle.ud_model.specs.declared.kind.Kind.{Kind}
-use Rattle.ud_model.proofs.text.ScanBytes.{bytes-content_cells}
-use Rattle.ud_model.proofs.text.LinesLemmas.{no_newline-append, text_of-line_at}
-use Rattle.ud_simplified.proofs.ResidualRead.{cells_go}
+use Rattle.ud_model.proofs.text.LinesLemmas.{text_of-line_at}
 use Rattle.ud_model.proofs.output.Formed.{IsEnd, ended}
-use Rattle.ud_simplified.proofs.SimplifiedLines.{after_is}
+use Rattle.ud_simplified.proofs.SimplifiedLines.{after_is, condition_text, text_bytes}
 use Rattle.ud_text.specs.lines.LinesState.{UpToNewline}
 use Rattle.ud_text.proofs.lemmas.lines.NewlineLemmas.{up_to_newline-once}
-use Rattle.ud_text.proofs.lemmas.scan.MaskLemmas.{no_newline-take, no_newline-drop}
 use Rattle.ud_passes.specs.pruning.Cells.{AreCells, byte_of}
-use Rattle.ud_passes.specs.pruning.EditedLines.{c_reading, IsScannedAlone, is_meant, IsCondition, line_if_read, IsEditedAt}
+use Rattle.ud_passes.specs.pruning.EditedLines.{c_reading, IsScannedAlone, is_meant, IsAlone, line_if_read, IsEditedAt}
 use Rattle.ud_model.proofs.text.ScanLaws.{unspliced}
-use Rattle.ud_simplified.proofs.SimplifiedLineTexts.{fewer, cut_there}
+use Rattle.ud_simplified.proofs.SimplifiedLineTexts.{edited_body, cut_there}
 
 -- 1. Sublists.
 
@@ -37,44 +35,52 @@ same_line a b p q r = grind arith
 
 -- 2. Other directives.
 
-no_condition : (k : Kind) (after : List ℕ) (c : Content) → same_if k k ≡ false → has_condition k after c ≡ false
-no_condition k after c e = grind arith
+other_kind : (j k : Kind) → same_kind j j ≡ false → same_kind j k ≡ false
+other_kind j k e = grind arith
+
+no_directive : (d : Directive) (bytes : List ℕ) (k : Line) (c : Content) → same_kind d.kind d.kind ≡ false → has_directive d bytes k c ≡ false
+no_directive d bytes k cut_keyword e = refl
+no_directive d bytes k text e = refl
+no_directive d bytes k (directive f) e = ap (λ (b : Bool). b && has_text bytes k d f) (other_kind d.kind f.kind e)
 
 module _ (table : List Argument) (rules : Rules) (l : Line) where
   -- A directive of another kind stays.
-  pub other_stays : (scan : Scan) (d : Directive) → same_if d.kind d.kind ≡ false → line_by table rules scan l (directive d) ≡ l
-  other_stays scan d e = grind (arith, and_right, no_condition)
+  pub other_stays : (scan : Scan) (d : Directive) → same_kind d.kind d.kind ≡ false → line_by table rules scan l (directive d) ≡ l
+  other_stays scan d e = grind (arith, and_right, no_directive)
 
--- 3. A line with a condition.
+-- 3. A line with a directive.
 
-module _ (table : List Argument) (rules : Rules) (l : Line) (d : Directive) (i : IsCondition l d) where
-  body_is : content l ≡ l.body
-  body_is = grind (arith, unspliced)
+module _ (table : List Argument) (rules : Rules) (l : Line) (d : Directive) (i : IsAlone l d) where
+  bytes_after_are : map byte_of (text_cells l d) ≡ drop (keyword_end d) l.body
+  bytes_after_are = text_bytes table rules l d (unspliced l i.lone)
 
-  pub cells_are : AreCells (condition_cells l d) (drop (keyword_end d) l.body) d.after
-  cells_are = record {
-    bytes_are = sym (drop-map byte_of (keyword_end d) (content_cells [] l)) ∙ ap (λ (x : List ℕ). drop (keyword_end d) x) (bytes-content_cells [] l ∙ body_is);
-    shown_are = after_is table rules l (scan_after_run [] l) d refl i.has;
-  }
+  pub cells_are : {text : List ℕ} → map shown (text_cells l d) ≡ text → AreCells (text_cells l d) (drop (keyword_end d) l.body) text
+  cells_are e = record { bytes_are = bytes_after_are; shown_are = e }
+
+  -- The text of a condition comes after the keyword.
+  pub condition_shown : is_closing d.kind ≡ false → map shown (text_cells l d) ≡ d.after
+  condition_shown e = ap (map shown) (condition_text table rules l d e) ∙ after_is table rules l (scan_after_run [] l) d refl i.has
 
   same_either : (b : Bool) (k : Line) → text_of k ≡ text_of l → text_of (if b then k else l) ≡ text_of l
   same_either b k e = grind arith
 
   -- If all cells are left, the line stays.
-  pub all_left : simplified_cells table rules (condition_cells l d) ≡ condition_cells l d → text_of (line_if_read table rules l d) ≡ text_of l
+  pub all_left : simplified_cells table rules (text_cells l d) ≡ text_cells l d → text_of (line_if_read table rules l d) ≡ text_of l
   all_left e = let n : ℕ = keyword_end d in
       let whole : (left_line table rules l d).body ≡ l.body =
-      ap (λ (cells : List Cell). take n l.body ++ map byte_of cells) e ∙ ap (λ (x : List ℕ). take n l.body ++ x) cells_are.bytes_are ∙ take-append-drop n l.body in
+      ap (λ (cells : List Cell). take n l.body ++ map byte_of cells) e ∙ ap (λ (x : List ℕ). take n l.body ++ x) bytes_after_are ∙ take-append-drop n l.body in
       same_either (is_read_alone table rules l d) (left_line table rules l d) (ap (λ (x : List ℕ). x ++ l.ending) whole)
 
   abbrev k : Line
   k = left_line table rules l d
 
+  -- The text of a comment.
+  pub comment_shown : is_closing d.kind ≡ true → map shown (text_cells l d) ≡ map shown (comment_cells (drop (keyword_end d) l.body))
+  comment_shown e = ap (λ (b : Bool). map shown (if b then comment_cells (drop (keyword_end d) l.body) else condition_cells l d)) e
+
   module _ (no : NoNewline l.body) (end : IsEnd l.ending) (bytes : List ℕ) (bytes_are : bytes ≡ text_of k) where
     no_newline : NoNewline k.body
-    no_newline =
-        no_newline-append (take (keyword_end d) l.body) (map byte_of (left_cells_of table rules l d)) (no_newline-take (keyword_end d) l.body no)
-        (fewer (cells_go table rules (condition_cells l d)) (subst NoNewline (sym cells_are.bytes_are) (no_newline-drop (keyword_end d) l.body no)))
+    no_newline = edited_body table rules l d no
 
     whole : IsWhole bytes
     whole = subst IsWhole (sym bytes_are) (ended k.body l.ending no_newline end)
@@ -117,7 +123,7 @@ module _ (table : List Argument) (rules : Rules) (l : Line) (d : Directive) (i :
         same_bytes f = grind (arith, bytes_eq-Decides, same_either, e_is)
 
         -- Other bytes, if they are read so.
-        pub edited_if : bytes_eq e.body l.body ≡ false → (b : Bool) → b ≡ is_meant d.kind (map shown (left_cells_of table rules l d)) (scan_after_run [] e) → IsEditedAt table rules l d b bytes
+        pub edited_if : bytes_eq e.body l.body ≡ false → (b : Bool) → b ≡ is_meant d (map shown (left_cells_of table rules l d)) e (scan_after_run [] e) → IsEditedAt table rules l d b bytes
         edited_if f b m = grind (arith, e_is, keeps, same_cut, read_text, bytes_eq-Decides)
 
 -- 4. A line that joins no other one.
@@ -137,8 +143,8 @@ module _ (table : List Argument) (rules : Rules) (l : Line) (scan : Scan) where
   joins_by h = grind arith
 
   module _ (d : Directive) (alone : IsScannedAlone scan l) (before : scan.joins_before ≡ false) (after : scan.joins_after ≡ false) (some : is_empty l.ending ≡ false) (h : content_of scan ≡ directive d) where
-    pub condition_is : IsCondition l d
-    condition_is = grind arith
+    pub alone_is : IsAlone l d
+    alone_is = grind arith
 
     pub simplified_is : simplified_line table rules r ≡ line_if_read table rules l d
     simplified_is = grind arith

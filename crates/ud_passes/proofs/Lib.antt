@@ -27,6 +27,7 @@ pub mod CellLemmas
 pub mod TokenLists
 pub mod LeftLemmas
 pub mod QuoteLemmas
+pub mod CommentLemmas
 pub mod EditLemmas
 pub mod PassLemmas
 pub mod FitLemmas

@@ -1,18 +1,21 @@
 -- Quotes: a part of a line has a literal exactly if a quote is shown in it.
-use Rattle.std.proofs.Common.{◌≡◌, ℕ, zero, suc, List, [], ◌∷◌, ◌++◌, length, map, take, drop, Bool, true, false, ◌||◌, refl, sym, ◌∙◌, ap, arith}
+use Rattle.std.proofs.Common.{◌≡◌, ℕ, zero, suc, List, [], ◌∷◌, ◌++◌, length, map, take, drop, Bool, true, false, ◌||◌, if◌then◌else◌, refl, sym, ◌∙◌, ap, ap₂, arith}
 use Rattle.std.specs.List.{list_any}
 use Rattle.std.proofs.lemmas.Bool.{or_parts, and_parts}
 use Rattle.ud_model.specs.text.Bytes.{is_quote, is_white, are_white, is_word_byte, are_word_bytes}
-use Rattle.ud_model.specs.text.Lexemes.{LexemeKind, block_comment, line_comment, literal, single, Cell, shown, shown_as, lexeme_at, lex_from, lex}
+use Rattle.std.proofs.lemmas.List.{map-append}
+use Rattle.std.proofs.lemmas.List.Folds.{list_any-append}
+use Rattle.ud_model.specs.text.Lexemes.{LexemeKind, block_comment, line_comment, literal, single, Cell, cells_in, shown, shown_as, lexeme_at, lex_from, lex}
 use Rattle.ud_model.specs.text.Lines.{Line}
 use Rattle.ud_model.specs.text.Scans.{Scan}
 use Rattle.ud_model.specs.text.Splicing.{content, spliced_part}
-use Rattle.ud_model.specs.text.Scanning.{content_cells, scan_after}
+use Rattle.ud_model.specs.text.Scanning.{content_cells, scan_after_run, scan_after}
 use Rattle.ud_model.specs.sections.Directives.{Directive, directive, content_of}
 use Rattle.ud_model.specs.conditions.Table.{Argument}
 use Rattle.ud_model.specs.conditions.Conditions.{Rules}
 use Rattle.ud_simplified.specs.ResidualTexts.{is_literal}
-use Rattle.ud_simplified.specs.SimplifiedTexts.{keyword_end, condition_cells}
+use Rattle.ud_simplified.specs.CommentTexts.{has_lone_comment, text_at, text_len, text_line, cells_around, comment_cells}
+use Rattle.ud_simplified.specs.SimplifiedTexts.{keyword_end, condition_cells, is_closing, text_cells}
 use Rattle.ud_model.specs.declared.kind.Mode.TheVariants.{C}
 use Rattle.ud_model.proofs.text.ScanBytes.{masked-content_cells}
 use Rattle.ud_model.proofs.sections.SplitLines.{directive_is}
@@ -145,3 +148,57 @@ module _ (table : List Argument) (rules : Rules) (l : Line) (scan : Scan) (d : D
   -- A quote after the keyword begins a literal there.
   pub a_literal : list_any is_quote d.after ≡ true → list_any is_literal (condition_cells l d) ≡ true
   a_literal e = grind (arith, quote_shown, quiet_drop, quiet_take, quiet_lex, after_is)
+
+-- 4. A text that may be edited has a literal exactly if a quote is shown in it.
+
+module _ (cells : List Cell) where
+  abbrev pub SameQuotes : Type 0
+  SameQuotes = list_any is_literal cells ≡ list_any is_quote (map shown cells)
+
+  by_quotes : (list_any is_quote (map shown cells) ≡ true → list_any is_literal cells ≡ true) →
+      (list_any is_quote (map shown cells) ≡ false → list_any is_literal cells ≡ false) → SameQuotes
+  by_quotes f g = grind arith
+
+both_same : (xs ys : List Cell) → SameQuotes xs → SameQuotes ys → SameQuotes (xs ++ ys)
+both_same xs ys p q = list_any-append is_literal xs ys ∙ ap₂ (λ (a b : Bool). a || b) p q ∙ sym (list_any-append is_quote (map shown xs) (map shown ys))
+    ∙ ap (list_any is_quote) (sym (map-append shown xs ys))
+
+comment_same : (bytes : List ℕ) → SameQuotes (cells_in block_comment bytes)
+comment_same [] = refl
+comment_same (b ∷ bytes) = comment_same bytes
+
+read_same : (l : Line) → SameQuotes (content_cells [] l)
+read_same l = by_quotes (content_cells [] l) (quote_shown (content_cells [] l) (quiet_take (length (content l)) (lex (spliced_part l)) (quiet_lex (spliced_part l)))) (none_lex (length (content l)) (spliced_part l))
+
+around_same : (n m : ℕ) (bytes : List ℕ) → SameQuotes (cells_around n m bytes)
+around_same n m bytes = by (scan_after_run [] (text_line (take m (drop n bytes)))).joins_after
+  where
+    front : List Cell
+    front = cells_in block_comment (take n bytes)
+
+    read : List Cell
+    read = content_cells [] (text_line (take m (drop n bytes)))
+
+    by : (b : Bool) → SameQuotes (if b then cells_in block_comment bytes else (front ++ read) ++ cells_in block_comment (drop m (drop n bytes)))
+    by true = comment_same bytes
+    by false = both_same (front ++ read) (cells_in block_comment (drop m (drop n bytes)))
+        (both_same front read (comment_same (take n bytes)) (read_same (text_line (take m (drop n bytes))))) (comment_same (drop m (drop n bytes)))
+
+comment_text_same : (bytes : List ℕ) → SameQuotes (comment_cells bytes)
+unfolding comment_cells
+comment_text_same bytes = by (has_lone_comment bytes)
+  where
+    by : (b : Bool) → SameQuotes (if b then cells_around (text_at bytes) (text_len bytes) bytes else cells_in block_comment bytes)
+    by true = around_same (text_at bytes) (text_len bytes) bytes
+    by false = comment_same bytes
+
+pub same_quotes : (table : List Argument) (rules : Rules) (l : Line) (d : Directive) → content_of (scan_after [] C l) ≡ directive d → SameQuotes (text_cells l d)
+same_quotes table rules l d h = by (is_closing d.kind)
+  where
+    after : map shown (condition_cells l d) ≡ d.after
+    after = after_is table rules l (scan_after [] C l) d refl h
+
+    by : (b : Bool) → SameQuotes (if b then comment_cells (drop (keyword_end d) l.body) else condition_cells l d)
+    by true = comment_text_same (drop (keyword_end d) l.body)
+    by false = by_quotes (condition_cells l d) (λ e. a_literal table rules l (scan_after [] C l) d refl h (ap (list_any is_quote) (sym after) ∙ e))
+        (λ e. no_literal table rules l (scan_after [] C l) d refl h (ap (list_any is_quote) (sym after) ∙ e))

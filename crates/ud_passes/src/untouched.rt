@@ -1,5 +1,5 @@
 //! Texts that `fold` and `prune` leave as they are: no directive goes on to another line, and no
-//! condition is edited. Most files are such texts, and then nothing has to be copied.
+//! line is edited. Most files are such texts, and then nothing has to be copied.
 
 ghost use Rattle.std.specs.Prelude.{◌≡◌, ◌<◌, ◌≤◌, ◌∷◌, ◌++◌, List, [], length, true, IfOk};
 ghost use Rattle.std.specs.Prelude.{OnOk};
@@ -74,8 +74,7 @@ fn step(
     }
 }
 
-/// Returns whether a text is known to be its own folded text, and to have no condition with
-/// operands that the symbols decide.
+/// Returns whether a text is known to be its own folded text, and its own pruned text.
 ///
 /// `text` may have any length and any bytes, and is read in C mode.
 ///

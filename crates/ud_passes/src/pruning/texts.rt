@@ -27,7 +27,7 @@ use ud_text::LineStore;
 pub struct Pruned {
     /// The text.
     pub text: Vec<u8>,
-    /// The number of conditions that were edited.
+    /// The number of lines that were edited.
     pub edited: usize,
 }
 

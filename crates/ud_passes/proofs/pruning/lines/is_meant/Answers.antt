@@ -1,25 +1,33 @@
 -- By the scan of the line alone.
-use Rattle.std.proofs.Common.{◌≡◌, ℕ, List, [], true, not, ◌&&◌, Bool, false, sym, ◌∙◌, ap}
+use Rattle.std.proofs.Common.{◌≡◌, ℕ, List, [], length, arith, not, ◌&&◌, Bool, true, false, sym, ◌∙◌, ap}
+use Rattle.ud_model.specs.text.Lines.{Line}
 use Rattle.ud_model.specs.text.Scans.{Scan}
-use Rattle.ud_model.specs.sections.Directives.{content_of}
-use Rattle.ud_model.specs.aids.LineViews.{as_scan}
-use Rattle.ud_simplified.specs.SimplifiedTexts.{has_condition}
-use Rattle.ud_model.specs.declared.kind.Kind.{Kind}
+use Rattle.ud_model.specs.sections.Directives.{Directive, content_of}
+use Rattle.ud_model.specs.aids.LineViews.{as_line, as_scan}
+use Rattle.ud_simplified.specs.SimplifiedTexts.{has_directive}
+use Rattle.ud_sections.specs.directives.ParsedDirectives.{as_directive}
 use Rattle.ud_passes.specs.pruning.EditedLines.{is_meant}
+use Rattle.ud_passes.proofs.CellLemmas.{if_ok}
 use Rattle.ud_passes.proofs.pruning.lines.is_meant.Goals as goal
 
-joined : (kind : Kind) (text : List ℕ) (s : Scan) → s.joins_after ≡ true → false ≡ is_meant kind text s
-joined kind text s e = ap (λ (b : Bool). not b && has_condition kind text (content_of s)) (sym e)
+joined : (d : Directive) (bytes : List ℕ) (k : Line) (s : Scan) → s.joins_after ≡ true → false ≡ is_meant d bytes k s
+joined d bytes k s e = ap (λ (b : Bool). not b && has_directive d bytes k (content_of s)) (sym e)
 
-alone : (kind : Kind) (text : List ℕ) (s : Scan) → s.joins_after ≡ false → has_condition kind text (content_of s) ≡ is_meant kind text s
-alone kind text s e = ap (λ (b : Bool). not b && has_condition kind text (content_of s)) (sym e)
+alone : (d : Directive) (bytes : List ℕ) (k : Line) (s : Scan) → s.joins_after ≡ false → has_directive d bytes k (content_of s) ≡ is_meant d bytes k s
+alone d bytes k s e = ap (λ (b : Bool). not b && has_directive d bytes k (content_of s)) (sym e)
 
 pub returns-then-scan : goal.returns-then-scan
-returns-then-scan c =
-    joined c.args.kind c.args.text.now (as_scan c.read_into-scan.result) c.if-scan.true ∙ ap (is_meant c.args.kind c.args.text.now) (c.read_into-scan.ensures.value [] c.bare-scanner.ensures)
+returns-then-scan c = let d : Directive = as_directive c.args.found.now in
+    let k : Line = as_line c.args.line.now in
+    joined d c.args.text.now k (as_scan c.read_into-scan.result) c.if-scan.true ∙ ap (is_meant d c.args.text.now k) (c.read_into-scan.ensures.value [] c.bare-scanner.ensures)
 
 pub returns : goal.returns
-returns c =
-    c.is_condition.ensures ∙ ap (has_condition c.args.kind c.args.text.now) c.directive.ensures.value
-    ∙ alone c.args.kind c.args.text.now (as_scan c.read_into-scan.result) c.if-scan.false
-    ∙ ap (is_meant c.args.kind c.args.text.now) (c.read_into-scan.ensures.value [] c.bare-scanner.ensures)
+returns c = let d : Directive = as_directive c.args.found.now in
+    let k : Line = as_line c.args.line.now in
+    if_ok c.is_directive.result c.is_directive.ensures (λ _ e. e ∙ ap (has_directive d c.args.text.now k) c.directive.ensures.value
+    ∙ alone d c.args.text.now k (as_scan c.read_into-scan.result) c.if-scan.false ∙ ap (is_meant d c.args.text.now k) (c.read_into-scan.ensures.value [] c.bare-scanner.ensures))
+
+pub is_directive-requires-clause-within : goal.is_directive-requires-clause-within
+is_directive-requires-clause-within c = let n : ℕ = length c.read_into-scan.result.masked.now in
+    let m = c.read_into-scan.ensures.fits in
+    let b = c.requires.fits in (n, omega (arith, m, b), c.directive.ensures.keyword_within)
