@@ -167,7 +167,7 @@ void unifdef_close(struct unifdef_stream *stream);
  * and its length to size, which may not be null. It is never longer than the text. unifdef(3) says
  * which conditions stay.
  *
- * Returns 1 if a condition was edited and 0 if none was, or UNIFDEF_TOO_SMALL if output_len is less
+ * Returns 1 if a line was edited and 0 if none was, or UNIFDEF_TOO_SMALL if output_len is less
  * than size; then the bytes that fit are written. An error is negative, and nothing is written.
  */
 int unifdef_prune(const char *words, size_t words_len,

@@ -83,6 +83,43 @@ test_pruned_openers() {
   prunes 1 '#ifdef A\n1\n#elif X\n#endif\n' '-b -UA' '\n\n#if X\n#endif\n'
 }
 
+# The comment of an #else or #endif, which -p reads as a condition.
+test_pruned_comments() {
+  local text='#if X\n#endif /* VMS || UNIX */\n'
+  fresh
+  prunes 1 "$text" -UVMS '#if X\n#endif /* UNIX */\n'
+  says_only '1 changed, 0 unchanged, 0 faulty' '1 condition edited' 'no condition names VMS'
+  after '0 -p -q -UVMS src' is src/a.c '#if X\n#endif /* UNIX */\n'
+  put src/a.c "$text"
+  after '0 -q -UVMS src' is src/a.c "$text"
+  after '0 -r -q -UVMS src' prints 'src/a.c:2: a comment names it: #endif /* VMS || UNIX */'
+  prunes 1 '#ifdef X\r\n#else // !VMS && X\r\n#endif/*VMS||X*/ \t\r\n' -UVMS \
+    '#ifdef X\r\n#else // X\r\n#endif/*X*/ \t\r\n'
+  prunes 1 '#if X\n#endif /* VMS || X//*/\n' -UVMS '#if X\n#endif /* X//*/\n'
+  prunes 1 '#if X\n#endif /* VMS ||\n X */\n' -UVMS '#if X\n#endif /* X */\n'
+  prunes 1 '#if X\n#endif // Y && (1 || X) && Z\n' '-k -DY' '#if X\n#endif // Z\n'
+  # It is decided or not understood, another comment or anything else follows, or a comment is open.
+  cat > src/a.c << 'EOT'
+#if X
+#else /* VMS */
+#endif /* see VMS */
+#if X
+#else /* VMS || X */ /* y */
+#endif /* VMS || X /* y */
+#if X
+#else /* VMS || X */ y
+#endif // VMS || X \
+EOT
+  cp src/a.c was
+  after '0 -p -r -q -UVMS src' holds_that cmp was src/a.c
+  prints 'src/a.c:2: a comment names it: #else /* VMS */
+src/a.c:3: a comment names it: #endif /* see VMS */
+src/a.c:5: a comment names it: #else /* VMS || X */ /* y */
+src/a.c:6: a comment names it: #endif /* VMS || X /* y */
+src/a.c:8: a comment names it: #else /* VMS || X */ y
+src/a.c:9: a comment names it: #endif // VMS || X \'
+}
+
 # Options that say how conditions are decided, and those that -p refuses.
 test_pruned_by_options() {
   local words

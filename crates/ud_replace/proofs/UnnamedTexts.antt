@@ -1,12 +1,12 @@
 -- Texts without a symbol's name: unless constants are decided, nothing of them is pruned, and a run
 -- copies them. So it is with their folded texts.
-use Rattle.std.proofs.Common.{◌≡◌, ℕ, suc, List, [], ◌∷◌, ◌++◌, ◌-◌, length, map, take, drop, take-append-drop, Bool, true, false, not, ◌||◌, if◌then◌else◌, None, refl, sym, ◌∙◌, ap, ap₂, subst, arith, append_assoc}
+use Rattle.std.proofs.Common.{◌≡◌, ℕ, suc, List, [], ◌∷◌, ◌++◌, ◌-◌, length, map, take, drop, take-append-drop, Bool, true, false, not, ◌||◌, if◌then◌else◌, None, refl, sym, ◌∙◌, ap, ap₂, subst, arith, append_assoc, append-nil}
 use Rattle.std.specs.List.{concat, flat_map}
-use Rattle.std.proofs.lemmas.Bool.{or_parts}
-use Rattle.std.proofs.lemmas.List.{map-append, drop-map}
+use Rattle.std.proofs.lemmas.Bool.{and_parts, or_parts}
+use Rattle.std.proofs.lemmas.List.{map-append}
 use Rattle.std.proofs.lemmas.Simd.{map-map}
 use Rattle.std.proofs.lemmas.Slice.Eq.{bytes_eq-Decides}
-use Rattle.ud_model.specs.text.Bytes.{space, is_word_byte, leading_word}
+use Rattle.ud_model.specs.text.Bytes.{is_word_byte, are_word_bytes, leading_word}
 use Rattle.ud_model.specs.text.Lines.{Line, text_of, line_at, numbered_from, texts_of, lines_of}
 use Rattle.ud_model.specs.text.Lexemes.{LexemeKind, block_comment, line_comment, literal, single, Cell, shown, shown_as}
 use Rattle.ud_model.specs.text.Splicing.{is_spliced, content, c_run_of, spliced_text, spliced_part}
@@ -31,6 +31,7 @@ use Rattle.ud_model.specs.answer.Outcomes.ReadsAs.{stops, ends}
 use Rattle.ud_model.specs.laws.Pruned.{IsUndecided, IsUnknown, Any}
 use Rattle.ud_model.specs.declared.settings.Listing.{Listing}
 use Rattle.ud_model.specs.declared.settings.Listing.TheVariants.{Off}
+use Rattle.ud_model.proofs.text.ByteLemmas.{leading_word-word}
 use Rattle.ud_model.proofs.text.LinesLemmas.{lines_exist, text_of-line_at}
 use Rattle.ud_model.proofs.text.ScanBytes.{bytes-content_cells, masked-content_cells, content-prefix, scan_after-same}
 use Rattle.ud_model.proofs.text.ScanLaws.{joins_after-code, read_more}
@@ -45,9 +46,9 @@ use Rattle.ud_model.proofs.output.Heeding.{Heeds, tree_heeds}
 use Rattle.ud_model.proofs.output.Sizes.{whole}
 use Rattle.ud_model.proofs.output.RereadLaws.{whole_pieces}
 use Rattle.ud_model.proofs.output.Undecided.{undecided_stay}
-use Rattle.ud_simplified.specs.FoldedTexts.{has_tab, folded_line, is_foldable, shown_break, shown_lines, logical_lines, folded_lines, folded_text, folded_readings, unnumbered}
-use Rattle.ud_simplified.specs.SimplifiedTexts.{keyword_end, left_line, may_change, line_by, simplified_line}
-use Rattle.ud_simplified.proofs.FoldedLines.{folded_shown}
+use Rattle.ud_simplified.specs.FoldedTexts.{has_tab, folded_body, folded_line, is_foldable, logical_lines, folded_lines, folded_text, folded_readings, unnumbered}
+use Rattle.ud_simplified.specs.SimplifiedTexts.{keyword_end, text_cells, left_line, may_change, line_by, simplified_line}
+use Rattle.ud_simplified.proofs.SimplifiedLines.{text_bytes}
 use Rattle.ud_simplified.proofs.FoldedReadings.{all_there, readings_folded}
 use Rattle.ud_cond.specs.symbols.SymbolTable.{LacksNames}
 use Rattle.ud_passes.specs.Passes.{fits}
@@ -74,38 +75,54 @@ kept (c ∷ cells) rest = by (is_word_byte (shown c)) refl (kept cells rest)
     by true w (after, e) = (after, ap₂ (λ (y : ℕ) (l : List ℕ). y ∷ l) (word_shown c.kind c.byte w) e)
     by false w more = (c.byte ∷ (map (λ (c : Cell). c.byte) cells ++ rest), refl)
 
--- A word ends before another byte.
-word_before : (t more : List ℕ) (c : ℕ) → is_word_byte c ≡ false → leading_word (t ++ c ∷ more) ≡ leading_word t
-word_before [] more c e = grind arith
-word_before (b ∷ bs) more c e = grind (arith, word_before bs more c e)
+-- Word bytes before another byte come from the bytes before it.
+word_in : (name after xs more : List ℕ) (c : ℕ) → are_word_bytes name ≡ true → is_word_byte c ≡ false → name ++ after ≡ xs ++ c ∷ more → (rest : List ℕ) × (xs ≡ name ++ rest)
+word_in [] after xs more c w e q = (xs, refl)
+word_in (b ∷ name) after [] more c w e q = let f : b ≡ c = cc in absurd (cc ((and_parts (is_word_byte b) (are_word_bytes name) w).0, ap is_word_byte f, e))
+word_in (b ∷ name) after (x ∷ xs) more c w e q = let f : b ≡ x = cc in
+    let r = word_in name after xs more c (and_parts (is_word_byte b) (are_word_bytes name) w).1 e cc in
+    (r.0, ap₂ (λ (y : ℕ) (l : List ℕ). y ∷ l) (sym f) r.1)
 
 module _ (table : List Argument) where
-  cells_unnamed : (cells : List Cell) (rest : List ℕ) → LacksNames table (map (λ (c : Cell). c.byte) cells ++ rest) → Unnamed table (map shown cells)
-  cells_unnamed [] rest h = tt
-  cells_unnamed (c ∷ cells) rest h = let k = kept (c ∷ cells) rest in
-      (λ w. h [] (leading_word (map shown (c ∷ cells))) k.0 k.1, cells_unnamed cells rest (λ p n s e. h (c.byte ∷ p) n s (ap (λ (l : List ℕ). c.byte ∷ l) e)))
+  -- No word bytes of the text are a name.
+  abbrev pub LacksWords : List ℕ → Type 0
+  LacksWords t = (before name after : List ℕ) → t ≡ before ++ (name ++ after) → are_word_bytes name ≡ true → entry_in table name ≡ None
 
-  line_unnamed : (before : List Reading) (l : Line) → LacksNames table l.body → Unnamed table (scan_after before C l).masked
+  prefix_lacks : (xs more : List ℕ) → LacksWords (xs ++ more) → LacksWords xs
+  prefix_lacks xs more h = λ p n s e. h p n (s ++ more) (ap (λ (l : List ℕ). l ++ more) e ∙ append_assoc p (n ++ s) more ∙ ap (λ (l : List ℕ). p ++ l) (append_assoc n s more))
+
+  suffix_lacks : (xs more : List ℕ) → LacksWords (xs ++ more) → LacksWords more
+  suffix_lacks xs more h = λ p n s e. h (xs ++ p) n s (ap (λ (l : List ℕ). xs ++ l) e ∙ sym (append_assoc xs p (n ++ s)))
+
+  seam : (xs more : List ℕ) (c : ℕ) → is_word_byte c ≡ false → LacksWords xs → LacksWords more → LacksWords (xs ++ c ∷ more)
+  seam xs more c e h k [] n s q w = let r = word_in n s xs more c w e (sym q) in h [] n r.0 r.1 w
+  seam [] more c e h k (b ∷ p) n s q w = k p n s (cc) w
+  seam (x ∷ xs) more c e h k (b ∷ p) n s q w = seam xs more c e (suffix_lacks (x ∷ []) xs h) k p n s (cc) w
+
+  cells_unnamed : (cells : List Cell) (rest : List ℕ) → LacksWords (map (λ (c : Cell). c.byte) cells ++ rest) → Unnamed table (map shown cells)
+  cells_unnamed [] rest h = tt
+  cells_unnamed (c ∷ cells) rest h = let k = kept (c ∷ cells) rest in (
+    λ w. h [] (leading_word (map shown (c ∷ cells))) k.0 k.1 (leading_word-word (map shown (c ∷ cells))),
+    cells_unnamed cells rest (λ p n s e. h (c.byte ∷ p) n s (ap (λ (l : List ℕ). c.byte ∷ l) e)),
+  )
+
+  line_unnamed : (before : List Reading) (l : Line) → LacksWords l.body → Unnamed table (scan_after before C l).masked
   line_unnamed before l h = let p = content-prefix l in
       subst (Unnamed table) (sym (masked-content_cells before l)) (cells_unnamed (content_cells (c_run_of before) l) p.0
-      (subst (LacksNames table) (p.1 ∙ ap (λ (x : List ℕ). x ++ p.0) (sym (bytes-content_cells (c_run_of before) l))) h))
-
-  seam : (xs more : List ℕ) (c : ℕ) → is_word_byte c ≡ false → Unnamed table xs → Unnamed table more → Unnamed table (xs ++ c ∷ more)
-  seam [] more c e h k = (λ w. absurd cc, k)
-  seam (x ∷ xs) more c e h k = (λ w. subst (λ (n : List ℕ). entry_in table n ≡ None) (sym (word_before (x ∷ xs) more c e)) (h.0 w), seam xs more c e h.1 k)
+      (subst LacksWords (p.1 ∙ ap (λ (x : List ℕ). x ++ p.0) (sym (bytes-content_cells (c_run_of before) l))) h))
 
   -- 2. The lines of a text, and of its folded text.
 
-  -- No word of the line is a name, as it was read and by itself. If it doesn't join the next one, it has no splice.
+  -- No word of the line is a name, also as it was read. If it doesn't join the next one, it has no splice.
   pub record IsQuiet (r : Reading) : Type 0 where
-    pub alone : Unnamed table (scan_after [] C r.line).masked
+    pub lacks : LacksWords r.line.body
     pub read : Unnamed table r.scan.masked
     pub unspliced : r.scan.joins_after ≡ false → is_spliced r.line ≡ false
 
-  next_quiet : (before : List Reading) (l : Line) → Unnamed table (scan_after [] C l).masked → Unnamed table (scan_after before C l).masked → IsQuiet (next_reading before C l)
-  next_quiet before l h k = let run : List Line = c_run_of before in record {
-    alone = h;
-    read = k;
+  next_quiet : (before : List Reading) (l : Line) → LacksWords l.body → IsQuiet (next_reading before C l)
+  next_quiet before l h = let run : List Line = c_run_of before in record {
+    lacks = h;
+    read = line_unnamed before l h;
     unspliced = λ e. (or_parts (is_spliced l) (is_block (kind_at_end (spliced_text run ++ spliced_part l))) (sym (joins_last run l) ∙ sym (joins_after-code run l) ∙ e)).0;
   }
 
@@ -115,10 +132,10 @@ module _ (table : List Argument) where
   lines_quiet t h (l ∷ ls) n before rs e k =
       let line : Line = line_at n l in
       let is : t ≡ before ++ ((line.body ++ line.ending) ++ concat ls) = e ∙ ap (λ (x : List ℕ). before ++ (x ++ concat ls)) (sym (text_of-line_at n l)) in
-      let lacks : LacksNames table line.body = λ p m s d. h (before ++ p) m (s ++ (line.ending ++ concat ls))
+      let lacks : LacksWords line.body = λ p m s d w. h (before ++ p) m (s ++ (line.ending ++ concat ls))
       (is ∙ ap (λ (x : List ℕ). before ++ ((x ++ line.ending) ++ concat ls)) d ∙ regroup before p m s line.ending (concat ls)) in
       lines_quiet t h ls (suc n) (before ++ l) (rs ++ next_reading rs C line ∷ []) (e ∙ sym (append_assoc before l (concat ls)))
-      (each_both IsQuiet rs (next_reading rs C line ∷ []) k (next_quiet rs line (line_unnamed [] line lacks) (line_unnamed rs line lacks), tt))
+      (each_both IsQuiet rs (next_reading rs C line ∷ []) k (next_quiet rs line lacks, tt))
     where
       regroup : (a p m s b c : List ℕ) → a ++ (((p ++ (m ++ s)) ++ b) ++ c) ≡ (a ++ p) ++ (m ++ (s ++ (b ++ c)))
       regroup a p m s b c = grind (arith, append_assoc)
@@ -126,24 +143,23 @@ module _ (table : List Argument) where
   pub text_quiet : (t : List ℕ) → LacksNames table t → Each IsQuiet (read_as C t)
   text_quiet t h = lines_quiet t h (texts_of t) 1 [] [] (lines_exist t).joined tt
 
-  breaks_unnamed : (o s : Bool) (xs more : List ℕ) → Unnamed table xs → Unnamed table more →
-      Unnamed table (xs ++ ((if o then 11 ∷ [] else if s then space ∷ space ∷ [] else space ∷ []) ++ more))
-  breaks_unnamed true s xs more h k = seam xs more 11 refl h k
-  breaks_unnamed false true xs more h k = seam xs (space ∷ more) space refl h (seam [] more space refl tt k)
-  breaks_unnamed false false xs more h k = seam xs more space refl h k
+  content_lacks : (l : Line) (b : Bool) → LacksWords l.body → LacksWords (if b then content l else l.body)
+  content_lacks l true h = let p = content-prefix l in prefix_lacks (content l) p.0 (subst LacksWords p.1 h)
+  content_lacks l false h = h
 
-  shown_unnamed : (rs : List Reading) → Each IsQuiet rs → Unnamed table (shown_lines rs)
-  shown_unnamed [] h = tt
-  shown_unnamed (r ∷ []) h = h.0.read
-  shown_unnamed (r ∷ s ∷ rs) h = subst (Unnamed table) (sym (append_assoc r.scan.masked (shown_break r.scan) (shown_lines (s ∷ rs)))) (breaks_unnamed (is_outside r.scan.comment) r.scan.spliced r.scan.masked (shown_lines (s ∷ rs)) h.0.read (shown_unnamed (s ∷ rs) h.1))
+  folded_lacks : (r : Reading) (rs : List Reading) → Each IsQuiet (r ∷ rs) → LacksWords (folded_body (r ∷ rs))
+  folded_lacks r [] h = h.0.lacks
+  folded_lacks r (s ∷ rs) h = let b : Bool = is_outside r.scan.comment in
+      let part : List ℕ = if b then content r.line else r.line.body in
+      subst LacksWords (sym (append_assoc part (11 ∷ []) (folded_body (s ∷ rs)))) (seam part (folded_body (s ∷ rs)) 11 refl (content_lacks r.line b h.0.lacks) (folded_lacks s rs h.1))
 
   group_quiet : (g : List Reading) → Each IsQuiet g → Each IsQuiet (folded_readings g)
-  group_quiet g h = by (is_foldable g) refl
+  group_quiet [] h = tt
+  group_quiet (r ∷ rs) h = by (is_foldable (r ∷ rs))
     where
-      by : (b : Bool) → is_foldable g ≡ b → Each IsQuiet (if b then next_reading [] C (folded_line g) ∷ [] else g)
-      by true e = let u : Unnamed table (scan_after [] C (folded_line g)).masked = subst (Unnamed table) (sym (folded_shown g e).masked) (shown_unnamed g h) in
-          (next_quiet [] (folded_line g) u u, tt)
-      by false e = h
+      by : (b : Bool) → Each IsQuiet (if b then next_reading [] C (folded_line (r ∷ rs)) ∷ [] else r ∷ rs)
+      by true = (next_quiet [] (folded_line (r ∷ rs)) (folded_lacks r rs h), tt)
+      by false = h
 
   groups_quiet : (gs : List (List Reading)) → Each IsQuiet (flat_map (λ (g : List Reading). g) gs) → Each IsQuiet (flat_map folded_readings gs)
   groups_quiet [] h = tt
@@ -154,10 +170,9 @@ module _ (table : List Argument) where
   quiet_alike : (r s : Reading) → unnumbered r ≡ unnumbered s → IsQuiet s → IsQuiet r
   quiet_alike r s e h =
       let body : r.line.body ≡ s.line.body = ap (λ (x : Reading). x.line.body) e in
-      let ending : r.line.ending ≡ s.line.ending = ap (λ (x : Reading). x.line.ending) e in
       let scan : r.scan ≡ s.scan = ap (λ (x : Reading). x.scan) e in
       record {
-        alone = subst (λ (c : Scan). Unnamed table c.masked) (sym (scan_after-same [] [] C r.line s.line refl body ending)) h.alone;
+        lacks = subst LacksWords (sym body) h.lacks;
         read = subst (λ (c : Scan). Unnamed table c.masked) (sym scan) h.read;
         unspliced = λ j. ap (λ (x : Reading). is_spliced x.line) e ∙ h.unspliced (sym (ap (λ (c : Scan). c.joins_after) scan) ∙ j);
       }
@@ -179,16 +194,14 @@ module _ (table : List Argument) where
 
   module _ (rules : Rules) (off : rules.constants ≡ false) where
     body_stays : (r : Reading) (d : Directive) → IsQuiet r → is_spliced r.line ≡ false → text_of (left_line table rules r.line d) ≡ text_of r.line
-    body_stays r d h e =
-        let n : ℕ = keyword_end d in
-        let cells : List Cell = content_cells [] r.line in
-        let shown_is = drop-map shown n cells in
-        let u : Unnamed table (map shown (drop n cells)) = last_unnamed table (take n (map shown cells)) (map shown (drop n cells))
-        (subst (Unnamed table) (masked-content_cells [] r.line ∙ sym (take-append-drop n (map shown cells)) ∙ ap (λ (x : List ℕ). take n (map shown cells) ++ x) shown_is) h.alone) in
-        let whole : content r.line ≡ r.line.body = ap (λ (b : Bool). if b then take (length r.line.body - 1) r.line.body else r.line.body) e in
-        let bytes : map (λ (c : Cell). c.byte) (drop n cells) ≡ drop n r.line.body = sym (drop-map (λ (c : Cell). c.byte) n cells) ∙ ap (λ (x : List ℕ). drop n x) (bytes-content_cells [] r.line ∙ whole) in
-        ap (λ (x : List ℕ). x ++ r.line.ending) (ap (λ (cs : List Cell). take n r.line.body ++ map (λ (c : Cell). c.byte) cs) (simplified_whole table rules off (drop n cells) u)
-        ∙ ap (λ (x : List ℕ). take n r.line.body ++ x) bytes ∙ take-append-drop n r.line.body)
+    body_stays r d h e = let n : ℕ = keyword_end d in
+        let cells : List Cell = text_cells r.line d in
+        let bytes : map (λ (c : Cell). c.byte) cells ≡ drop n r.line.body = text_bytes table rules r.line d e in
+        let whole : take n r.line.body ++ map (λ (c : Cell). c.byte) cells ≡ r.line.body = ap (λ (x : List ℕ). take n r.line.body ++ x) bytes ∙ take-append-drop n r.line.body in
+        let lacks : LacksWords (map (λ (c : Cell). c.byte) cells) = suffix_lacks (take n r.line.body) (map (λ (c : Cell). c.byte) cells) (subst (LacksWords) (sym whole) h.lacks) in
+        let u : Unnamed table (map shown cells) = cells_unnamed cells [] (subst (LacksWords) (sym (append-nil (map (λ (c : Cell). c.byte) cells))) lacks) in
+        ap (λ (x : List ℕ). x ++ r.line.ending)
+        (ap (λ (cs : List Cell). take n r.line.body ++ map (λ (c : Cell). c.byte) cs) (simplified_whole table rules off cells u) ∙ whole)
 
     line_stays : (r : Reading) → IsQuiet r → text_of (simplified_line table rules r) ≡ text_of r.line
     line_stays r h = by (content_of r.scan)

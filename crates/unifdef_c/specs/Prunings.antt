@@ -15,7 +15,7 @@ abbrev pub text_left : List (List ℕ) → List ℕ → List ℕ
 text_left args text =
     pruned_text (options_of args).table (rules_of (options_of args).settings) text
 
--- `edited_by args text`: how many conditions of the text are edited by these options.
+-- `edited_by args text`: how many lines of the text are edited by these options.
 abbrev pub edited_by : List (List ℕ) → List ℕ → ℕ
 edited_by args text =
     edited_count (options_of args).table (rules_of (options_of args).settings) text
@@ -27,7 +27,7 @@ pub record IsPrunedBy (args : List (List ℕ)) (text : List ℕ) (p : Pruned) : 
   pub edited : p.edited ≡ edited_by args text
 
 -- `HandsOutPruned text edited output output' size n`: `text` was written to `output`, as far as it
--- fits. Its length is `size`, and `n` says whether it fits and whether conditions were edited.
+-- fits. Its length is `size`, and `n` says whether it fits and whether lines were edited.
 pub record HandsOutPruned (text : List ℕ) (edited : ℕ) (output output' : List ℕ) (size : ℕ)
     (n : ℤ) : Type 0 where
   pub written : output' ≡ overwritten output text

@@ -15,7 +15,7 @@ use ud_passes::{Pruned, prune};
 /// Removes the operands of conditions that the arguments in `words` decide.
 ///
 /// Writes the rest of the text to `output`, as far as it fits, and its whole length to `size`.
-/// Returns 1 if a condition was edited, 0 if none was, and 3 if the rest doesn't fit.
+/// Returns 1 if a line was edited, 0 if none was, and 3 if the rest doesn't fit.
 ///
 /// # Errors
 /// -1 if the words have a fault or one isn't UTF-8, and -2 if memory is refused. Then nothing is
