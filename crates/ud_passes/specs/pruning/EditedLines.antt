@@ -57,6 +57,12 @@ abbrev pub IsEditedAt : List Argument → Rules → Line → Directive → Bool 
 IsEditedAt table rules l d edited bytes =
     IsEditedTo edited (text_of (line_if_read table rules l d)) l bytes
 
+-- `TakesPlace l d text bytes edited`: if `text` is left of the directive `d`, and the line `l` with
+-- it is `bytes`, then the line was edited to `bytes`, or it stays.
+abbrev pub TakesPlace : Line → Directive → List ℕ → List ℕ → Bool → Type 0
+TakesPlace l d text bytes edited = (table : List Argument) (rules : Rules) →
+    IsLeftLine table rules l d text bytes → IsEditedAt table rules l d edited bytes
+
 -- `EditsText table rules l d text edited bytes`: if the line `l` has the directive `d`, and its
 -- text that may be edited is masked as `text`, it was edited to `bytes`, or it stays.
 abbrev pub EditsText : List Argument → Rules → Line → Directive → List ℕ → Bool → List ℕ →

@@ -22,7 +22,7 @@ ghost use Rattle.ud_cond.specs.symbols.SymbolTable.{TableRepresents};
 ghost use Rattle.ud_cond.specs.CondViews.{as_rules};
 ghost use Rattle.ud_sections.specs.directives.ParsedDirectives.{as_directive, content_found};
 ghost use Rattle.ud_sections.specs.directives.ParsedDirectives.{IsWithinScan};
-ghost use Rattle.ud_passes.specs.pruning.EditedLines.{is_meant, IsLeftLine, IsEditedAt};
+ghost use Rattle.ud_passes.specs.pruning.EditedLines.{is_meant, TakesPlace};
 ghost use Rattle.ud_passes.specs.pruning.EditedLines.{EditsText, EditsLine};
 
 use crate::pruning::cells::{CellBytes, split_bytes};
@@ -179,10 +179,8 @@ fn takes_place(
     requires fits { length bytes.now ≤ MAX_LINE_BYTES }
     requires one_line { NoNewline line.now.body.now }
     requires ended { is_empty line.now.ending.now ≡ false }
-    ensures { IfOk result (λ edited. (table : List Argument) (rules : SpecRules) →
-        let d = as_directive found.now in
-        IsLeftLine table rules (as_line line.now) d text.now bytes.now →
-        IsEditedAt table rules (as_line line.now) d edited bytes.now) }
+    ensures { IfOk result (λ edited. TakesPlace (as_line line.now) (as_directive found.now)
+        text.now bytes.now edited) }
 {
     let edited = line_in(bytes, line.number);
     if edited.ending != line.ending {
