@@ -65,7 +65,7 @@ pub record IsPlanned (plan : TextPlan) (o : TextOptions) : Type 0 where
   pub squeezes : o.squeezes ≡ plan.squeezes
 
 -- `TextOutcome`: the output for a text, its fault if any, whether the output differs, and how many
--- of its conditions were edited.
+-- of its conditions were edited. The comment of an `#else` or `#endif` counts as one.
 pub record TextOutcome : Type 0 where
   pub output : List ℕ
   pub fault : Option Fault
