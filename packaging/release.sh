@@ -1,8 +1,8 @@
 #!/usr/bin/env bash
 # Makes the directory release/ with everything that a release page needs, of the last commit: the
 # programs and the library for Linux on x86-64, the Debian packages, the source, what changed, and
-# the checksums. The same commit gives the same files, byte by byte. With --ready, only checks that
-# there can be a release.
+# the checksums. The same commit gives the same files, byte by byte. What only a publisher knows and
+# hasn't filled in is listed. With --ready, only checks that there can be a release.
 set -eu -o pipefail
 umask 022
 export LC_ALL=C
@@ -14,9 +14,13 @@ if [ -n "$changes" ]; then
   exit 1
 fi
 dpkg-checkbuilddeps -I
-for file in debian/control debian/changelog; do
-  ! grep -q '@unifdef\.invalid>' "$file" || echo "release: $file has no maintainer yet" >&2
-done
+# lacks FILE WORDS WHAT: says what only a publisher knows, if these words still stand in its place.
+lacks() { ! grep -qF -e "$2" "$1" || echo "release: $1 has no $3 yet: it has \"$2\"" >&2; }
+lacks debian/control '@unifdef.invalid>' 'maintainer'
+lacks debian/changelog '@unifdef.invalid>' 'maintainer'
+lacks README.md 'No packages are published' 'address of the packages'
+lacks README.md "from Rattle's makers" 'address of the kit'
+lacks README.md 'where you got this repository' 'address for bugs'
 [ "${1:-}" != --ready ] || exit 0
 name=unifdef-$version-linux-x86_64
 rm -rf release

@@ -27,11 +27,17 @@ version_is() {
     xargs sed -i "s/$version/$1/" && sed -i "1s/(.*)/($1)/" debian/changelog)
 }
 
-# ready ADDRESS: tries whether there can be a release, with this address of the maintainer.
+# ready: tries whether there can be a release.
 ready() {
-  sed -i "s/<.*@.*>/<$1>/" "$first"/debian/{control,changelog}
   head_with "$released (2026-12-01)"
   "$first/packaging/release.sh" --ready 2>&1
+}
+
+# publish: fills in what only a publisher knows, each in its place.
+publish() {
+  sed -i 's/@unifdef\.invalid>/@localhost>/' "$first"/debian/{control,changelog}
+  sed -i "s/No packages are published/Packages are at localhost/; s/from Rattle's makers/localhost/
+    s/where you got this repository/at localhost/" "$first/README.md"
 }
 
 # refuses HEADING: there must be no release with this heading, and nothing is proved for one.
@@ -52,9 +58,14 @@ released=${version%-dev}
 refuses "$released-dev (2026-12-01)"
 check 'a release in all files' version_is "$released"
 refuses "$released (not released yet)"
-check 'no maintainer' same "$(ready maintainers@unifdef.invalid)" \
-  "$(printf 'release: debian/%s has no maintainer yet\n' control changelog)"
-check 'ready' same "$(ready they@localhost; echo $?)" 0
+check 'what only a publisher knows' same "$(ready)" "$(lines \
+  'release: debian/control has no maintainer yet: it has "@unifdef.invalid>"' \
+  'release: debian/changelog has no maintainer yet: it has "@unifdef.invalid>"' \
+  'release: README.md has no address of the packages yet: it has "No packages are published"' \
+  "release: README.md has no address of the kit yet: it has \"from Rattle's makers\"" \
+  'release: README.md has no address for bugs yet: it has "where you got this repository"')"
+publish
+check 'all is filled in' same "$(ready; echo $?)" 0
 check 'release' "$first/packaging/release.sh"
 check 'another clone' clone_to "$second" "$first"
 check 'release elsewhere' make_elsewhere "$second"
