@@ -18,7 +18,7 @@
 --
 -- An edited line keeps its number, so both texts have the same count of lines.
 --
--- Example: with A undefined, `#if A || X // c` becomes `#if X // c`, and `#if!A||X` stays. And
+-- Example: with A undefined, `#if A || X // c` becomes `#if X // c`, and `#if!A&&X` stays. And
 -- `#endif /* A || X */` becomes `#endif /* X */`.
 use Rattle.std.specs.Prelude.{ℕ, ◌+◌, List, [], ◌++◌, map, take, drop, Bool, true, false, not, ◌&&◌}
 use Rattle.std.specs.Prelude.{if◌then◌else◌, bytes_eq}

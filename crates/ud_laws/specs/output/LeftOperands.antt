@@ -4,7 +4,7 @@
 -- only in an operand that is unknown by itself, with `-K` beside an operand that decides its
 -- operator, or in a condition that may stay.
 --
--- Example: with A undefined, `A + X` is unknown by itself, and `#if!A||X` may stay.
+-- Example: with A undefined, `A + X` is unknown by itself, and `#if!A&&X` may stay.
 use Rattle.std.specs.Prelude.{◌≡◌, ◌⊎◌, List, true, false, Some, None}
 use Rattle.std.specs.List.{list_any}
 use Rattle.ud_model.specs.text.Scans.{Reading}

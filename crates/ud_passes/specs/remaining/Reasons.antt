@@ -10,7 +10,7 @@
 -- names no listed symbol as an operand, names one in the arguments of a call.
 --
 -- Example: with A undefined, `#if F(A)` stays for its arguments, `#if A + X` because an operand is
--- unknown, and `#if!A||X` because its rest would be `#ifX`.
+-- unknown, and `#if!A&&X` because its rest would be `#ifX`.
 use Rattle.std.specs.Prelude.{ℕ, List, [], ◌++◌, length, Bool, not, leb, Option, Some, None}
 use Rattle.std.specs.Prelude.{codes, if◌then◌else◌}
 use Rattle.std.specs.List.{list_any}
