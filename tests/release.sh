@@ -24,7 +24,7 @@ head_with() {
 # version_is VERSION: gives all other files in the first clone this version.
 version_is() {
   (cd "$first" && git grep -lF -e "$version" README.md docs lib packaging crates/unifdef_tree_cli |
-    xargs sed -i "s/$version/$1/" && sed -i "1s/(.*)/($1)/" debian/changelog)
+    xargs sed -i "s/${version//./\\.}/$1/" && sed -i "1s/(.*)/($1)/" debian/changelog)
 }
 
 # ready: tries whether there can be a release.
