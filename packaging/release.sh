@@ -14,6 +14,7 @@ if [ -n "$changes" ]; then
   exit 1
 fi
 dpkg-checkbuilddeps -I
+
 # lacks FILE WORDS WHAT: says what only a publisher knows, if these words still stand in its place.
 lacks() { ! grep -qF -e "$2" "$1" || echo "release: $1 has no $3 yet: it has \"$2\"" >&2; }
 lacks debian/control '@unifdef.invalid>' 'maintainer'

@@ -19,7 +19,7 @@ read -r _ version date < <(grep -m 1 '^## [0-9]' CHANGELOG.md)
 for manual in docs/*.[13]; do
   has "$manual" ".Os unifdef $version"
 done
-grep -q "^\*\*Status\*\*: ${version}[,;]" README.md || wrong "README.md has another status"
+grep -q "^\*\*Status\*\*: ${version}[,;]" README.md || wrong "README.md has no status $version"
 number=${version%-dev}
 IFS=. read -r major minor <<< "$number"
 has lib/unifdef.h "#define UNIFDEF_VERSION $((major * 10000 + minor * 100))"
