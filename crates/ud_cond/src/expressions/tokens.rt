@@ -196,14 +196,7 @@ fn punctuator(byte: u8, rest: &[u8]) -> NextToken<'_>
 pub fn next_token(text: &[u8]) -> NextToken<'_>
     ensures { as_next result ≡ spec.next_token text.now }
 {
-    leading_token(skip_white(text))
-}
-
-/// Returns the leading token of a text that doesn't begin with white space, and the text after it.
-#[inline(always)]
-pub(crate) fn leading_token(text: &[u8]) -> NextToken<'_>
-    ensures { as_next result ≡ spec.leading_token text.now }
-{
+    let text = skip_white(text);
     match text {
         [] => NextToken::AtEnd,
         [first, rest @ ..] => {
