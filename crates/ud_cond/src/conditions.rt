@@ -15,7 +15,7 @@ ghost use Rattle.ud_cond.specs.expressions.Evaluation.{cond_of_value};
 use crate::expressions::evaluation::evaluate;
 use crate::expressions::values::{Scope, Value};
 use crate::symbols::Symbols;
-use ud_model::bytes::{are_white, is_digit, skip_white, word_len};
+use ud_model::bytes::{are_white, skip_white, word_len};
 use ud_model::{Amount, Cond, Kind, Role, Settings, Test};
 
 /// The options for the values of expressions.
@@ -102,7 +102,7 @@ pub(crate) fn sole_name(text: &[u8]) -> Option<&[u8]>
     let length = word_len(text);
     let word = &text[..length];
     match word {
-        [first, ..] if !is_digit(*first) && are_white(&text[length..]) => Some(word),
+        [first, ..] if !first.is_ascii_digit() && are_white(&text[length..]) => Some(word),
         _ => None,
     }
 }

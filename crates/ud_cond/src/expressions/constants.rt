@@ -10,7 +10,6 @@ ghost use Rattle.ud_cond.specs.CondViews.{as_parts, base_of, is_digit_of};
 ghost use Rattle.ud_cond.specs.expressions.Digits.{IsOneDigit};
 
 use crate::expressions::tokens::{skip_bytes, starts_with_byte};
-use ud_model::bytes::is_digit;
 
 /// The base of a constant.
 #[derive(Clone, Copy)]
@@ -49,7 +48,7 @@ fn is_digit_of(base: Base, byte: u8) -> bool
 {
     match base {
         Base::Octal => b'0' <= byte && byte <= b'7',
-        Base::Decimal => is_digit(byte),
+        Base::Decimal => byte.is_ascii_digit(),
         Base::Hexadecimal => byte.is_ascii_hexdigit(),
     }
 }
@@ -211,7 +210,7 @@ pub(crate) fn single_digit_value(word: &[u8]) -> Option<i64>
 {
     match word {
         [digit] => {
-            if !is_digit(*digit) {
+            if !digit.is_ascii_digit() {
                 return None;
             }
             Some(digit_value(*digit) as i64)

@@ -10,7 +10,7 @@ ghost use Rattle.ud_cond.specs.CondViews.{as_next};
 
 use crate::expressions::constants::is_constant;
 use ud_model::Operator;
-use ud_model::bytes::{is_digit, is_word_byte, skip_white, word_len};
+use ud_model::bytes::{is_word_byte, skip_white, word_len};
 
 /// A token of an expression.
 #[derive(Clone, Copy)]
@@ -104,7 +104,7 @@ fn begins_with_digit(word: &[u8]) -> bool
 {
     match word {
         [] => false,
-        [first, ..] => is_digit(*first),
+        [first, ..] => first.is_ascii_digit(),
     }
 }
 

@@ -23,5 +23,5 @@ returns-in-len1-up c =
       c.if-are_white.ensures,
       identifier (leading_word t),
       c.in-len1-up.len_at_least,
-      c.if-not-is_digit.ensures,
+      c.if-not-is_ascii_digit.ensures,
     )

@@ -4,5 +4,5 @@ use Rattle.ud_cond.proofs.lemmas.expressions.DigitLemmas.{one-digit, sole}
 use Rattle.ud_cond.proofs.expressions.constants.single_digit_value.Goals as goal
 use Rattle.std.proofs.lemmas.Grind.{common_steps}
 
-pub returns-else-not-is_digit : goal.returns-else-not-is_digit
-returns-else-not-is_digit c = grind (arith, common_steps, sole, one-digit, to_z_pos)
+pub returns-else-not-is_ascii_digit : goal.returns-else-not-is_ascii_digit
+returns-else-not-is_ascii_digit c = grind (arith, common_steps, sole, one-digit, to_z_pos)
