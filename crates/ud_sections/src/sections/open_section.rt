@@ -73,7 +73,11 @@ impl OpenSection {
         ensures { result ≡ new_section kept ignoring if_line }
     {
         OpenSection {
-            state: SectionState::new(kept),
+            state: if kept {
+                SectionState::NoneKept
+            } else {
+                SectionState::InRemoved
+            },
             else_seen: false,
             ignoring,
             if_line,

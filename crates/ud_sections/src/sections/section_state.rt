@@ -4,7 +4,7 @@
 
 ghost use Rattle.std.specs.Prelude.{◌≡◌};
 ghost use Rattle.ud_model.specs.sections.Pruning.{first_kept_verdict, first_true_verdict};
-ghost use Rattle.ud_sections.specs.sections.SectionStates.{part_of, new_state, next_section_state};
+ghost use Rattle.ud_sections.specs.sections.SectionStates.{part_of, next_section_state};
 ghost use Rattle.ud_sections.specs.sections.SectionStates.{opener_verdict_in, endif_verdict_in};
 ghost use Rattle.ud_sections.specs.sections.SectionStates.{is_kept_in, is_in_removed};
 
@@ -31,18 +31,6 @@ pub(crate) enum SectionState {
 }
 
 impl SectionState {
-    /// Returns the state before the first group of a section. `kept`: the section is in a kept
-    /// place.
-    pub(crate) fn new(kept: bool) -> SectionState
-        ensures { result ≡ new_state kept }
-    {
-        if kept {
-            SectionState::NoneKept
-        } else {
-            SectionState::InRemoved
-        }
-    }
-
     /// Returns the verdict of the next group's opener, and the state after it.
     #[inline(always)]
     pub(crate) fn next_group(self, role: Role, cond: Cond) -> (Verdict, SectionState)
