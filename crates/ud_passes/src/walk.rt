@@ -5,12 +5,10 @@
 //!
 //! What comes next is a `Stretch`. A further kind of stretch needs a case in `IsNext`.
 
-ghost use Rattle.std.specs.Prelude.{◌≡◌, ◌+◌, ◌<◌, ◌≤◌, ◌==◌, List, [], ℕ, length, true, false};
-ghost use Rattle.std.specs.Prelude.{drop};
+ghost use Rattle.std.specs.Prelude.{◌≡◌, ◌+◌, ◌<◌, ◌==◌, List, [], ℕ, length, true, false, drop};
 ghost use Rattle.ud_model.specs.text.Scans.{Reading};
 ghost use Rattle.ud_model.specs.declared.kind.Mode.{Mode};
-ghost use Rattle.ud_passes.specs.Walks.{Walked, len_of, is_one_line, IsPrefixOf, IsFitting};
-ghost use Rattle.ud_passes.specs.Walks.{IsNext};
+ghost use Rattle.ud_passes.specs.Walks.{Walked, len_of, is_one_line, IsPrefixOf, IsFitting, IsNext};
 
 use ud_model::{Line, MAX_LINE_BYTES, Mode, Scan};
 use ud_text::{LineStore, Scanner, line_in};

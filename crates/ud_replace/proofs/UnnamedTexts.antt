@@ -33,7 +33,7 @@ use Rattle.ud_model.specs.declared.settings.Listing.{Listing}
 use Rattle.ud_model.specs.declared.settings.Listing.TheVariants.{Off}
 use Rattle.ud_model.proofs.text.ByteLemmas.{leading_word-word}
 use Rattle.ud_model.proofs.text.LinesLemmas.{lines_exist, text_of-line_at}
-use Rattle.ud_model.proofs.text.ScanBytes.{bytes-content_cells, masked-content_cells, content-prefix, scan_after-same}
+use Rattle.ud_model.proofs.text.ScanBytes.{bytes-content_cells, masked-content_cells, content-prefix}
 use Rattle.ud_model.proofs.text.ScanLaws.{joins_after-code, read_more}
 use Rattle.ud_model.proofs.text.ScanLemmas.{joins_last}
 use Rattle.ud_model.proofs.sections.Soundness.{reading_of-item_of, sound_lines, lines_with_next}

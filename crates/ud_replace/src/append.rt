@@ -1,6 +1,5 @@
 //! Appends all of some bytes.
 
-ghost use Rattle.ud_replace.specs.Calls.{Call};
 ghost use Rattle.ud_replace.specs.Filling.{AppendsAll};
 
 use crate::directory::Directory;

@@ -1,6 +1,6 @@
 //! What the calls of `replace` amount to: functions without a body whose contracts are theorems.
 
-ghost use Rattle.std.specs.Prelude.{◌≡◌, ◌∷◌, List, Result, Option, Some, ℕ, false};
+ghost use Rattle.std.specs.Prelude.{◌≡◌, List, Result, ℕ, false};
 ghost use Rattle.ud_replace.specs.declared.error.Update.{Update};
 ghost use Rattle.ud_replace.specs.declared.error.ReplaceError.{ReplaceError};
 ghost use Rattle.ud_replace.specs.declared.node.FileId.{FileId};

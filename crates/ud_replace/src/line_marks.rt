@@ -1,7 +1,6 @@
 //! The marks of the lines of a text: what a run makes of each.
 
-ghost use Rattle.std.specs.Prelude.{◌≡◌, ◌≤◌, ◌++◌, IfOk, OnOk, length, replicate};
-ghost use Rattle.std.specs.Prelude.{take, true};
+ghost use Rattle.std.specs.Prelude.{◌≡◌, ◌≤◌, ◌++◌, IfOk, OnOk, length, replicate, take, true};
 ghost use Rattle.ud_model.specs.text.Lines.{texts_of};
 ghost use Rattle.ud_model.specs.declared.settings.Listing.TheVariants.{Off};
 ghost use Rattle.ud_args.specs.Plans.{ForOptionsOf};

@@ -9,15 +9,13 @@
 ghost use Rattle.std.specs.Prelude.{◌≡◌, ◌&&◌, ◌⊎◌, false, true, IfOk, MatchResult};
 ghost use Rattle.ud_args.specs.Plans.{ForOptionsOf};
 ghost use Rattle.ud_replace.specs.MadeOutcomes.{FoldsInto, IsFoldedBy, IsItself, IsMade};
-ghost use Rattle.ud_replace.specs.MadeOutcomes.{IsPrunedBy};
-ghost use Rattle.ud_replace.specs.MadeOutcomes.{IsSameText, RestoresTo, asks_first, has_marks};
-ghost use Rattle.ud_replace.specs.MadeOutcomes.{output_in};
+ghost use Rattle.ud_replace.specs.MadeOutcomes.{IsPrunedBy, IsSameText, RestoresTo, asks_first};
+ghost use Rattle.ud_replace.specs.MadeOutcomes.{has_marks, output_in};
 ghost use Rattle.ud_replace.specs.TextOutcomes as spec;
 ghost use Rattle.ud_replace.specs.TextOutcomes.{FailsBy, FailsOver, HasMarkedOutcome, HasPrinted};
 ghost use Rattle.ud_replace.specs.TextOutcomes.{HasUnsqueezed, IsPlanned, TextOptions, error_of};
 ghost use Rattle.ud_replace.specs.TextOutcomes.{is_off};
-ghost use Rattle.ud_replace.specs.UnprunedRuns.{FailsUnpruned, IsSpared, IsUnnamed};
-ghost use Rattle.ud_replace.specs.UnprunedRuns.{RunsUnpruned};
+ghost use Rattle.ud_replace.specs.UnprunedRuns.{FailsUnpruned, IsSpared, IsUnnamed, RunsUnpruned};
 
 use crate::error::ReplaceError;
 use crate::folded_marks::marks_by;

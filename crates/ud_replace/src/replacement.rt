@@ -6,9 +6,8 @@
 //! does that.
 
 ghost use Rattle.std.specs.Prelude.{◌≡◌, ◌<◌, ℕ, List, [], true, false, is_ok};
-ghost use Rattle.ud_replace.specs.Calls.{Call};
 ghost use Rattle.ud_replace.specs.Filling.{LooksAgain, Confirms, Fills};
-ghost use Rattle.ud_replace.specs.MadeOutcomes.{IsFresh, output_of};
+ghost use Rattle.ud_replace.specs.MadeOutcomes.{IsFresh};
 ghost use Rattle.ud_replace.specs.Replacing.{Overwrites, RenamesAt, PutsAt, ReplacesAt, KeepsAt};
 ghost use Rattle.ud_replace.specs.TextOutcomes.{TextOptions, IsPlanned};
 

@@ -5,8 +5,8 @@
 //! Paths are UTF-8: the library opens no others, so no other name can be read. `Looks` and
 //! `Changes` have the calls of the system, and the files beside them say what they are used for.
 
-ghost use Rattle.std.specs.Prelude.{◌≡◌, ◌↔◌, ◌≤◌, [], IfOk, IfSome, OnOk, Some, false, length, true};
-ghost use Rattle.std.specs.Prelude.{◌∷◌, MatchResult, None};
+ghost use Rattle.std.specs.Prelude.{◌≡◌, ◌↔◌, ◌≤◌, [], IfOk, OnOk, Some, false, length, true, ◌∷◌};
+ghost use Rattle.std.specs.Prelude.{MatchResult, None};
 ghost use Rattle.std.specs.Option.{ForSome};
 ghost use Rattle.std.specs.IoError.{error_kind};
 ghost use Rattle.ud_replace.specs.Calls.{walked};

@@ -1,13 +1,11 @@
 //! Finds the files of a run: below the paths of the command line, or listed on the input.
 
-ghost use Rattle.std.specs.Prelude.{◌≡◌, ◌<◌, ◌++◌, [], map, true, false, IfOk};
-ghost use Rattle.std.specs.Prelude.{OnErr, OnOk, string_bytes};
+ghost use Rattle.std.specs.Prelude.{◌≡◌, ◌<◌, ◌++◌, [], map, true, false, IfOk, OnErr, OnOk};
 ghost use Rattle.ud_tree.specs.Covering.{CoversPaths, IsIn, own_path, paths_of};
 ghost use Rattle.ud_tree.specs.Scopes.{scope_in};
 ghost use Rattle.ud_tree.specs.Unmatched.{MarksWalk, quoted, unmarked_in};
 ghost use Rattle.ud_tree.specs.Streams.{source_of, ReadsWhole};
-ghost use Rattle.ud_tree.specs.WalkMessages.{EndsWalk, ReportsWalk, StopsWalk};
-ghost use Rattle.ud_tree.specs.WalkMessages.{TakesEach, WalksAll};
+ghost use Rattle.ud_tree.specs.WalkMessages.{EndsWalk, ReportsWalk, StopsWalk, TakesEach, WalksAll};
 ghost use Rattle.ud_tree.specs.WalkSteps.{scope_of};
 ghost use Rattle.ud_tree.specs.Walks.{Finds};
 

@@ -8,9 +8,8 @@ ghost use Rattle.ud_tree.specs.Reports.{Says};
 ghost use Rattle.ud_tree.specs.Summaries.{changes_line, summary};
 ghost use Rattle.ud_tree.specs.Summaries.{edited_line, hint, plural, remaining_line};
 ghost use Rattle.ud_tree.specs.Runs.{names_of};
-ghost use Rattle.ud_tree.specs.Summaries.{removed_line, defined_line, line_of};
-ghost use Rattle.ud_tree.specs.Summaries.{others_line, still_unnamed, unnamed_lines};
-ghost use Rattle.ud_tree.specs.Summaries.{unsearched_line};
+ghost use Rattle.ud_tree.specs.Summaries.{removed_line, defined_line, line_of, others_line};
+ghost use Rattle.ud_tree.specs.Summaries.{still_unnamed, unnamed_lines, unsearched_line};
 ghost use Rattle.ud_tree.specs.Writing.{TellsEnd};
 
 use crate::arguments::{Arguments, Task};

@@ -1,6 +1,6 @@
 //! Texts without the operands of their conditions that words decide.
 
-ghost use Rattle.std.specs.Prelude.{◌≡◌, IfOk, IfErr};
+ghost use Rattle.std.specs.Prelude.{IfOk, IfErr};
 ghost use Rattle.unifdef_c.specs.Words.{words_of, AreUtf8};
 ghost use Rattle.unifdef_c.specs.CallFaults.{IsCallFault};
 ghost use Rattle.unifdef_c.specs.Prunings.{HandsOutPruned, IsPrunedBy, PruneAnswer};

@@ -4,8 +4,8 @@
 --   is_dumb term                 neither that number nor a colour, by `TERM`
 --   is_unwanted value            no colour, by `NO_COLOR`
 --   allows_colours task dumb value   the colours of a diff
-use Rattle.std.specs.Prelude.{ℕ, List, [], Bool, true, false, not, ◌&&◌, Result, Ok, Err, bytes_eq}
-use Rattle.std.specs.Prelude.{codes, string_bytes, String}
+use Rattle.std.specs.Prelude.{[], Bool, true, false, not, ◌&&◌, Result, Ok, Err, bytes_eq, codes}
+use Rattle.std.specs.Prelude.{string_bytes, String}
 use Rattle.std.specs.Global.{Global}
 use Rattle.std.specs.declared.env.VarError.{VarError}
 use Rattle.std.specs.declared.env.VarError.TheVariants.{NotPresent, NotUnicode, OutOfMemory}

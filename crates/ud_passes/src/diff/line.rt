@@ -1,6 +1,6 @@
 //! The lines of a diff.
 
-ghost use Rattle.std.specs.Prelude.{◌≡◌, ℕ, ◌<◌, ◌∷◌, [], length, MatchOption};
+ghost use Rattle.std.specs.Prelude.{◌≡◌, ◌<◌, ◌∷◌, [], length, MatchOption};
 ghost use Rattle.ud_model.specs.text.Lines.{texts_of};
 
 use memchr::memchr;

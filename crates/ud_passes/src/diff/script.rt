@@ -23,7 +23,7 @@ pub(crate) struct Script<'t> {
 }
 
 impl<'t> Script<'t> {
-    ghost use Rattle.std.specs.Prelude.{◌≡◌, ◌<◌, [], length, ◌≤◌};
+    ghost use Rattle.std.specs.Prelude.{◌≡◌, ◌<◌, [], length};
     ghost use Rattle.ud_passes.specs.diff.Scripts.{Extends};
 
     /// Appends the next line of the old text, if any, as a removed one.

@@ -1,11 +1,9 @@
 //! A logical line that begins with a directive, built line by line.
 
-ghost use Rattle.std.specs.Prelude.{◌≡◌, ◌∷◌, ◌++◌, ℕ, List, [], true, false, IfOk};
-ghost use Rattle.std.specs.Prelude.{OnOk, Some};
+ghost use Rattle.std.specs.Prelude.{◌≡◌, ◌∷◌, ◌++◌, ℕ, List, [], IfOk, OnOk, Some};
 ghost use Rattle.ud_model.specs.text.Lines.{NoNewline, text_of};
 ghost use Rattle.ud_model.specs.text.Scans.{Reading};
 ghost use Rattle.ud_model.specs.aids.LineViews.{as_line, as_scan};
-ghost use Rattle.ud_model.specs.sections.Directives.{content_of};
 ghost use Rattle.ud_simplified.specs.FoldedTexts as spec;
 ghost use Rattle.ud_simplified.specs.FoldedTexts.{folded_bytes};
 ghost use Rattle.ud_passes.specs.folding.LogicalLines.{begins, plain_lines, c_reading, IsGroup};

@@ -1,6 +1,6 @@
 //! Whether the single line that lines form is read like them.
 
-ghost use Rattle.std.specs.Prelude.{◌≡◌, ◌≤◌, [], length, not, true, ◌&&◌, IfOk};
+ghost use Rattle.std.specs.Prelude.{◌≡◌, ◌≤◌, [], length, true, ◌&&◌, IfOk};
 ghost use Rattle.ud_model.specs.text.Lines.{Line as TextLine, NoNewline, text_of, is_ending};
 ghost use Rattle.ud_model.specs.text.Scanning.{scan_after_run};
 ghost use Rattle.ud_model.specs.aids.LineViews.{as_line, as_scan};

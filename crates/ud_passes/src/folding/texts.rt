@@ -1,17 +1,10 @@
 //! Folds a text, line by line.
 
-ghost use Rattle.std.specs.Prelude.{◌≡◌, ◌≤◌, ◌<◌, ◌∷◌, ◌++◌, ℕ, List, [], length, true, IfOk};
-ghost use Rattle.std.specs.Prelude.{OnOk, is_some};
-ghost use Rattle.ud_model.specs.text.Lines.{NoNewline, text_of};
-ghost use Rattle.ud_model.specs.text.Scans.{Reading};
-ghost use Rattle.ud_model.specs.text.Scanning.{next_reading};
-ghost use Rattle.ud_model.specs.aids.LineViews.{as_line};
+ghost use Rattle.std.specs.Prelude.{◌≡◌, ◌<◌, ◌++◌, ℕ, List, [], length, true, IfOk, OnOk, is_some};
 ghost use Rattle.ud_simplified.specs.FoldedTexts.{folded_text, folded_lines};
 ghost use Rattle.ud_model.specs.aids.ReadAs.{read_as};
 ghost use Rattle.ud_model.specs.declared.kind.Mode.{Mode};
 ghost use Rattle.ud_model.specs.declared.kind.Mode.TheVariants.{C};
-ghost use Rattle.ud_model.specs.declared.limits.TheConstants.{MAX_LINE_BYTES};
-ghost use Rattle.ud_text.specs.scan.ScannerState.{ScannerRepresents};
 ghost use Rattle.ud_passes.specs.folding.Folding.{Folded};
 
 use crate::folding::logical::{Last, LogicalLine, append_line};

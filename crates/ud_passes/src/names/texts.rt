@@ -1,17 +1,13 @@
 //! The conditions of a text that can't be listed in full.
 
-ghost use Rattle.std.specs.Prelude.{◌≡◌, ◌+◌, ◌≤◌, ◌<◌, ◌^◌, ◌∷◌, ◌++◌, ℕ, List, [], length, true};
-ghost use Rattle.std.specs.Prelude.{IfOk, OnOk, if◌then◌else◌};
+ghost use Rattle.std.specs.Prelude.{◌≡◌, ◌+◌, ◌≤◌, ◌<◌, ◌^◌, ◌++◌, ℕ, List, [], length, true, IfOk};
+ghost use Rattle.std.specs.Prelude.{OnOk, if◌then◌else◌};
 ghost use Rattle.ud_model.specs.text.Lines.{NoNewline, text_of};
-ghost use Rattle.ud_model.specs.text.Scans.{Reading};
-ghost use Rattle.ud_model.specs.text.Scanning.{next_reading};
 ghost use Rattle.ud_model.specs.aids.LineViews.{as_line};
 ghost use Rattle.ud_model.specs.declared.limits.TheConstants.{MAX_LINE_BYTES};
 ghost use Rattle.ud_model.specs.aids.ReadAs.{read_as};
-ghost use Rattle.ud_text.specs.scan.ScannerState.{ScannerRepresents};
 ghost use Rattle.ud_passes.specs.Passes.{AppendsSome, numbered_line};
-ghost use Rattle.ud_passes.specs.names.UnlistedConditions.{is_unlisted_line, unlisted_in, breaks};
-ghost use Rattle.ud_passes.specs.names.UnlistedConditions.{shown_body};
+ghost use Rattle.ud_passes.specs.names.UnlistedConditions.{unlisted_in, breaks, shown_body};
 ghost use Rattle.ud_passes.specs.names.UnlistedLines.{listed_text, Listed};
 
 use crate::folding::{VERTICAL_TAB, append_restored_line};

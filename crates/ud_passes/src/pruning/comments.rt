@@ -1,7 +1,6 @@
 //! The comment after an `#else` or `#endif`, read as a condition.
 
-ghost use Rattle.std.specs.Prelude.{◌≡◌, ◌≤◌, ◌++◌, length, map, true, false, IfSome, IfNone};
-ghost use Rattle.std.specs.Prelude.{OnOk};
+ghost use Rattle.std.specs.Prelude.{◌≡◌, ◌≤◌, ◌++◌, length, map, true, false, IfSome, IfNone, OnOk};
 ghost use Rattle.ud_model.specs.text.Lines.{NoNewline};
 ghost use Rattle.ud_model.specs.text.Lexemes as lexemes;
 ghost use Rattle.ud_model.specs.text.Lexemes.{block_comment, cells_in};

@@ -22,8 +22,7 @@ ghost use Rattle.ud_cond.specs.symbols.SymbolTable.{TableRepresents};
 ghost use Rattle.ud_cond.specs.CondViews.{as_rules};
 ghost use Rattle.ud_sections.specs.directives.ParsedDirectives.{as_directive, content_found};
 ghost use Rattle.ud_sections.specs.directives.ParsedDirectives.{IsWithinScan};
-ghost use Rattle.ud_passes.specs.pruning.EditedLines.{is_meant, TakesPlace};
-ghost use Rattle.ud_passes.specs.pruning.EditedLines.{EditsText, EditsLine};
+ghost use Rattle.ud_passes.specs.pruning.EditedLines.{is_meant, TakesPlace, EditsText, EditsLine};
 
 use crate::pruning::cells::{CellBytes, split_bytes};
 use crate::pruning::comments::append_as_condition;

@@ -1,15 +1,12 @@
 //! The rest of a text, line by line.
 
-ghost use Rattle.std.specs.Prelude.{◌≡◌, ◌+◌, ◌≤◌, ◌<◌, ◌^◌, ◌∷◌, ◌++◌, List, [], length, IfOk};
-ghost use Rattle.std.specs.Prelude.{OnOk, if◌then◌else◌};
+ghost use Rattle.std.specs.Prelude.{◌≡◌, ◌+◌, ◌≤◌, ◌<◌, ◌^◌, ◌++◌, List, [], length, IfOk, OnOk};
+ghost use Rattle.std.specs.Prelude.{if◌then◌else◌};
 ghost use Rattle.ud_model.specs.text.Lines.{NoNewline, text_of};
-ghost use Rattle.ud_model.specs.text.Scans.{Reading};
-ghost use Rattle.ud_model.specs.text.Scanning.{next_reading};
 ghost use Rattle.ud_model.specs.aids.LineViews.{as_line, as_scan};
 ghost use Rattle.ud_model.specs.conditions.Table.{Argument};
 ghost use Rattle.ud_model.specs.declared.kind.Mode.{Mode};
 ghost use Rattle.ud_model.specs.declared.limits.TheConstants.{MAX_LINE_BYTES};
-ghost use Rattle.ud_text.specs.scan.ScannerState.{ScannerRepresents};
 ghost use Rattle.ud_cond.specs.symbols.SymbolTable.{TableRepresents};
 ghost use Rattle.ud_cond.specs.CondViews.{as_rules};
 ghost use Rattle.ud_passes.specs.pruning.PrunedTexts.{pruned_text, edited_count};

@@ -1,17 +1,11 @@
 //! The lines of an output, as far as blank lines go.
 
-ghost use Rattle.std.specs.Prelude.{◌≡◌, ◌≤◌, ◌<◌, ◌++◌, ◌∷◌, ℕ, List, [], length, reverse, IfOk};
-ghost use Rattle.std.specs.Prelude.{OnOk, false};
+ghost use Rattle.std.specs.Prelude.{◌≡◌, ◌<◌, ℕ, List, [], length, reverse, IfOk, false};
 ghost use Rattle.ud_model.specs.text.Bytes.{skip_white, starts_with_byte};
-ghost use Rattle.ud_model.specs.text.Lines.{NoNewline, text_of};
-ghost use Rattle.ud_model.specs.text.Scans.{Reading};
-ghost use Rattle.ud_model.specs.text.Scanning.{next_reading, scan_after};
-ghost use Rattle.ud_model.specs.aids.LineViews.{as_line, as_scan};
+ghost use Rattle.ud_model.specs.aids.LineViews.{as_scan};
 ghost use Rattle.ud_model.specs.aids.ReadAs.{read_as};
 ghost use Rattle.ud_model.specs.sections.Directives.{content_of};
 ghost use Rattle.ud_model.specs.declared.kind.Mode.TheVariants.{C};
-ghost use Rattle.ud_model.specs.declared.limits.TheConstants.{MAX_LINE_BYTES};
-ghost use Rattle.ud_text.specs.scan.ScannerState.{ScannerRepresents};
 ghost use Rattle.ud_passes.specs.squeezing.SqueezedTexts as spec;
 ghost use Rattle.ud_passes.specs.squeezing.SqueezedTexts.{role_in, scanned_place, bare_place};
 ghost use Rattle.ud_passes.specs.squeezing.Squeezing.{Placed};

@@ -3,7 +3,7 @@
 //! Contracts can't say what the operating system does, so nothing is known of the evidence here,
 //! but for the number of a file that is open for writing.
 
-ghost use Rattle.std.specs.Prelude.{◌≡◌, ◌<ℤ◌, None, bit_and, option_map, pos};
+ghost use Rattle.std.specs.Prelude.{◌≡◌, ◌<ℤ◌, None, bit_and, pos};
 ghost use Rattle.std.specs.Fd.{file_raw_fd};
 ghost use Rattle.std.specs.Fs.{file_type, metadata_len, metadata_mode};
 ghost use Rattle.ud_tree.specs.Evidence.{KindOf};

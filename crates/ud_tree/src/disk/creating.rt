@@ -7,7 +7,7 @@
 //! replaces the file. Rejected: using the file that was left over, since another program may have
 //! it open; a name that differs from run to run, with which one of two runs loses its update.
 
-ghost use Rattle.std.specs.Prelude.{◌≡◌, ◌⊎◌, IfOk, IfSome};
+ghost use Rattle.std.specs.Prelude.{◌≡◌, IfOk, IfSome};
 ghost use Rattle.std.specs.IoError.{error_kind};
 ghost use Rattle.ud_tree.specs.Creating.{create_error, IsLeftOver, IsNew};
 

@@ -1,6 +1,6 @@
 //! Marks for the rules that apply to something which a walk met, so that the others can be named.
 
-ghost use Rattle.std.specs.Prelude.{◌≡◌, ◌↔◌, ◌++◌, IfOk, OnOk, map, string_bytes, true};
+ghost use Rattle.std.specs.Prelude.{◌≡◌, ◌↔◌, IfOk, map, string_bytes, true};
 ghost use Rattle.ud_tree.specs.Unmatched.{Applies, MarksRules, is_marked, quoted, unmarked_in};
 
 use crate::patterns::{fits_file, leaves, rule_of};

@@ -1,6 +1,6 @@
 //! Matches a name against a pattern.
 
-ghost use Rattle.std.specs.Prelude.{◌≡◌, ◌<◌, ◌≤◌, ◌∷◌, ◌↔◌, true, length};
+ghost use Rattle.std.specs.Prelude.{◌≡◌, ◌<◌, ◌∷◌, ◌↔◌, true};
 ghost use Rattle.ud_tree.specs.Patterns.{Matches};
 ghost use Rattle.ud_tree.specs.PatternPlaces.{Reaches, IsShorter, StopsAt};
 

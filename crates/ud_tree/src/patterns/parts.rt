@@ -1,6 +1,6 @@
 //! The parts of a pattern that match one byte.
 
-ghost use Rattle.std.specs.Prelude.{◌≡◌, ◌<◌, IfSome, length, option_map};
+ghost use Rattle.std.specs.Prelude.{◌≡◌, ◌<◌, option_map};
 ghost use Rattle.ud_tree.specs.Patterns.{after_part, after_backslash, after_set, set_after};
 ghost use Rattle.ud_tree.specs.Patterns.{set_from, item_high, item_after};
 ghost use Rattle.ud_tree.specs.PatternPlaces.{as_test};

@@ -3,7 +3,6 @@ use Rattle.std.specs.List.{starts_with}
 use Rattle.ud_model.specs.text.Bytes.{starts_with_byte}
 use Rattle.ud_passes.proofs.NameLemmas.{ends_in_word-last}
 use Rattle.ud_passes.proofs.remaining.names.is_split.Goals as goal
-use Rattle.ud_passes.proofs.remaining.names.is_split.Goals.{After-is_word_byte}
 
 begins : (b : ℕ) (t : List ℕ) → starts_with nat_eq t (b ∷ []) ≡ starts_with_byte b t
 begins b [] = grind arith
