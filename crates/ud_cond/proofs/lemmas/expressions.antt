@@ -5,7 +5,7 @@
 --   EvaluationLemmas.cond-some   the value that is kept decides the condition
 --   KeptLemmas.all_kept          the flags that are kept are those of the residual
 --   ResidualLemmas.leaf_same     the part of an operand
---   StackLemmas.settled-top      a looser operator on top isn't popped
+--   StackLemmas.top              the last operator is on top
 pub mod ReadingLemmas
 pub mod StackLemmas
 pub mod NamedLemmas

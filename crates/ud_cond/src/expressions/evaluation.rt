@@ -12,11 +12,7 @@ ghost use Rattle.ud_cond.specs.expressions.Evaluation.{value_meaning_in};
 use crate::expressions::keeper::Keeper;
 use crate::expressions::packed_value::PackedValue;
 use crate::expressions::reader::read;
-use crate::expressions::stacks::{
-    LINE_OPERANDS, LONG_TEXT_BYTES, LONG_TEXT_OPERANDS, MEDIUM_TEXT_BYTES, MEDIUM_TEXT_OPERANDS,
-    SHORT_TEXT_BYTES, SHORT_TEXT_OPERANDS, Stacks, TINY_TEXT_BYTES, TINY_TEXT_OPERANDS,
-    VERY_LONG_TEXT_BYTES, VERY_LONG_TEXT_OPERANDS,
-};
+use crate::expressions::stacks::{LINE_OPERANDS, Stacks};
 use crate::expressions::values::{Scope, Value, binary, constant, defined, name_value, unary};
 use ud_model::{MAX_LINE_BYTES, Operator};
 
@@ -90,22 +86,10 @@ pub(crate) fn evaluate(scope: &Scope<'_>, text: &[u8]) -> Option<Value>
     ensures { result ≡ spec.reads (value_meaning_in scope.now) (spec.needs []) text.now }
 {
     match text.len() {
-        0..=TINY_TEXT_BYTES => evaluate_with_stacks::<TINY_TEXT_BYTES, TINY_TEXT_OPERANDS>(
-            scope, text,
-        ),
-        0..=SHORT_TEXT_BYTES => evaluate_with_stacks::<SHORT_TEXT_BYTES, SHORT_TEXT_OPERANDS>(
-            scope, text,
-        ),
-        0..=MEDIUM_TEXT_BYTES => evaluate_with_stacks::<MEDIUM_TEXT_BYTES, MEDIUM_TEXT_OPERANDS>(
-            scope, text,
-        ),
-        0..=LONG_TEXT_BYTES => evaluate_with_stacks::<LONG_TEXT_BYTES, LONG_TEXT_OPERANDS>(
-            scope, text,
-        ),
-        0..=VERY_LONG_TEXT_BYTES => evaluate_with_stacks::<
-            VERY_LONG_TEXT_BYTES,
-            VERY_LONG_TEXT_OPERANDS,
-        >(scope, text),
+        0..=32 => evaluate_with_stacks::<32, 16>(scope, text),
+        0..=128 => evaluate_with_stacks::<128, 64>(scope, text),
+        0..=1024 => evaluate_with_stacks::<1024, 512>(scope, text),
+        0..=8192 => evaluate_with_stacks::<8192, 4096>(scope, text),
         _ => evaluate_with_stacks::<MAX_LINE_BYTES, LINE_OPERANDS>(scope, text),
     }
 }

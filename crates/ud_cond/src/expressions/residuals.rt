@@ -27,10 +27,7 @@ use crate::conditions::{Rules, negate};
 use crate::expressions::keeper::Keeper;
 use crate::expressions::parts::{Part, leaf_part};
 use crate::expressions::reader::read;
-use crate::expressions::stacks::{
-    LINE_OPERANDS, LONG_TEXT_BYTES, LONG_TEXT_OPERANDS, MEDIUM_TEXT_BYTES, MEDIUM_TEXT_OPERANDS,
-    Stacks, VERY_LONG_TEXT_BYTES, VERY_LONG_TEXT_OPERANDS,
-};
+use crate::expressions::stacks::{LINE_OPERANDS, Stacks};
 use crate::expressions::values::{
     Scope, Value, binary, binary_amount, constant, defined, name_value, unary, unary_amount,
 };
@@ -321,17 +318,9 @@ fn read_text(residuals: &Residuals<'_>, text: &[u8], flags: &mut TokenFlags) -> 
         (reads (kept_meaning_of residuals.now) (needs []) text.now ≡ None) }
 {
     match text.len() {
-        0..=MEDIUM_TEXT_BYTES => read_with_stacks::<MEDIUM_TEXT_BYTES, MEDIUM_TEXT_OPERANDS>(
-            residuals, text, flags,
-        ),
-        0..=LONG_TEXT_BYTES => read_with_stacks::<LONG_TEXT_BYTES, LONG_TEXT_OPERANDS>(
-            residuals, text, flags,
-        ),
-        0..=VERY_LONG_TEXT_BYTES => {
-            read_with_stacks::<VERY_LONG_TEXT_BYTES, VERY_LONG_TEXT_OPERANDS>(
-                residuals, text, flags,
-            )
-        }
+        0..=128 => read_with_stacks::<128, 64>(residuals, text, flags),
+        0..=1024 => read_with_stacks::<1024, 512>(residuals, text, flags),
+        0..=8192 => read_with_stacks::<8192, 4096>(residuals, text, flags),
         _ => read_with_stacks::<MAX_LINE_BYTES, LINE_OPERANDS>(residuals, text, flags),
     }
 }

@@ -2,10 +2,9 @@
 //!
 //! Each pending parenthesis or prefix operator takes up a byte of the text, and each left operand
 //! with its operator takes two. So as many operators as the text has bytes suffice, and half as
-//! many operands. Stacks for the longest line are costly to clear, so a short text gets short ones.
-//!
-//! There are six sizes, since an empty stack is cleared as a whole. Rejected: recursion, which
-//! needs much of the program's stack for a long line.
+//! many operands. A stack is cleared as a whole, which is costly for the longest line, so a short
+//! text gets short ones. Rejected: recursion, which needs much of the program's stack for a long
+//! line.
 
 ghost use Rattle.std.specs.Prelude.{◌≡◌, ◌≤◌, ◌+◌, ◌∷◌, [], IfSome, IfNone, IsTrue, false};
 ghost use Rattle.ud_model.specs.conditions.Parsing.{left, before, paren};
@@ -16,36 +15,6 @@ use crate::expressions::operators::precedence;
 use arrayvec::ArrayVec;
 use std::marker::Model;
 use ud_model::{MAX_LINE_BYTES, Operator};
-
-/// The most bytes of a tiny text.
-pub(crate) const TINY_TEXT_BYTES: usize = 32;
-
-/// The most operands that are pending in a tiny text.
-pub(crate) const TINY_TEXT_OPERANDS: usize = TINY_TEXT_BYTES / 2;
-
-/// The most bytes of a short text.
-pub(crate) const SHORT_TEXT_BYTES: usize = 64;
-
-/// The most operands that are pending in a short text.
-pub(crate) const SHORT_TEXT_OPERANDS: usize = SHORT_TEXT_BYTES / 2;
-
-/// The most bytes of a text of medium length.
-pub(crate) const MEDIUM_TEXT_BYTES: usize = 128;
-
-/// The most operands that are pending in a text of medium length.
-pub(crate) const MEDIUM_TEXT_OPERANDS: usize = MEDIUM_TEXT_BYTES / 2;
-
-/// The most bytes of a long text.
-pub(crate) const LONG_TEXT_BYTES: usize = 1024;
-
-/// The most operands that are pending in a long text.
-pub(crate) const LONG_TEXT_OPERANDS: usize = LONG_TEXT_BYTES / 2;
-
-/// The most bytes of a very long text.
-pub(crate) const VERY_LONG_TEXT_BYTES: usize = 8192;
-
-/// The most operands that are pending in a very long text.
-pub(crate) const VERY_LONG_TEXT_OPERANDS: usize = VERY_LONG_TEXT_BYTES / 2;
 
 /// The most operands that are pending in a line.
 pub(crate) const LINE_OPERANDS: usize = MAX_LINE_BYTES / 2;
@@ -61,35 +30,31 @@ pub(crate) enum PendingOp {
     Prefix(Operator),
 }
 
-impl Default for PendingOp {
-    fn default() -> Self {
-        PendingOp::Opening
-    }
-}
-
 /// The stacks for a text of at most `BYTES` bytes, with operands of one type.
 #[derive(Drop)]
 pub(crate) struct Stacks<T, const BYTES: usize, const OPERANDS: usize> {
-    /// The pending operators and parentheses; the last one is the innermost.
-    operators: ArrayVec<PendingOp, BYTES>,
+    /// The pending operators and parentheses from the outermost one on, and unused entries.
+    operators: [PendingOp; BYTES],
+    /// The number of pending operators and parentheses.
+    depth: usize,
     /// The left operands of those operators that have one.
     operands: ArrayVec<T, OPERANDS>,
 }
 
 impl<T, const BYTES: usize, const OPERANDS: usize> Model for Stacks<T, BYTES, OPERANDS> {
-    ghost use Rattle.std.specs.Prelude.{◌≤◌, List, reverse};
-    ghost use Rattle.arrayvec.specs.ArrayVec.{array_vec_len};
+    ghost use Rattle.std.specs.Prelude.{◌≤◌, List, reverse, take};
     ghost use Rattle.ud_model.specs.conditions.Parsing.{Frame};
     ghost use Rattle.ud_cond.specs.expressions.Stacks.{frames, AreMatched, Suffice};
 
     ghost Value = { List (Frame T) };
 
-    ghost view = { λ s. frames (reverse s.operators.items) (reverse s.operands.items) };
+    ghost view = { λ s. frames (reverse (take s.depth s.operators)) (reverse s.operands.items) };
 
-    ghost invariant = { λ s. AreMatched (reverse s.operators.items) (reverse s.operands.items) ×
-        (array_vec_len s.operators ≤ BYTES) × Suffice BYTES OPERANDS };
+    ghost invariant = { λ s. AreMatched (reverse (take s.depth s.operators))
+        (reverse s.operands.items) × (s.depth ≤ BYTES) × Suffice BYTES OPERANDS };
 }
 
+#[tactic(auto, using(crate::proofs::lemmas::expressions::StackLemmas::stack_steps))]
 impl<T: Default + Drop, const BYTES: usize, const OPERANDS: usize> Stacks<T, BYTES, OPERANDS> {
     /// Returns empty stacks.
     pub(crate) fn new() -> Self
@@ -97,7 +62,8 @@ impl<T: Default + Drop, const BYTES: usize, const OPERANDS: usize> Stacks<T, BYT
         ensures { result ≡ [] }
     {
         Stacks {
-            operators: ArrayVec::new(),
+            operators: [PendingOp::Opening; BYTES],
+            depth: 0,
             operands: ArrayVec::new(),
         }
     }
@@ -106,7 +72,7 @@ impl<T: Default + Drop, const BYTES: usize, const OPERANDS: usize> Stacks<T, BYT
     pub(crate) fn is_empty(&self) -> bool
         ensures { result ≡ spec.is_empty self.now }
     {
-        self.operators.is_empty()
+        self.operators[..self.depth].is_empty()
     }
 
     /// Pushes a binary operator with its left operand.
@@ -114,7 +80,8 @@ impl<T: Default + Drop, const BYTES: usize, const OPERANDS: usize> Stacks<T, BYT
         requires { weight self.old + 2 ≤ BYTES }
         ensures { self.new ≡ left operator operand ∷ self.old }
     {
-        self.operators.push(PendingOp::Binary(operator));
+        self.operators[self.depth] = PendingOp::Binary(operator);
+        self.depth += 1;
         self.operands.push(operand);
     }
 
@@ -123,7 +90,8 @@ impl<T: Default + Drop, const BYTES: usize, const OPERANDS: usize> Stacks<T, BYT
         requires { weight self.old + 1 ≤ BYTES }
         ensures { self.new ≡ before operator ∷ self.old }
     {
-        self.operators.push(PendingOp::Prefix(operator));
+        self.operators[self.depth] = PendingOp::Prefix(operator);
+        self.depth += 1;
     }
 
     /// Pushes an open parenthesis.
@@ -131,7 +99,8 @@ impl<T: Default + Drop, const BYTES: usize, const OPERANDS: usize> Stacks<T, BYT
         requires { weight self.old + 1 ≤ BYTES }
         ensures { self.new ≡ paren ∷ self.old }
     {
-        self.operators.push(PendingOp::Opening);
+        self.operators[self.depth] = PendingOp::Opening;
+        self.depth += 1;
     }
 
     /// Pops the innermost parenthesis, if nothing is pending inside. Returns whether it was popped.
@@ -139,13 +108,12 @@ impl<T: Default + Drop, const BYTES: usize, const OPERANDS: usize> Stacks<T, BYT
         ensures yes { IsTrue result → self.old ≡ paren ∷ self.new }
         ensures no { result ≡ false → spec.IsNoParen self.old }
     {
-        match self.operators.pop() {
-            Some(PendingOp::Opening) => true,
-            Some(other) => {
-                self.operators.push(other);
-                false
+        match self.operators[..self.depth].last() {
+            Some(PendingOp::Opening) => {
+                self.depth -= 1;
+                true
             }
-            None => false,
+            _ => false,
         }
     }
 
@@ -156,21 +124,20 @@ impl<T: Default + Drop, const BYTES: usize, const OPERANDS: usize> Stacks<T, BYT
         ensures some { IfSome result (λ t. self.old ≡ spec.popped t.0 t.1 ∷ self.new ×
             spec.BindsAsTightly least t.0 t.1) }
     {
-        match self.operators.pop() {
+        match self.operators[..self.depth].last() {
             Some(PendingOp::Binary(operator)) => {
-                if precedence(operator) < least {
-                    self.operators.push(PendingOp::Binary(operator));
+                if precedence(*operator) < least {
                     return None;
                 }
+                self.depth -= 1;
                 let operand = self.operands.pop().unwrap();
-                Some((operator, Some(operand)))
+                Some((*operator, Some(operand)))
             }
-            Some(PendingOp::Prefix(operator)) => Some((operator, None)),
-            Some(PendingOp::Opening) => {
-                self.operators.push(PendingOp::Opening);
-                None
+            Some(PendingOp::Prefix(operator)) => {
+                self.depth -= 1;
+                Some((*operator, None))
             }
-            None => None,
+            Some(PendingOp::Opening) | None => None,
         }
     }
 }

@@ -1,6 +1,8 @@
 -- Both stacks: what a push and a pop do to the frames, and how much the frames weigh.
-use Rattle.std.proofs.Common.{◌≡◌, ℕ, ◌≤◌, ◌<◌, ◌+◌, ◌*◌, ◌==◌, List, [], ◌∷◌, ◌++◌, length, reverse, Option, None, refl, arith}
-use Rattle.std.proofs.lemmas.List.{length-reverse, reverse-append}
+use Rattle.std.proofs.Common.{◌≡◌, ℕ, ◌≤◌, ◌<◌, ◌+◌, ◌-◌, ◌==◌, List, [], ◌∷◌, length, reverse, take, set, Option, Some, None, refl, arith}
+use Rattle.std.specs.Prelude.{slice_get}
+use Rattle.std.proofs.lemmas.Option.{slice_get_within, get_or_from_slice_get}
+use Rattle.std.proofs.lemmas.List.{length-reverse, take_all, length-take-le, reverse-append, take_more, take_more_set}
 use Rattle.ud_model.specs.conditions.Tokens.{at_end, unreadable, next_token}
 use Rattle.ud_model.specs.conditions.Expressions.{precedence}
 use Rattle.ud_model.specs.conditions.Parsing.{Meaning, ParseState, finish, reads}
@@ -28,31 +30,42 @@ fewer (Binary o ∷ ws) (a ∷ vs) m = let h = fewer ws vs m in omega arith
 fewer (Prefix o ∷ ws) vs m = let h = fewer ws vs m in omega arith
 fewer (Opening ∷ ws) vs m = let h = fewer ws vs m in omega arith
 
--- one more operator, or one more operand too
-pub holds-push : {A : Type 0} (new ws : List PendingOp) (vs : List A) (x : PendingOp) → new ≡ ws ++ x ∷ [] → AreMatched (x ∷ reverse ws) vs → AreMatched (reverse new) vs
-holds-push new ws vs x e m = grind (arith, reverse-append)
+-- the frames weigh as much as both stacks are long, and no more operands than operators are pending
+pub heights : {A : Type 0} (ws : List PendingOp) (n : ℕ) (vs : List A) → n ≤ length ws →
+    AreMatched (reverse (take n ws)) (reverse vs) →
+    (weight (frames (reverse (take n ws)) (reverse vs)) ≡ n + length vs) × (length vs ≤ n)
+heights ws n vs l m =
+    (grind (arith, weighs, length-reverse, length-take-le), grind (arith, fewer, length-reverse, length-take-le))
 
--- there is capacity for one more operator, or for an operand too
-pub room : {A : Type 0} (ws : List PendingOp) (vs : List A) (n : ℕ) → AreMatched (reverse ws) (reverse vs) → weight (frames (reverse ws) (reverse vs)) + 1 ≤ n → length ws < n
-room ws vs n m l = grind (arith, weighs, length-reverse)
+-- an operator that is pushed is on top
+pub pushed : (ws : List PendingOp) (n : ℕ) (w : PendingOp) → n < length ws →
+    reverse (take (n + 1) (set ws n w)) ≡ w ∷ reverse (take n ws)
+pushed ws n w l = grind (arith, take_more_set, reverse-append)
 
-pub room-left : {A : Type 0} (ws : List PendingOp) (vs : List A) (n k : ℕ) → AreMatched (reverse ws) (reverse vs) → weight (frames (reverse ws) (reverse vs)) + 2 ≤ n → n ≤ 2 * k → length vs < k
-room-left ws vs n k m l h = grind (arith, weighs, fewer, length-reverse)
-
-nothing_by : {A : Type 0} (ws : List PendingOp) (vs : List A) → AreMatched ws vs → (length ws == 0) ≡ is_empty (frames ws vs)
-nothing_by [] vs m = refl
-nothing_by (Binary o ∷ ws) [] m = absurd m
-nothing_by (Binary o ∷ ws) (a ∷ vs) m = grind arith
-nothing_by (Prefix o ∷ ws) vs m = grind arith
-nothing_by (Opening ∷ ws) vs m = grind arith
-
--- no frame is pending if no operator is
-pub nothing : {A : Type 0} (ws : List PendingOp) (vs : List A) → AreMatched (reverse ws) (reverse vs) → (length ws == 0) ≡ is_empty (frames (reverse ws) (reverse vs))
-nothing ws vs m = grind (arith, length-reverse, nothing_by)
+-- the last operator is on top
+pub top : (ws : List PendingOp) (w : PendingOp) → slice_get ws (length ws - 1) ≡ Some w →
+    reverse ws ≡ w ∷ reverse (take (length ws - 1) ws)
+top ws w h =
+    let within = slice_get_within ws (length ws - 1) w h in
+    let last = get_or_from_slice_get ws (length ws - 1) w w h in
+    grind (arith, take_more ws (length ws - 1) w, take_all, reverse-append)
 
 -- a looser operator on top isn't popped
-pub settled-top : {A : Type 0} (old new : List PendingOp) (vs : List A) (j : ℕ) (o : Operator) → old ≡ new ++ Binary o ∷ [] → precedence o < j → IsSettled j (frames (reverse old) vs)
-settled-top old new vs j o e l = grind (arith, reverse-append)
+pub settled-top : {A : Type 0} (ws : List PendingOp) (vs : List A) (j : ℕ) (o : Operator) →
+    slice_get ws (length ws - 1) ≡ Some (Binary o) → precedence o < j → IsSettled j (frames (reverse ws) vs)
+settled-top ws [] j o h l = grind (arith, top)
+settled-top ws (a ∷ vs) j o h l = grind (arith, top)
+
+-- no frame is pending if no operator is
+pub nothing : {A : Type 0} (ws : List PendingOp) (vs : List A) → AreMatched ws vs → (length ws == 0) ≡ is_empty (frames ws vs)
+nothing [] vs m = refl
+nothing (Binary o ∷ ws) [] m = absurd m
+nothing (Binary o ∷ ws) (a ∷ vs) m = grind arith
+nothing (Prefix o ∷ ws) vs m = grind arith
+nothing (Opening ∷ ws) vs m = grind arith
+
+-- what an operation does to the stacks
+pub ruleset stack_steps = (heights, pushed, top, nothing, reverse-append, length-reverse, length-take-le)
 
 module _ {A : Type 0} (m : Meaning A) where
   -- the meaning so far is that of the state if the text ends, and nothing if the text is unreadable

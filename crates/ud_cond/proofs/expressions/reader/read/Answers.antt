@@ -8,7 +8,6 @@ use Rattle.ud_cond.proofs.lemmas.expressions.ReadingLemmas.{reads-stuck, reads-f
 use Rattle.ud_cond.proofs.lemmas.expressions.StackLemmas.{ends, ends-unreadable}
 use Rattle.ud_cond.proofs.lemmas.expressions.KeepingLemmas.{if_some, if_none, count_noted, needs_of, has_of}
 use Rattle.ud_cond.proofs.expressions.reader.read.Goals as goal
-use Rattle.std.proofs.lemmas.Grind.{common_steps}
 
 pub tokens-init : goal.tokens-init
 tokens-init g c = let w : weight c.args.stacks.now ≡ 0 = ap (λ ps. weight ps) c.requires.empty in
@@ -64,7 +63,10 @@ tokens-preserved-in-None g c = let K = g.K.Keeper.keeping in
     )
 
 pub read_operator-requires : goal.read_operator-requires
-read_operator-requires g c = grind (arith, common_steps, shorter)
+read_operator-requires g c =
+    let less = shorter c.tokens.rest.now c.in-Found.after.now (as_token c.in-Found.token) (sym c.in-Found.ensures) in
+    let one : operand_weight c.tokens.operand ≡ 1 = ap operand_weight c.in-Some.is in
+    (omega (arith, c.tokens.invariant.1), omega (arith, c.tokens.invariant.2))
 
 pub returns-in_err-operand-in-Some-clause-none : goal.returns-in_err-operand-in-Some-clause-none
 returns-in_err-operand-in-Some-clause-none g c = let K = g.K.Keeper.keeping in
