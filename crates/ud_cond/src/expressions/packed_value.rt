@@ -1,17 +1,15 @@
 //! Values packed for the stacks of a long expression, which saves a third of their memory.
 
 ghost use Rattle.std.specs.Prelude.{◌≡◌};
-ghost use Rattle.ud_cond.specs.expressions.PackedAmounts.{amount_of};
 
 use crate::expressions::values::Value;
 use std::marker::Model;
 use ud_model::Amount;
 
 /// How a number bounds a value. The variants have the order of `Amount`, so packing copies a byte.
-#[derive(Clone, Copy, Default)]
+#[derive(Clone, Copy)]
 enum Bound {
     /// The value may be any number.
-    #[default]
     Unbounded,
     /// The value is the number.
     Exact,
@@ -20,7 +18,7 @@ enum Bound {
 }
 
 /// A left operand that takes no more memory than its number and facts.
-#[derive(Default, Drop)]
+#[derive(Drop)]
 pub(crate) struct PackedValue {
     /// The number or the least one, if it is known.
     number: i64,
@@ -32,6 +30,19 @@ pub(crate) struct PackedValue {
     is_listed: bool,
     /// `true` if the operand has an undefined symbol with arguments.
     calls_undefined: bool,
+}
+
+/// Nothing is known, all zeros.
+impl Default for PackedValue {
+    fn default() -> Self {
+        PackedValue {
+            number: 0,
+            bound: Bound::Unbounded,
+            has_u: false,
+            is_listed: false,
+            calls_undefined: false,
+        }
+    }
 }
 
 impl Model for PackedValue {
@@ -53,7 +64,11 @@ impl PackedValue {
     pub(crate) fn of(value: Value) -> PackedValue
         ensures { result ≡ value }
     {
-        let (bound, number) = pack(value.number);
+        let (bound, number) = match value.number {
+            Amount::Anything => (Bound::Unbounded, 0),
+            Amount::Exactly(number) => (Bound::Exact, number),
+            Amount::AtLeast(least) => (Bound::Lower, least),
+        };
         PackedValue {
             number,
             bound,
@@ -77,17 +92,5 @@ impl PackedValue {
             listed: self.is_listed,
             calls_undefined: self.calls_undefined,
         }
-    }
-}
-
-/// Returns a number and how it bounds the value.
-#[inline(always)]
-fn pack(amount: Amount) -> (Bound, i64)
-    ensures { amount ≡ amount_of result.0 result.1 }
-{
-    match amount {
-        Amount::Anything => (Bound::Unbounded, 0),
-        Amount::Exactly(number) => (Bound::Exact, number),
-        Amount::AtLeast(least) => (Bound::Lower, least),
     }
 }
