@@ -2,8 +2,7 @@
 //!
 //! `ud_model.specs.conditions.Tokens` defines the tokens of an expression (C11 6.4).
 
-ghost use Rattle.std.specs.Prelude.{◌≡◌, drop, length, option_map, slice_index, ◌-◌, bytes_eq};
-ghost use Rattle.std.specs.Prelude.{codes};
+ghost use Rattle.std.specs.Prelude.{◌≡◌, drop, length, option_map, ◌-◌};
 ghost use Rattle.ud_model.specs.conditions.Tokens as spec;
 ghost use Rattle.ud_model.specs.text.Bytes as bytes;
 ghost use Rattle.ud_cond.specs.CondViews.{as_next};
@@ -98,39 +97,21 @@ fn has_exponent_sign(word: &[u8], rest: &[u8]) -> bool
         && (starts_with_byte(b'+', rest) || starts_with_byte(b'-', rest))
 }
 
-/// Returns whether a word begins with a digit.
-fn begins_with_digit(word: &[u8]) -> bool
-    ensures { result ≡ bytes.is_digit (slice_index word.now 0) }
-{
-    match word {
-        [] => false,
-        [first, ..] => first.is_ascii_digit(),
-    }
-}
-
-/// Returns whether a word is `defined`.
-#[inline(always)]
-fn is_defined(word: &[u8]) -> bool
-    ensures { result ≡ bytes_eq word.now (codes "defined") }
-{
-    matches!(word, b"defined")
-}
-
 /// Returns the token of a word, which is a constant if it begins with a digit.
 #[inline(always)]
 fn word_token<'a>(word: &'a [u8], rest: &'a [u8]) -> NextToken<'a>
     ensures { as_next result ≡ spec.word_token word.now rest.now }
 {
-    if begins_with_digit(word) {
-        if is_constant(word) && !has_exponent_sign(word, rest) {
-            NextToken::Found(Token::Number(word), rest)
-        } else {
-            NextToken::Unreadable
+    match word {
+        [b'0'..=b'9', ..] => {
+            if is_constant(word) && !has_exponent_sign(word, rest) {
+                NextToken::Found(Token::Number(word), rest)
+            } else {
+                NextToken::Unreadable
+            }
         }
-    } else if is_defined(word) {
-        NextToken::Found(Token::Defined, rest)
-    } else {
-        name_token(word, rest)
+        b"defined" => NextToken::Found(Token::Defined, rest),
+        _ => name_token(word, rest),
     }
 }
 
