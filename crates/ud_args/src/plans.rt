@@ -6,13 +6,10 @@
 //! The arguments are read twice, by `input_of` before the file is opened and by `plan` inside
 //! `tool`. Rejected: handing the plan to `tool`, where a caller could pass another one.
 
-ghost use Rattle.std.specs.Prelude.{◌≡◌, ◌++◌, ◌∷◌, [], List, Some, None, IsSome, IfOk};
-ghost use Rattle.std.specs.Prelude.{IfErr, IfSome, IfNone, option_map};
-ghost use Rattle.ud_model.specs.conditions.Table.{Argument};
-ghost use Rattle.ud_cond.specs.symbols.SymbolTable.{TableRepresents};
+ghost use Rattle.std.specs.Prelude.{◌≡◌, [], List, Some, None, IsSome, IfOk, IfErr, IfSome, IfNone};
+ghost use Rattle.std.specs.Prelude.{option_map};
 ghost use Rattle.ud_cond.specs.CondViews.{argument_for};
-ghost use Rattle.ud_model.specs.answer.CommandLine.{ParsedArg as GivenInWords};
-ghost use Rattle.ud_model.specs.answer.CommandLine.{argument_in};
+ghost use Rattle.ud_model.specs.answer.CommandLine.{ParsedArg as GivenInWords, argument_in};
 ghost use Rattle.ud_args.specs.ParsedArgs.{as_parsed, parsed_arg};
 ghost use Rattle.ud_args.specs.ParsedSettings.{IsSetting, IsUsageOf, SetsSymbol};
 ghost use Rattle.ud_args.specs.LeastSymbols.{least_argument};

@@ -3,8 +3,7 @@
 //! An expression is evaluated with signed numbers first. If it has a `u`, its value is the one with
 //! 0 as the least number.
 
-ghost use Rattle.std.specs.Prelude.{◌≡◌, ◌≤◌, List, length, option_map, true, IfSome};
-ghost use Rattle.ud_model.specs.text.Bytes.{are_word_bytes, is_identifier};
+ghost use Rattle.std.specs.Prelude.{◌≡◌, ◌≤◌, List, length, option_map, true};
 ghost use Rattle.ud_model.specs.conditions.Table.{Argument};
 ghost use Rattle.ud_model.specs.conditions.Conditions as spec;
 ghost use Rattle.ud_model.specs.declared.limits.TheConstants.{MAX_LINE_BYTES};

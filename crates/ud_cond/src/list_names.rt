@@ -1,6 +1,6 @@
 //! The names in the text of a directive.
 
-ghost use Rattle.std.specs.Prelude.{◌≡◌, ◌≤◌, length, is_some, option_map, None};
+ghost use Rattle.std.specs.Prelude.{◌≡◌, ◌≤◌, length, is_some, None};
 ghost use Rattle.ud_model.specs.conditions.Parsing.{expression_of};
 ghost use Rattle.ud_model.specs.conditions.Names.{names_of, names_in_tree, name_alone};
 ghost use Rattle.ud_model.specs.conditions.Conditions.{sole_name};

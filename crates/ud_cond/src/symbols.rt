@@ -8,8 +8,8 @@
 //! chain of names ends, for long chains that no command line has.
 
 ghost use Rattle.std.specs.Prelude.{◌≡◌, ◌++◌, ◌∷◌, [], List, option_map, OnOk, OnErr, IfOk, IfErr};
-ghost use Rattle.std.specs.Prelude.{ℕ, IsErrOf, Some, None, ◌↔◌, false, true, IsTrue, length};
-ghost use Rattle.std.specs.Prelude.{bytes_eq, ◌<◌, ◌+◌, IfSome, IfNone, set};
+ghost use Rattle.std.specs.Prelude.{IsErrOf, Some, None, ◌↔◌, false, true, length, bytes_eq, ◌<◌};
+ghost use Rattle.std.specs.Prelude.{◌+◌, IfSome, IfNone, set};
 ghost use Rattle.std.specs.List.{insert};
 ghost use Rattle.ud_model.specs.conditions.Table.{Argument, entry_in};
 ghost use Rattle.ud_model.specs.answer.SymbolArguments as names;
@@ -17,8 +17,8 @@ ghost use Rattle.ud_model.specs.conditions.Symbols as ends;
 ghost use Rattle.ud_cond.specs.symbols.Keys as spec;
 ghost use Rattle.ud_cond.specs.symbols.Marks as marked;
 ghost use Rattle.ud_cond.specs.symbols.SymbolTable.{TableRepresents, SetsEntry, name_cmp};
-ghost use Rattle.ud_cond.specs.symbols.SymbolTable.{same_key_cmp, IsRowOf, IsGapFor, name_at};
-ghost use Rattle.ud_cond.specs.symbols.SymbolTable.{AreSorted, LacksNames, MustSearch};
+ghost use Rattle.ud_cond.specs.symbols.SymbolTable.{same_key_cmp, IsRowOf, IsGapFor, AreSorted};
+ghost use Rattle.ud_cond.specs.symbols.SymbolTable.{LacksNames, MustSearch};
 ghost use Rattle.ud_cond.specs.CondViews.{as_entry, argument_for};
 
 use keys::key_of;

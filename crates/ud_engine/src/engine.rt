@@ -7,15 +7,10 @@
 //! A chunk is processed by steps of a `Cursor`. Each step skips many text lines, decides one line,
 //! or buffers the line that the chunk begins.
 
-ghost use Rattle.std.specs.Prelude.{◌≡◌, ◌++◌, [], ◌<◌, ◌≤◌, ◌-◌, ◌+◌, List, ℕ, suc, length};
-ghost use Rattle.std.specs.Prelude.{false, IfOk, IfErr, OnOk, OnErr, IfSome, OnSome, IfNone};
-ghost use Rattle.std.specs.Prelude.{None, Some, Err, take, drop, true};
-ghost use Rattle.std.specs.Prelude.{is_ok, is_err, not, MatchOption};
+ghost use Rattle.std.specs.Prelude.{◌≡◌, ◌++◌, [], ◌<◌, ◌≤◌, ◌-◌, ◌+◌, List, ℕ, suc, length, false};
+ghost use Rattle.std.specs.Prelude.{IfOk, OnOk, OnErr, IfSome, OnSome, IfNone, None, Some, Err};
+ghost use Rattle.std.specs.Prelude.{take, drop, true, not, MatchOption};
 ghost use Rattle.ud_model.specs.sections.Directives.{skip_hash};
-ghost use Rattle.ud_model.specs.sections.Items.{Options};
-ghost use Rattle.ud_model.specs.answer.Printing.{Judged};
-ghost use Rattle.ud_model.specs.declared.settings.Listing.TheVariants.{Off};
-ghost use Rattle.ud_cond.specs.symbols.SymbolTable.{TableRepresents};
 ghost use Rattle.ud_io.specs.Streams.{Accepts};
 ghost use Rattle.ud_text.specs.bulk.BulkStates.{is_other_word};
 ghost use Rattle.ud_text.specs.lines.LinesState.{HasCapacity, LinesRepresent};
@@ -211,9 +206,8 @@ impl<'p, S: Show> EngineOf<&'p Plan, S, ShortLineBuffer> {
 }
 
 impl<P: PlanSource, S: Show, H: LineBuffer> EngineOf<P, S, H> {
-    ghost use Rattle.ud_engine.specs.Feeding.{Session, Begins, IsInSession};
-    ghost use Rattle.ud_engine.specs.Feeding.{FeedsChunk, WriterMatches};
-    ghost use Rattle.ud_engine.specs.Feeding.{RecordsFault};
+    ghost use Rattle.ud_engine.specs.Feeding.{Session, Begins, IsInSession, FeedsChunk};
+    ghost use Rattle.ud_engine.specs.Feeding.{WriterMatches, RecordsFault};
     ghost use Rattle.ud_engine.specs.Finishing.{Finishes};
     ghost use Rattle.ud_engine.specs.Advancing.{IsCursor, IsNext, AdvancesOrStops, IsPart};
     ghost use Rattle.ud_engine.specs.Advancing.{ConsumesOrStops, IsStep};

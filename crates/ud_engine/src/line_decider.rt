@@ -1,7 +1,6 @@
 //! Deciding lines, one after another, by a scanner and a machine.
 
 ghost use Rattle.std.specs.Prelude.{◌≡◌, ◌≤◌, ◌++◌, [], ℕ, List, length, take, IfOk, false};
-ghost use Rattle.ud_model.specs.text.Lines.{NoNewline};
 ghost use Rattle.ud_model.specs.text.Scans.{Reading};
 ghost use Rattle.ud_model.specs.sections.Tree.{Item, Tree, closed, nothing};
 ghost use Rattle.ud_model.specs.sections.Items.{Options};
@@ -11,7 +10,6 @@ ghost use Rattle.ud_text.specs.lines.LinesState.{LinesRepresent};
 ghost use Rattle.ud_model.specs.aids.LineViews.{as_line};
 ghost use Rattle.ud_text.specs.bulk.BulkScanning.{AreWholeLines};
 ghost use Rattle.ud_text.specs.lines.Consuming.{CanConsume};
-ghost use Rattle.ud_sections.specs.sections.Limits.{IsWithinLimits};
 ghost use Rattle.ud_sections.specs.sections.StepViews.{HoldsKeyword};
 ghost use Rattle.ud_sections.specs.sections.MachineState.{end_fault_of};
 ghost use Rattle.ud_sections.specs.sections.Transitions.{text_policy_of};

@@ -7,8 +7,8 @@
 //! result holds for all next text lines too. Rejected: a call of the printer for each of many
 //! lines, which would have to split the bytes into lines again.
 
-ghost use Rattle.std.specs.Prelude.{◌≡◌, bytes_eq, ◌∷◌, [], ◌++◌, ◌≤◌, List, ℕ, length, take, true};
-ghost use Rattle.std.specs.Prelude.{false, OnErr, IsTrue};
+ghost use Rattle.std.specs.Prelude.{◌≡◌, ◌∷◌, [], ◌++◌, ◌≤◌, List, ℕ, length, take, true, false};
+ghost use Rattle.std.specs.Prelude.{OnErr, IsTrue};
 ghost use Rattle.ud_model.specs.text.Lines.{NoNewline, is_ending, text_of};
 ghost use Rattle.ud_model.specs.answer.Printing.{Judged};
 ghost use Rattle.ud_model.specs.declared.limits.TheConstants.{MAX_LINES};

@@ -4,8 +4,8 @@
 //! ends. The bytes of a line cut by a read wait there for the next read. It begins with an engine
 //! for short lines, and switches to a buffer for the longest line when a line doesn't fit.
 
-ghost use Rattle.std.specs.Prelude.{◌≡◌, ◌<◌, ◌≤◌, ℕ, List, Option, length, take, true, false};
-ghost use Rattle.std.specs.Prelude.{IfSome, IfNone, IfOk, IfErr, Err};
+ghost use Rattle.std.specs.Prelude.{◌≡◌, ◌<◌, ◌≤◌, Option, length, take, false, IfSome, IfNone};
+ghost use Rattle.std.specs.Prelude.{IfOk, IfErr, Err};
 ghost use Rattle.ud_model.specs.sections.Items.{Options};
 ghost use Rattle.ud_cond.specs.symbols.SymbolTable.{TableRepresents};
 ghost use Rattle.ud_text.specs.lines.LinesState.{HasCapacity};

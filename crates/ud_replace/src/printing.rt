@@ -1,6 +1,6 @@
 //! The output of the printer of marks for a text in memory.
 
-ghost use Rattle.std.specs.Prelude.{[], IfOk};
+ghost use Rattle.std.specs.Prelude.{IfOk};
 ghost use Rattle.ud_args.specs.Plans.{ForOptionsOf};
 ghost use Rattle.ud_replace.specs.Marks.{PrintsMarks};
 

@@ -5,7 +5,7 @@
 //! it is opened for writing. Rejected: taking the text anew if the bytes differ, since a second run
 //! does that.
 
-ghost use Rattle.std.specs.Prelude.{◌≡◌, ◌<◌, ℕ, List, [], true, false, is_ok};
+ghost use Rattle.std.specs.Prelude.{◌≡◌, ◌<◌, ℕ, List, true, false, is_ok};
 ghost use Rattle.ud_replace.specs.Filling.{LooksAgain, Confirms, Fills};
 ghost use Rattle.ud_replace.specs.MadeOutcomes.{IsFresh};
 ghost use Rattle.ud_replace.specs.Replacing.{Overwrites, RenamesAt, PutsAt, ReplacesAt, KeepsAt};

@@ -10,8 +10,8 @@
 //!
 //! A new kind of lexeme needs a function in lexeme_lengths.rt and its lemma.
 
-ghost use Rattle.std.specs.Prelude.{◌≡◌, ◌≤◌, ◌<◌, ◌+◌, Bool, [], ◌∷◌, length, take, drop, true};
-ghost use Rattle.std.specs.Prelude.{IfOk, IfErr};
+ghost use Rattle.std.specs.Prelude.{◌≡◌, ◌≤◌, ◌<◌, ◌+◌, [], ◌∷◌, length, take, drop, true, IfOk};
+ghost use Rattle.std.specs.Prelude.{IfErr};
 ghost use Rattle.ud_model.specs.text.Bytes.{slash, star, number_sign};
 ghost use Rattle.ud_text.specs.bulk.BulkStates.{BulkState, block_state, can_start};
 ghost use Rattle.ud_text.specs.bulk.Blocks.{IsBlock};

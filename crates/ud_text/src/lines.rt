@@ -10,7 +10,7 @@
 
 ghost use Rattle.std.specs.Prelude.{◌≡◌, ℕ, suc, ◌+◌, ◌<◌, ◌≤◌, ◌↔◌, List, [], ◌∷◌, ◌++◌, length};
 ghost use Rattle.std.specs.Prelude.{take, drop, true, false, Some, None, IfOk, IfErr, OnOk, OnErr};
-ghost use Rattle.std.specs.Prelude.{IfSome, OnSome, IfNone, Ok, Err, IsTrue, MatchResult, Bool};
+ghost use Rattle.std.specs.Prelude.{IfSome, OnSome, IfNone, Ok, Err, IsTrue, Bool};
 ghost use Rattle.ud_model.specs.text.Lines.{NoNewline, whole_lines, partial_line, line_at, text_of};
 ghost use Rattle.ud_model.specs.text.Lines.{is_ending, IsWhole};
 ghost use Rattle.ud_text.specs.lines.Borrowing.{CanBorrow, IsFirstLine};
@@ -18,8 +18,7 @@ ghost use Rattle.ud_text.specs.lines.LinesState.{LinesRepresent, UpToNewline, Br
 ghost use Rattle.ud_text.specs.lines.LinesState.{with_fault, HasCapacity, IsComplete, IsLastLine};
 ghost use Rattle.ud_text.specs.lines.LinesState.{IsLineOf, Closes, untaken};
 ghost use Rattle.ud_model.specs.aids.LineViews.{as_line};
-ghost use Rattle.ud_text.specs.lines.Consuming.{CanConsume, EachFits, FirstIsLong};
-ghost use Rattle.ud_text.specs.bulk.BulkScanning.{AreWholeLines};
+ghost use Rattle.ud_text.specs.lines.Consuming.{CanConsume, FirstIsLong};
 
 use crate::searching::simd::find_in_lanes;
 use memchr::memchr;

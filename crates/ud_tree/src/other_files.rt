@@ -5,7 +5,7 @@
 //! those that name a symbol. A file that isn't text names none. A text that can't be searched or
 //! read is counted, since it may name one.
 
-ghost use Rattle.std.specs.Prelude.{◌≡◌, List, [], map, string_bytes, IfOk, OnOk};
+ghost use Rattle.std.specs.Prelude.{◌≡◌, List, map, string_bytes, IfOk, OnOk};
 ghost use Rattle.ud_model.specs.conditions.Table.{Argument};
 ghost use Rattle.ud_cond.specs.symbols.SymbolTable.{TableRepresents};
 ghost use Rattle.ud_replace.specs.Moments.{EachCall};

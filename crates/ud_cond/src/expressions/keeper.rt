@@ -1,6 +1,6 @@
 //! What a reader of expressions keeps of each part.
 
-ghost use Rattle.std.specs.Prelude.{◌≡◌, ◌≤◌, ◌<◌, ◌+◌, ◌++◌, ◌∷◌, [], List, Bool, true};
+ghost use Rattle.std.specs.Prelude.{◌≤◌, ◌<◌, ◌+◌, ◌++◌, ◌∷◌, [], List, Bool, true};
 ghost use Rattle.ud_model.specs.conditions.Parsing.{Meaning};
 ghost use Rattle.ud_model.specs.declared.limits.TheConstants.{MAX_LINE_BYTES};
 ghost use Rattle.ud_cond.specs.expressions.Keepings as spec;

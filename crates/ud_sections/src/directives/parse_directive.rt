@@ -1,7 +1,6 @@
 //! Parsing the directive of a line.
 
-ghost use Rattle.std.specs.Prelude.{◌≡◌, ◌+◌, length, IfOk, IfNone, IfSome, MatchOption, Some};
-ghost use Rattle.std.specs.Prelude.{None, true};
+ghost use Rattle.std.specs.Prelude.{◌≡◌, ◌+◌, length, IfOk, IfSome, MatchOption, Some, None, true};
 ghost use Rattle.ud_model.specs.text.Bytes.{skip_white};
 ghost use Rattle.ud_model.specs.sections.Directives.{text, content_of, skip_white_and_hash};
 ghost use Rattle.ud_model.specs.sections.Directives.{is_continued_outside_comment};

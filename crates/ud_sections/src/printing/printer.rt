@@ -28,7 +28,7 @@ pub enum Printer {
 }
 
 impl Printer {
-    ghost use Rattle.std.specs.Prelude.{◌≡◌, [], List, ℕ};
+    ghost use Rattle.std.specs.Prelude.{◌≡◌, [], List};
     ghost use Rattle.ud_model.specs.answer.Printing.{Judged, piece_after, style_of};
     ghost use Rattle.ud_sections.specs.printing.Printers.{printer_represents, printer_piece};
 

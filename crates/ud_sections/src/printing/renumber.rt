@@ -1,6 +1,6 @@
 //! A printer that numbers the lines after removed ones.
 
-ghost use Rattle.std.specs.Prelude.{◌≡◌, ◌+◌, ◌≤◌, ◌++◌, length};
+ghost use Rattle.std.specs.Prelude.{◌≡◌};
 ghost use Rattle.ud_model.specs.answer.Printing.{number_line};
 ghost use Rattle.ud_model.specs.aids.LineViews.{as_line};
 

@@ -3,7 +3,7 @@
 //! A new printer implements `Show`: its definition as `piece`, what it represents as `represents`,
 //! and `pieces`. Its own `line_output` lets callers print lines, one or many, without passing them.
 
-ghost use Rattle.std.specs.Prelude.{◌≡◌, List, [], ◌∷◌, ◌++◌, bytes_eq, ℕ};
+ghost use Rattle.std.specs.Prelude.{◌≡◌, List, bytes_eq, ℕ};
 ghost use Rattle.std.specs.Borrow.{sem};
 ghost use Rattle.std.specs.Io.BufRead.{Rests};
 ghost use Rattle.ud_model.specs.text.Lines.{text_of};

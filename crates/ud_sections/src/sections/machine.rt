@@ -15,8 +15,7 @@ ghost use Rattle.ud_model.specs.sections.Directives.{content_of};
 ghost use Rattle.ud_model.specs.sections.Items.{Options, mode_after};
 ghost use Rattle.ud_model.specs.declared.limits.TheConstants.{MAX_LINE_BYTES, MAX_DEPTH};
 ghost use Rattle.ud_model.specs.aids.LineViews.{as_line, as_scan};
-ghost use Rattle.ud_sections.specs.directives.ParsedDirectives.{content_found};
-ghost use Rattle.ud_sections.specs.directives.ParsedDirectives.{IsWithinScan};
+ghost use Rattle.ud_sections.specs.directives.ParsedDirectives.{content_found, IsWithinScan};
 ghost use Rattle.ud_sections.specs.sections.ClassifiedLines.{classified};
 ghost use Rattle.ud_sections.specs.sections.Limits.{IsWithinLimits};
 ghost use Rattle.ud_sections.specs.sections.StackOps.{applied, innermost_of};
@@ -61,13 +60,10 @@ pub struct Machine {
 
 impl Machine {
     ghost use Rattle.ud_sections.specs.sections.MachineState.{MachineRepresents, IsMachineStep};
-    ghost use Rattle.ud_sections.specs.sections.MachineState.{StepsOverText};
-    ghost use Rattle.ud_sections.specs.sections.MachineState.{HasEndFault, end_fault_of};
-    ghost use Rattle.ud_sections.specs.sections.MachineState.{machine_fault};
-    ghost use Rattle.ud_sections.specs.sections.Transitions.{IsTransition};
-    ghost use Rattle.ud_sections.specs.sections.Transitions.{text_verdict};
-    ghost use Rattle.ud_sections.specs.sections.Transitions.{text_policy_of, transition_of};
-    ghost use Rattle.ud_sections.specs.sections.Transitions.{context_of};
+    ghost use Rattle.ud_sections.specs.sections.MachineState.{StepsOverText, HasEndFault};
+    ghost use Rattle.ud_sections.specs.sections.MachineState.{end_fault_of, machine_fault};
+    ghost use Rattle.ud_sections.specs.sections.Transitions.{IsTransition, text_verdict};
+    ghost use Rattle.ud_sections.specs.sections.Transitions.{text_policy_of};
     ghost use Rattle.ud_sections.specs.sections.EndFaults.{end_in};
 
     /// Creates a machine that has read no line.

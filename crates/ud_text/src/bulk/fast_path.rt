@@ -12,14 +12,13 @@
 //! Rejected: keeping the line at each comment, whose newlines would have to be searched; stopping
 //! at lines with one quote; looking back for quotes at each comment.
 
-ghost use Rattle.std.specs.Prelude.{◌≡◌, ◌≤◌, ◌<◌, ◌+◌, ◌-◌, Bool, ℕ, [], ◌∷◌, length, take, drop};
-ghost use Rattle.std.specs.Prelude.{slice_index, true};
-ghost use Rattle.std.specs.Prelude.{false, IfSome};
+ghost use Rattle.std.specs.Prelude.{◌≡◌, ◌≤◌, ◌<◌, ◌+◌, ◌-◌, [], ◌∷◌, length, take, drop};
+ghost use Rattle.std.specs.Prelude.{slice_index, true, false, IfSome};
 ghost use Rattle.ud_model.specs.text.Bytes.{slash, star, number_sign, is_quote};
 ghost use Rattle.ud_text.specs.bulk.BulkStates.{BulkState, can_start};
 ghost use Rattle.ud_text.specs.bulk.Blocks.{IsBlock};
 ghost use Rattle.ud_text.specs.bulk.BulkLexemes.{IsSplice, NoStarPair};
-ghost use Rattle.ud_text.specs.bulk.Progress.{SkippedBy, ReadTo, bulk_state_of};
+ghost use Rattle.ud_text.specs.bulk.Progress.{SkippedBy, bulk_state_of};
 ghost use Rattle.ud_text.specs.bulk.Reaching.{Reached, InReach, GoesOn};
 ghost use Rattle.ud_text.specs.scan.LexerViews.{lex_state_of};
 

@@ -4,7 +4,7 @@
 //! than a keyword follows that `#`. So the bytes are read from one `#` to the next, and line
 //! boundaries are looked for only at the end.
 
-ghost use Rattle.std.specs.Prelude.{◌≡◌, ◌≤◌, ◌<◌, ◌+◌, length, take, drop, true};
+ghost use Rattle.std.specs.Prelude.{◌≤◌, ◌<◌, ◌+◌, length, take, drop, true};
 ghost use Rattle.ud_text.specs.bulk.BulkScanning.{ArePlainText};
 ghost use Rattle.ud_text.specs.bulk.BulkLexemes.{NoHash};
 ghost use Rattle.ud_text.specs.bulk.PlainText.{NoneBeginsDirective, is_white_past_all};

@@ -1,6 +1,6 @@
 //! Counts newlines, and finds how far whole lines within the limit go.
 
-ghost use Rattle.std.specs.Prelude.{◌≡◌, ◌≤◌, ◌<◌, ℕ, length, take, drop, true};
+ghost use Rattle.std.specs.Prelude.{◌≡◌, ◌≤◌, ◌<◌, length, take, drop};
 ghost use Rattle.std.specs.List.{count_by};
 ghost use Rattle.ud_model.specs.text.Lines.{whole_lines};
 ghost use Rattle.ud_text.specs.bulk.BulkScanning.{AreWholeLines};

@@ -3,7 +3,7 @@
 //! Each row of the symbols begins with a mark, and loses it once a condition of a text that is read
 //! has its name. A name is looked up once for each word, whatever the number of names.
 
-ghost use Rattle.std.specs.Prelude.{◌≡◌, ◌∷◌, [], false, true, filter, map};
+ghost use Rattle.std.specs.Prelude.{◌≡◌, ◌∷◌, [], false, filter, map};
 ghost use Rattle.std.specs.List.{count_by, flat_map};
 ghost use Rattle.ud_cond.specs.symbols.Marks.{is_marked};
 ghost use Rattle.ud_io.specs.Streams.{Sends, stream_of};

@@ -6,7 +6,6 @@ use Rattle.ud_args.specs.ParsedArgs.{as_parsed, parsed}
 use Rattle.ud_args.specs.TreeWords.{unifdef_arg, unifdef_args}
 use Rattle.ud_args.proofs.TreeLemmas.{unifdef_args-here, unifdef_args-past}
 use Rattle.ud_args.proofs.tree_words.plan_among.Goals as goal
-use Rattle.ud_args.proofs.tree_words.plan_among.Goals.{then-is_unifdef_option+in_ok-apply_in_tree, else-is_unifdef_option}
 
 pub returns-in_err-apply_in_tree-clause-err : goal.returns-in_err-apply_in_tree-clause-err
 returns-in_err-apply_in_tree-clause-err c =

@@ -2,7 +2,6 @@
 use Rattle.std.proofs.Common.{arith, ◌+◌, ◌-◌}
 use Rattle.ud_text.proofs.lemmas.bulk.ReachLemmas.{none_on, none_between}
 use Rattle.ud_text.proofs.bulk.fast_path.find_star_pair.Goals as goal
-use Rattle.ud_text.proofs.bulk.fast_path.find_star_pair.Goals.{else-at-end-via-then-at-end+else-is_star_pair, else-at-end-via-else-at-end}
 
 pub loop-end-init : goal.loop-end-init
 loop-end-init c = record {

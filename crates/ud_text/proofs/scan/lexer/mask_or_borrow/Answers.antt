@@ -4,7 +4,6 @@ use Rattle.ud_model.specs.text.Bytes.{are_white}
 use Rattle.ud_text.specs.scan.LexerViews.{lex_state_of}
 use Rattle.ud_text.proofs.lemmas.scan.MaskLemmas.{plain_run}
 use Rattle.ud_text.proofs.scan.lexer.mask_or_borrow.Goals as goal
-use Rattle.ud_text.proofs.scan.lexer.mask_or_borrow.Goals.{then-are_white, else-are_white}
 
 pub returns-then-first_mark-content-clause-masks : goal.returns-then-first_mark-content-clause-masks
 returns-then-first_mark-content-clause-masks g c = λ text r.

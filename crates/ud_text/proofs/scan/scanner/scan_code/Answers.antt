@@ -10,7 +10,7 @@ use Rattle.ud_text.specs.scan.ScannerState.{ScannerRepresents, scanner_state_of}
 use Rattle.ud_text.proofs.lemmas.scan.ScannerLemmas.{represents_code, scan_carried, same_parts, no_newline-content}
 use Rattle.ud_text.proofs.scan.scanner.scan_code.Given.{Over}
 use Rattle.ud_text.proofs.scan.scanner.scan_code.Goals as goal
-use Rattle.ud_text.proofs.scan.scanner.scan_code.Goals.{After-comment_at, then-spliced, else-spliced}
+use Rattle.ud_text.proofs.scan.scanner.scan_code.Goals.{After-comment_at}
 use Rattle.std.proofs.lemmas.Grind.{common_steps}
 
 pub mask_or_borrow-requires : goal.mask_or_borrow-requires
