@@ -4,7 +4,8 @@ use Rattle.std.proofs.Math.Seq.{drop-cons}
 use Rattle.std.specs.Str.{IsUtf8, encode_utf8_all}
 use Rattle.std.specs.Char.{encode_utf8}
 use Rattle.std.proofs.lemmas.Grind.{common_steps}
-use Rattle.std.proofs.lemmas.Str.{encodes-chars, char_from_byte}
+use Rattle.std.proofs.lemmas.Str.{chars-nil, chars_past_char, encodes-chars, char_from_byte}
+use Rattle.std.proofs.StrCases.{chars_of_empty}
 use Rattle.ud_model.specs.answer.CommandLine.{option_letters}
 use Rattle.ud_args.specs.CommandLines.{Parsed, option, option_then}
 
@@ -27,3 +28,6 @@ option_letters-other (b ∷ bs) rest c e h =
 pub texts-next : (words : List (String Global)) (n : ℕ) (w : String Global) → n < length words → w ≡ get_or words n w
     → map string_bytes (drop n words) ≡ string_bytes w ∷ map string_bytes (drop (n + 1) words)
 texts-next words n w h e = rw (add-one, drop-cons words n w h) (ap (λ (x : String Global). string_bytes x ∷ map string_bytes (drop (suc n) words)) (sym e))
+
+-- the words after one, and the letters after one
+pub ruleset word_steps = (common_steps, chars-nil, chars_of_empty, chars_past_char, option_then-bytes, texts-next)

@@ -62,6 +62,7 @@ pub(crate) struct CommandLine<'a> {
     only_operands: bool,
 }
 
+#[tactic(auto, using(crate::proofs::LetterLemmas::word_steps))]
 impl<'a> CommandLine<'a> {
     ghost use Rattle.ud_args.specs.ParsedArgs.{remaining, as_parsed, parsed_then, operands};
     ghost use Rattle.ud_args.specs.ParsedArgs.{next_words, after_letters, ordinary_word};
@@ -222,6 +223,7 @@ fn option_letters(word: &str) -> &str
 }
 
 /// Returns the first letter of a text and what follows, or `None` if the text is empty.
+#[tactic(auto, using(crate::proofs::LetterLemmas::word_steps))]
 fn split_first_letter(text: &str) -> Option<(char, &str)>
     ensures letters { chars text.now ≡ letters_of result }
     ensures bytes { text.now ≡ bytes_of result }

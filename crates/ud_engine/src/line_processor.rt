@@ -271,6 +271,7 @@ fn append_line_output<W: Write>(
 
 /// Appends `pending` and the parts that the printer makes of the next line, if they differ from the
 /// line. Returns whether they were appended.
+#[tactic(auto, using(ud_io::proofs::StreamLemmas::takes_both))]
 #[inline(never)]
 fn append_parts_of<S: Show, W: Write>(
     show: &mut S,

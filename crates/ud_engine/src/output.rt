@@ -51,6 +51,7 @@ impl Output {
     }
 
     /// Writes all buffered bytes, then appends `bytes`.
+    #[tactic(auto, using(ud_io::proofs::StreamLemmas::takes_after_flush))]
     fn append_after_flush<W: Write>(&mut self, bytes: &[u8], out: &mut Watched<W>)
         ensures { Accepts W.contents self.old self.new out.old out.new bytes.now }
     {

@@ -292,6 +292,7 @@ impl<H: LineBuffer> Lines<H> {
 
     /// Consumes these whole lines. Returns the number of the last line consumed. See
     /// `whole_lines_len` for which lines may be consumed.
+    #[tactic(auto, using(crate::proofs::lemmas::lines::ConsumeLemmas::represent_consumed))]
     pub fn consume(&mut self, lines: &[u8]) -> u32
         requires whole_lines { CanConsume self.old lines.now }
         requires not_closed { self.old.closed ≡ false }

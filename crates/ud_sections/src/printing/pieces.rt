@@ -100,6 +100,7 @@ impl<'a> Pieces<'a> {
     }
 
     /// Creates the output for a line that has `word` in place of its keyword.
+    #[tactic(auto, using(crate::proofs::lemmas::printing::PartLemmas::replaced_part))]
     #[inline(always)]
     fn with_keyword(line: &Line<'a>, keyword: Span, word: &'a [u8]) -> Pieces<'a>
         requires within { keyword.at + keyword.len ≤ length line.now.body.now }
@@ -119,6 +120,7 @@ impl<'a> Pieces<'a> {
     }
 
     /// Creates the output for a line whose body has `word` in place of its bytes from `at` on.
+    #[tactic(auto, using(crate::proofs::lemmas::printing::PartLemmas::replaced_end))]
     #[inline(always)]
     fn with_end(line: &Line<'a>, at: usize, word: &'a [u8]) -> Pieces<'a>
         requires within { at ≤ length line.now.body.now }

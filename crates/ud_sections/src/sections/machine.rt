@@ -210,6 +210,7 @@ impl Machine {
     }
 
     /// Reads all lines up to number `last`, at least one, all of them text. Returns their verdict.
+    #[tactic(auto, using(crate::proofs::lemmas::sections::MachineLemmas::reads_text))]
     pub fn step_text(&mut self, last: u32) -> Verdict
         ensures value { StepsOverText self.old self.new last result }
         ensures verdict { result ≡ text_verdict self.old }

@@ -26,6 +26,7 @@ pub fn is_other_word(bytes: &[u8]) -> bool
 
 /// Returns how many leading bytes rule out a keyword: the white space before the first word, and
 /// two bytes of it. None of these bytes is significant.
+#[tactic(auto, using(crate::proofs::lemmas::bulk::NameLemmas::word_begins))]
 pub(crate) fn other_word_len(bytes: &[u8]) -> Option<usize>
     ensures bound { IfSome result (λ n. n ≤ length bytes.now) }
     ensures plain { IfSome result (λ n. NoSignificant (take n bytes.now)) }

@@ -39,6 +39,7 @@ fn insignificant_second(rest: &[u8]) -> Option<u8>
 
 /// Returns 2 for a slash and an insignificant byte, which together begin no comment. `None` if the
 /// byte after the slash is significant.
+#[tactic(auto, using(crate::proofs::lemmas::bulk::LexemeLemmas::slash_read))]
 fn slash_len(rest: &[u8]) -> Option<usize>
     requires first { slice_index rest.now 0 ≡ slash }
     ensures bound { IfSome result (λ n. (0 < n) × (n ≤ length rest.now)) }

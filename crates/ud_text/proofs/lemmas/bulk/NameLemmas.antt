@@ -47,3 +47,6 @@ name_in_front bytes [] e h o s = absurd (omega arith)
 name_in_front bytes (a ∷ []) e h o s = absurd (omega arith)
 name_in_front bytes (a ∷ b ∷ more) e h o s =
     grind (arith, past_white_within bytes (a ∷ b ∷ more) e, name_front)
+
+-- the white space before a word, and its first two bytes
+pub ruleset word_begins = (past_white_within, name_in_front)

@@ -1,7 +1,0 @@
-use Rattle.std.proofs.Common.{arith}
-use Rattle.std.proofs.lemmas.Str.{chars-nil}
-use Rattle.ud_args.proofs.LetterLemmas.{texts-next}
-use Rattle.ud_args.proofs.command_line.CommandLine.next_word.Goals as goal
-
-pub returns-in-Some : goal.returns-in-Some
-returns-in-Some c = grind (arith, chars-nil, texts-next)
