@@ -20,3 +20,6 @@ directory_len_slash path i within is =
 pub directory_len_other : (path : List ℕ) (i : ℕ) → i < length path → get_or path i 0 ≢ 47 →
     directory_len (take (i + 1) path) ≡ directory_len (take i path)
 directory_len_other path i within is = grind (arith, common_steps, take_more, directory_len-append)
+
+-- a byte ends the directory or doesn't
+pub ruleset directory_bytes = (directory_len_slash, directory_len_other)

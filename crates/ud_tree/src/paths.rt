@@ -16,7 +16,7 @@ pub(crate) const FRESH: &[u8] = b".unifdef-tree.";
 const LONGEST_END: usize = 240;
 
 /// Returns the number of bytes of a path up to and including its last slash; 0 if there is none.
-#[tactic(auto, using(crate::proofs::PathLemmas::directory_len_slash, crate::proofs::PathLemmas::directory_len_other))]
+#[tactic(auto, using(crate::proofs::PathLemmas::directory_bytes))]
 fn directory_len(path: &[u8]) -> usize
     ensures value { result ≡ directory_len path.now }
     ensures within { result ≤ length path.now }
