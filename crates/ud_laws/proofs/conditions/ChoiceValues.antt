@@ -21,8 +21,7 @@ unfolding name_value
 name_less table u v n h = entry_less u v (resolve table n) (entry_in table n) h
 
 number_by : (b : Bool) (a d : Amount) (c : Number) → Stays a d → IsNumberOf b d c → IsNumberOf b a c
-number_by b a d c (inl e) h = subst (λ (x : Amount). IsNumberOf b x c) (sym e) tt
-number_by b a d c (inr e) h = subst (λ (x : Amount). IsNumberOf b x c) e h
+number_by b a d c h k = grind arith
 
 module _ (table : List Argument) (u : Bool) where
   name_may : (n : List ℕ) (arguments : Bool) (c : Number) → IsInRange c → IsNumberOf (name_has_u table n) (name_value table (name_has_u table n) n) c →

@@ -30,8 +30,7 @@ sign_no_name : (b : ℕ) (w : List ℕ) → (b == 45) ≡ true → is_identifier
 sign_no_name b w e = subst (λ (n : ℕ). is_identifier (n ∷ w) ≡ false) (sym (eqb-true b 45 e)) refl
 
 mark_no_name : (w : List ℕ) → starts_with_byte 255 w ≡ true → is_identifier w ≡ false
-mark_no_name [] e = refl
-mark_no_name (b ∷ w) e = subst (λ (n : ℕ). is_identifier (n ∷ w) ≡ false) (sym (eqb-true b 255 e)) refl
+mark_no_name w e = grind (arith, eqb-true)
 
 neither : (c k : Bool) (x y : Option ℤ) (z : ℤ) → c ≡ false → k ≡ false → (if c then x else if k then y else None) ≡ Some z → ⊥
 neither c k x y z d l e = grind arith
@@ -87,8 +86,7 @@ turns_refines u v w (inr p) =
     (from_refines u p.from p.number p.above (value_fits (constant_in w) p.number (number_text w p.number p.is_number).1)))
 
 turns_sign : (v w : List ℕ) → Turns v w → end_has_u (Some w) ≡ end_has_u (Some v)
-turns_sign v w (inl e) = ap (λ (x : List ℕ). end_has_u (Some x)) (sym e)
-turns_sign v w (inr p) = p.sign
+turns_sign v w h = grind arith
 
 -- 2. Tables.
 
@@ -98,8 +96,7 @@ Texts None o = o ≡ None
 Texts (Some v) o = (w : List ℕ) × Turns v w × (o ≡ Some w)
 
 texts_itself : (o : Option (List ℕ)) → Texts o o
-texts_itself None = refl
-texts_itself (Some v) = (v, inl refl, refl)
+texts_itself o = grind arith
 
 entry_texts : (e f : Option Entry) → Chooses e f → Texts (text_in e) (text_in f)
 entry_texts e _ same = texts_itself (text_in e)
@@ -153,20 +150,17 @@ module _ (t u : List Argument) (h : ChoosesNumbers t u) where
   ends n = ends_by n (resolve t n) (resolve u n) refl refl
 
   end_refines : (b : Bool) (o p : Option (List ℕ)) → Texts o p → Refines (end_value b o) (end_value b p)
-  end_refines b None p x = tt
-  end_refines b (Some v) p x = subst (λ k. Refines (end_value b (Some v)) (end_value b k)) (sym x.2) (turns_refines b v x.0 x.1)
+  end_refines b o p x = grind (arith, turns_refines)
 
   end_sign : (o p : Option (List ℕ)) → Texts o p → end_has_u p ≡ end_has_u o
-  end_sign None p x = ap end_has_u x
-  end_sign (Some v) p x = ap end_has_u x.2 ∙ turns_sign v x.0 x.1
+  end_sign o p x = grind (arith, turns_sign)
 
   value_by : (b : Bool) (o p : Option (List ℕ)) (e f : Option Entry) → Chooses e f → Refines (end_value b o) (end_value b p) → Refines (name_value_by b o e) (name_value_by b p f)
   value_by b o p None _ same r = tt
   value_by b o p (Some x) _ same r = defined_as x.value
     where
       defined_as : (v : Option (List ℕ)) → Refines (defined_name_value b o v) (defined_name_value b p v)
-      defined_as None = refl
-      defined_as (Some v) = r
+      defined_as v = grind arith
   value_by b o p _ _ (number k) r = r
 
   name_refines : (b : Bool) (n : List ℕ) → Refines (name_value t b n) (name_value u b n)
@@ -200,26 +194,13 @@ module _ (t u : List Argument) (h : ChoosesNumbers t u) where
   -- 3. Expressions.
 
   sign_alike : (e : Expression) → has_unsigned u e ≡ has_unsigned t e
-  sign_alike (named n a) = name_sign n
-  sign_alike (unary o x) = sign_alike x
-  sign_alike (binary o x y) = ap₂ (λ (a : Bool) (b : Bool). a || b) (sign_alike x) (sign_alike y)
-  sign_alike (parens x) = sign_alike x
-  sign_alike _ = refl
+  sign_alike e = grind (arith, name_sign)
 
   mentions_alike : (e : Expression) → mentions_listed u e ≡ mentions_listed t e
-  mentions_alike (constant w) = refl
-  mentions_alike (named n a) = listed_by (entry_in t n) (entry_in u n) (h n)
-  mentions_alike (is_defined n p) = listed_by (entry_in t n) (entry_in u n) (h n)
-  mentions_alike (unary o x) = mentions_alike x
-  mentions_alike (binary o x y) = ap₂ (λ (a : Bool) (b : Bool). a || b) (mentions_alike x) (mentions_alike y)
-  mentions_alike (parens x) = mentions_alike x
+  mentions_alike e = grind (arith, listed_by)
 
   calls_alike : (e : Expression) → calls_undefined u e ≡ calls_undefined t e
-  calls_alike (named n a) = ap (λ (b : Bool). a && b) (undefined_alike (entry_in t n) (entry_in u n) (h n))
-  calls_alike (unary o x) = calls_alike x
-  calls_alike (binary o x y) = ap₂ (λ (a : Bool) (b : Bool). a || b) (calls_alike x) (calls_alike y)
-  calls_alike (parens x) = calls_alike x
-  calls_alike _ = refl
+  calls_alike e = grind (arith, undefined_alike)
 
   number_refines : (s b : Bool) (e : Expression) → Refines (number_of t s b e) (number_of u s b e)
   number_refines s b (constant w) = refines_itself (number_of t s b (constant w))
@@ -246,16 +227,14 @@ module _ (t u : List Argument) (h : ChoosesNumbers t u) where
   tree_alike e r n = grind (arith, calls_alike, mentions_alike, cond_by, value_refines)
 
   tree_if_alike : (o : Option Expression) (r : Rules) → tree_cond_if o t r ≢ Unknown → tree_cond_if o u r ≡ tree_cond_if o t r
-  tree_if_alike None r n = refl
-  tree_if_alike (Some e) r n = tree_alike e r n
+  tree_if_alike o r n = grind (arith, tree_alike)
 
   text_alike : (text : List ℕ) (r : Rules) → expression_cond text t r ≢ Unknown → expression_cond text u r ≡ expression_cond text t r
   unfolding expression_cond
   text_alike text r n = tree_if_alike (expression_of text) r n
 
   name_alike : (o : Option (List ℕ)) → ifdef_decision o u ≡ ifdef_decision o t
-  name_alike None = refl
-  name_alike (Some n) = ifdef_alike (entry_in t n) (entry_in u n) (h n)
+  name_alike o = grind (arith, ifdef_alike)
 
   test_alike : (p : Test) (text : List ℕ) (r : Rules) → (decision_by_test p text t r).cond ≢ Unknown → decision_by_test p text u r ≡ decision_by_test p text t r
   test_alike p text r n = grind (arith, text_alike, name_alike)

@@ -125,32 +125,22 @@ abbrev Lasts : Amount → Amount → Type 0
 Lasts a b = (a ≡ Anything) ⊎ ((b ≡ a) ⊎ (b ≡ Anything))
 
 after_lasts : (least : Bool) (x y : Option ℤ) → After x y → Lasts (amount_from least x) (amount_from least y)
-after_lasts least None y h = inl refl
-after_lasts least (Some z) y h = inr (by (h z refl))
-  where
-    by : Or_none z y → (amount_from least y ≡ amount_from least (Some z)) ⊎ (amount_from least y ≡ Anything)
-    by (inl e) = inl (ap (amount_from least) e)
-    by (inr e) = inr (ap (amount_from least) e)
+after_lasts least x y h = grind arith
 
 counted_after : (o : Operator) (a b d e : Amount) → Lasts a b → Lasts d e → After (counted o a d) (counted o b e)
 counted_after o a b d e h k z f = grind arith
 
 alter_lasts : (b c : Bool) (o : Operator) (x y : Amount) → Lasts x y → Lasts (unary_amount b o x) (unary_amount c o y)
-alter_lasts b c o x y h = after_lasts false (apply_unary b o (counted o x Anything)) (apply_unary c o (counted o y Anything))
-    (alter_after b c o (counted o x Anything) (counted o y Anything) (counted_after o x y Anything Anything h (inl refl)))
+alter_lasts b c o x y h = grind (arith, after_lasts, alter_after, counted_after)
 
 combine_lasts : (s b c : Bool) (o : Operator) (x y v w : Amount) → Lasts x v → Lasts y w → Lasts (binary_amount s b o x y) (binary_amount s c o v w)
-combine_lasts s b c o x y v w h k = after_lasts false (apply_binary s b o (counted o x y) (counted (mirrored o) y x)) (apply_binary s c o (counted o v w) (counted (mirrored o) w v))
-    (combine_after s b c o (counted o x y) (counted (mirrored o) y x) (counted o v w) (counted (mirrored o) w v)
-    (counted_after o x v y w h k) (counted_after (mirrored o) y w x v k h))
+combine_lasts s b c o x y v w h k = grind (arith, after_lasts, combine_after, counted_after)
 
 text_after : (b c : Bool) (text : List ℕ) → After (text_value b text) (text_value c text)
 text_after b c text z e = grind arith
 
 end_lasts : (b c : Bool) (x y : Option (List ℕ)) → ((v : List ℕ) → x ≡ Some v → y ≡ Some v) → Lasts (end_value b x) (end_value c y)
-end_lasts b c None y h = inl refl
-end_lasts b c (Some v) y h = subst (λ o. Lasts (end_value b (Some v)) (end_value c o)) (sym (h v refl))
-    (after_lasts (starts_with_byte 255 v) (text_value b (constant_in v)) (text_value c (constant_in v)) (text_after b c (constant_in v)))
+end_lasts b c x y h = grind (arith, after_lasts, text_after)
 
 module _ (t u : List Argument) (more : ExtendsTable t u) where
   text_more : (n v : List ℕ) (o : Option Entry) → entry_in t n ≡ o → text_in o ≡ Some v → defined_text u n ≡ Some v
@@ -193,11 +183,7 @@ module _ (t u : List Argument) (more : ExtendsTable t u) where
 
   -- The value of an expression stays, or is unknown.
   pub value_after : (s : Bool) (e : Expression) → value_of t s e ≢ Anything → (value_of u s e ≡ value_of t s e) ⊎ (value_of u s e ≡ Anything)
-  value_after s e h = by (number_lasts s (has_unsigned t e) (has_unsigned u e) e)
-    where
-      by : Lasts (value_of t s e) (value_of u s e) → (value_of u s e ≡ value_of t s e) ⊎ (value_of u s e ≡ Anything)
-      by (inl f) = absurd (h f)
-      by (inr k) = k
+  value_after s e h = grind (arith, number_lasts)
 
   cond_by : (a b : Amount) → Lasts a b → truth_of a ≢ Unknown → (truth_of b ≡ truth_of a) ⊎ (truth_of b ≡ Unknown)
   cond_by a b h n = grind arith

@@ -27,18 +27,7 @@ looser s r o x z h e = grind arith
 
 -- An operator on operands that stay known keeps its value, without `strict`, too.
 pub binary_keeps : (s r u : Bool) (o : Operator) (x y v w : Option ℤ) → (r ≡ true → s ≡ true) → Keeps x v → Keeps y w → Keeps (apply_binary s u o x y) (apply_binary r u o v w)
-binary_keeps s r u o (Some p) (Some q) v w l h k z e = ap₂ (apply_binary r u o) (h p refl) (k q refl) ∙ e
-binary_keeps s r u o (Some p) None v w l h k z e = ap (λ (d : Option ℤ). apply_binary r u o d w) (h p refl) ∙ by w
-  where
-    by : (d : Option ℤ) → apply_binary r u o (Some p) d ≡ Some z
-    by None = (looser s r o p z l e).1
-    by (Some q) = short_both u o p q z (looser s r o p z l e).0
-binary_keeps s r u o None (Some q) v w l h k z e = ap (λ (d : Option ℤ). apply_binary r u o v d) (k q refl) ∙ by v
-  where
-    by : (d : Option ℤ) → apply_binary r u o d (Some q) ≡ Some z
-    by None = (looser s r o q z l e).1
-    by (Some p) = both_short u o p q z (looser s r o q z l e).0
-binary_keeps s r u o None None v w l h k z e = absurd (none-some z e)
+binary_keeps s r u o x y v w l h k z e = grind (arith, looser, short_both, both_short, none-some)
 
 unary_keeps : (u : Bool) (o : Operator) (x v : Option ℤ) → Keeps x v → Keeps (apply_unary u o x) (apply_unary u o v)
 unary_keeps u o x v h z e = grind arith
@@ -56,13 +45,10 @@ abbrev pub Stays : Amount → Amount → Type 0
 Stays a b = (a ≡ Anything) ⊎ (b ≡ a)
 
 pub stays_refines : (a b : Amount) → Stays a b → Refines a b
-stays_refines Anything b h = tt
-stays_refines (Exactly z) b h = grind arith
-stays_refines (AtLeast n) b h = grind arith
+stays_refines a b h = grind arith
 
 pub keeps_stays : (least : Bool) (x v : Option ℤ) → Keeps x v → Stays (amount_from least x) (amount_from least v)
-keeps_stays least None v h = inl refl
-keeps_stays least (Some z) v h = inr (ap (amount_from least) (h z refl))
+keeps_stays least x v h = grind arith
 
 same_refines : (o : Operator) (n : ℤ) (d e : Amount) → Refines d e → is_same_from o n d ≡ true → is_same_from o n e ≡ true
 same_refines o n d e h s = grind arith

@@ -17,9 +17,7 @@ wide white [] = []
 wide white (b ∷ t) = if is_white b then b ∷ wide true t else (if white then space ∷ b ∷ wide false t else b ∷ wide false t)
 
 kept_text : (b : ℕ) (v w : Bool) (t : List ℕ) → is_white b ≡ w → IsSpread w (wide w t) t → IsSpread v (if w then b ∷ wide true t else (if v then space ∷ b ∷ wide false t else b ∷ wide false t)) (b ∷ t)
-kept_text b v true t e h = kept b (subst (λ (x : Bool). IsSpread x (wide true t) t) (sym e) h)
-kept_text b true false t e h = behind space refl (kept b (subst (λ (x : Bool). IsSpread x (wide false t) t) (sym e) h))
-kept_text b false false t e h = kept b (subst (λ (x : Bool). IsSpread x (wide false t) t) (sym e) h)
+kept_text b v w t e h = grind (arith, kept, behind)
 
 from_text : (white : Bool) (t : List ℕ) → IsSpread white (wide white t) t
 from_text white [] = nothing
@@ -32,9 +30,7 @@ spaced_white (b ∷ t) = grind (arith, spaced_white t)
 kept_spaced : (any : Bool) (b : ℕ) (v w : Bool) (t : List ℕ) → is_white b ≡ w → ((x : Bool) → IsSpread x (wide w t) (spaced w t)) →
     IsSpread any (if w then b ∷ wide true t else (if v then space ∷ b ∷ wide false t else b ∷ wide false t))
     (if w then spaced true t else (if v then space ∷ b ∷ [] else b ∷ []) ++ spaced false t)
-kept_spaced any b v true t e h = in_front b e (spaced_white t) (h true)
-kept_spaced any b true false t e h = kept space (kept b (h (is_white b)))
-kept_spaced any b false false t e h = kept b (h (is_white b))
+kept_spaced any b v w t e h = grind (arith, in_front, spaced_white, kept)
 
 from_spaced : (any white : Bool) (t : List ℕ) → IsSpread any (wide white t) (spaced white t)
 from_spaced any white [] = nothing

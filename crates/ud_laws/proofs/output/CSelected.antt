@@ -77,16 +77,7 @@ pub elif_parts : (o : Options) (es : Elifs Reading) (q : Opener Reading) (ns : N
     Pairwise (Clear o) (lines_of_elifs es) (elifs_so_far true es) × Clear o (elif_line q)
     (marked true (verdict_so_far (conds_of_elifs es) an_elif q.cond))
     × Pairwise (Clear o) (lines_of_nodes ns) (nodes_so_far (is_kept (conds_of_elifs es) q.cond) ns)
-elif_parts o es q ns k =
-    let marks = marked true (verdict_so_far (conds_of_elifs es) an_elif q.cond) ∷ [] in
-    let group = pairwise_parts (Clear o) (lines_of_elifs es ++ elif_line q ∷ [])
-    (elifs_so_far true es ++ marks) (lines_of_nodes ns)
-    (nodes_so_far (is_kept (conds_of_elifs es) q.cond) ns)
-    (many_both (lines_of_elifs es) (elif_line q ∷ []) (elifs_so_far true es) marks
-    (as_many_elifs true es) refl) k in
-    let own = pairwise_parts (Clear o) (lines_of_elifs es) (elifs_so_far true es) (elif_line q ∷ [])
-    marks (as_many_elifs true es) group.0 in
-    (own.0, own.1.0, group.1)
+elif_parts o es q ns k = grind (arith, pairwise_parts, many_both, as_many_elifs)
 
 pub not_any : (cs : List Cond) (c : Cond) → any_true cs ≡ false → (c ≡ Yes → ⊥) → any_true (cs ++ c ∷ []) ≡ false
 not_any (No ∷ cs) c e n = not_any cs c e n

@@ -153,8 +153,7 @@ gone_blank n before j e = grind arith
 
 pub gone_nothing : (b n : Bool) (before : List Judged) (j : Judged) → j.verdict ≡ Remove → j.line.ending ≡ [] →
     piece_of b n before j ≡ []
-gone_nothing false n before j e none = grind arith
-gone_nothing true n before j e none = gone_blank n before j e ∙ none
+gone_nothing b n before j e none = grind (arith, gone_blank)
 
 pub left_blank : (v : Verdict) (n : Bool) (before : List Judged) (l : Line) (k : Span) → IsLeft v →
     piece_of true n before (record { line = l; verdict = v; keyword = k }) ≡ piece_by false v k l

@@ -148,11 +148,7 @@ module _ (o : Options) where
   open_by r s d e both_endif f g = tt
 
   open_left : (r s : Reading) → Simplified r s → IsOpen (item_of o r) → IsOpen (item_of o s)
-  open_left r s (reading_stays e q h) g = subst (λ (x : Reading). IsOpen (item_of o x)) (sym q) g
-  open_left r s (reading_edited d i) g =
-      subst (λ (c : Content). IsOpen (item_by o s c)) (sym (ap content_of i.after ∙ i.edited.has_now))
-      (open_by r s (decision_on r.scan d o.table (rules_of o.settings)) (decision_on s.scan i.edited.now o.table (rules_of o.settings)) i.edited.kind (still_unknown o.table (rules_of o.settings) r s d i)
-      (subst (λ (c : Content). IsOpen (item_by o r c)) i.edited.has g))
+  open_left r s h g = grind (arith, reading_stays, reading_edited, open_by, still_unknown)
 
   -- A property of the lines is one of the items.
   of_reading : (P : Reading → Type 0) (r s : Reading) → (P r → P s) → P (reading_of (item_of o r)) → P (reading_of (item_of o s))
@@ -241,9 +237,8 @@ module _ (o : Options) (p : IsPlainC o) (input : List ℕ) {r : Outcome} (d : Ha
 
     copies_by : Each IsUncut i.items → Each IsFew i.items → height_of_nodes us ≤ MAX_DEPTH → ends_in_comment i.items ≡ false → IsUndecided us →
         HasOutcome o left_text (record { output = left_text; fault = None; differs = false })
-    copies_by a b c e u = runs_again o p.plain left_text j.items ss
-        (record { sound = sound_again o j.items (closed ss) j.read (uncut_now a) (few_now b) short_now (low_now c) (undecided_stay ss (undecided_now u)); are = j.are }) (undecided_now u)
-        (ap (λ (x : Bool). end_by x (last_number j.items) None) (calm_now e))
+    copies_by a b c e u = grind (arith, runs_again, sound_again, uncut_now, few_now, short_now,
+        low_now, undecided_stay, undecided_now, calm_now)
 
   copies_with : (us : Nodes Reading) (i : IsTreeOf o r.output (closed us)) → Each IsUncut i.items → Each IsFew i.items →
       height_of_nodes us ≤ MAX_DEPTH → ends_in_comment i.items ≡ false → IsUndecided us →
