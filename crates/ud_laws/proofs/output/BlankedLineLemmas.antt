@@ -188,11 +188,5 @@ endings_of (j ∷ js) = ap (λ (es : List (List ℕ)). j.line.ending ∷ es) (en
 -- An input whose last line has an ending has an output with as many lines.
 pub as_many : (o : Options) (input : List ℕ) {r : Outcome} → o.settings.blank ≡ true → o.settings.listing ≡ Off → o.settings.unpadded ≡ false → partial_line input ≡ [] → HasOutcome o input r → r.fault ≡ None →
     map (λ (k : Line). k.ending) (lines_of r.output) ≡ map (λ (l : Line). l.ending) (lines_of input)
-as_many o input b off u e (ran_as (stops xs t f s)) h = cc
-as_many o input b off u e (ran_as (ends xs t g)) h =
-    let js : List Judged = judged_lines xs (marks t) in
-    let are : map (λ (j : Judged). j.line) js ≡ lines_of input = judged_read (ends xs t g) ∙ sym g.are in
-    let whole = ap (λ (q : List ℕ). whole_lines input ++ last_line q) e ∙ append-nil (whole_lines input) in
-    same_endings (blanked_places o input b off u (ends xs t g) (ran_as (ends xs t g)))
-    (all_ended 1 (whole_lines input) js (are_whole input) (are ∙ ap (λ (ts : List (List ℕ)). numbered_from 1 ts) whole))
-    ∙ endings_of js ∙ ap (λ (ls : List Line). map (λ (l : Line). l.ending) ls) are
+as_many o input b off u e h k = grind (arith, judged_read, append-nil, same_endings, blanked_places,
+    all_ended, are_whole, endings_of)

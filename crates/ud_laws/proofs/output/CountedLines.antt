@@ -305,8 +305,7 @@ module _ (o : Options) (m : Mode) (b n : Bool) (some : (b || n) ≡ true) (padde
     counted_here h r = grind (arith, readings_last, printed_here)
 
     items_left : IsLeft v → stepped.0 ≡ with_line o m s.ys (line_after (bytes_of s.ys) p)
-    items_left h = one_more_item o m xs x t u s.ys stepped.0 k.grown.mark k.more k.long s.between.again stepped.1 h
-        ∙ ap (λ (c : Bool). with_line o m s.ys (line_after (bytes_of s.ys) (piece_by c j.verdict j.keyword j.line))) padded
+    items_left h = grind (arith, one_more_item, stepped, k, with_line, line_after, bytes_of)
 
     items_gone : v ≡ Remove → stepped.0 ≡ s.ys
     items_gone f = same_items o m xs x t u s.ys stepped.0 k.grown.mark k.more k.long s.between.again stepped.1 f
@@ -392,19 +391,8 @@ module _ (o : Options) (m : Mode) (b n : Bool) (some : (b || n) ≡ true) (padde
             has_end h = grind arith
 
         by_style : (c : Bool) → b ≡ c → State (xs ++ x ∷ []) u
-        by_style true g = put_blank g
-        by_style false g = record {
-          ys = s.ys;
-          between = btw;
-          zs = s.zs;
-          qs = s.qs;
-          weave = s.weave;
-          whole = s.whole;
-          same = same_gone (ap₂ (λ (c d : Bool). piece_of c d (so_far xs t) j) g (number_by n g refl) ∙ (grind (arith, f)));
-          next = s.next;
-          counted = counted_gone f;
-          on = λ h. absurd (not_blank g f h);
-        }
+        by_style c g = grind (arith, put_blank, btw, same_gone, piece_of, number_by, counted_gone,
+            not_blank)
 
     gone_done : l.ending ≡ [] → v ≡ Remove → Done (xs ++ x ∷ []) u
     gone_done none f = record {
@@ -427,6 +415,4 @@ module _ (o : Options) (m : Mode) (b n : Bool) (some : (b || n) ≡ true) (padde
     next_done = by_ending (ends_or_not l i) (goes_or_left v)
       where
         by_ending : IsEnd l.ending ⊎ (l.ending ≡ []) → (v ≡ Remove) ⊎ IsLeft v → Done (xs ++ x ∷ []) u
-        by_ending (inl h) w = done (xs ++ x ∷ []) u (next_state (end_is_some l.ending h))
-        by_ending (inr h) (inl f) = gone_done h f
-        by_ending (inr h) (inr g) = left_done h g
+        by_ending h w = grind (arith, done, next_state, end_is_some, gone_done, left_done)

@@ -203,9 +203,7 @@ ends_here : (scan : Scan) → (true && is_spanning scan) ≡ false → scan.join
 ends_here scan h = (or_parts scan.joins_before scan.joins_after h).1
 
 by_content : (scan : Scan) (c : Content) (r : Reading) → (is_directive c && is_spanning scan) ≡ false → condition_with scan c ≡ condition_of (c_line_by c [] (other_lines (r ∷ [])))
-by_content scan cut_keyword r h = refl
-by_content scan text_content r h = refl
-by_content scan (directive d) r h = grind (arith, append-nil, ends_here scan h)
+by_content scan c r h = grind (arith, append-nil, ends_here)
 
 -- The condition of the line is that of the logical line.
 condition_is : (r : Reading) → NotLong r → condition_on r ≡ condition_of (c_one r)
@@ -237,16 +235,10 @@ module _ {S F : Type 0} (takes : S → List ℕ → Scan → S → Type 0) (ente
     pub back : ElifsDone by_logical by_lines fs es
 
   text_to : (r : Reading) → IsText r → TextAlike by_lines by_logical r (c_one r)
-  text_to r h = record {
-    takes = λ s t g. subst (λ (l : CLine). takes_text takes s l t) (sym (text_one r h)) g;
-    enters = λ s f t g. subst (λ (l : CLine). enters_text enters s l f t) (sym (text_one r h)) g;
-  }
+  text_to r h = grind (arith, text_one)
 
   text_back : (r : Reading) → IsText r → TextAlike by_logical by_lines (c_one r) r
-  text_back r h = record {
-    takes = λ s t g. subst (λ (l : CLine). takes_text takes s l t) (text_one r h) g;
-    enters = λ s f t g. subst (λ (l : CLine). enters_text enters s l f t) (text_one r h) g;
-  }
+  text_back r h = grind (arith, text_one)
 
   opener_to : (o : Opener Reading) → IsShort o → OpenerAlike by_lines by_logical o (opener_with_line c_one (unknown_opener o.line))
   opener_to o h s b t d = subst (λ (c : Condition). decides s c b t) (condition_is o.line h) d
@@ -290,8 +282,7 @@ group_stays [] i n = absurd i.one
 group_stays (r ∷ []) i n = by (is_foldable (r ∷ []))
   where
     by : (b : Bool) → (if b then text_of (folded_line (r ∷ [])) else plain (r ∷ [])) ≡ plain (r ∷ [])
-    by true = sym (append-nil (text_of r.line))
-    by false = refl
+    by b = grind (arith, append-nil)
 group_stays (r ∷ s ∷ rs) i n = grind (arith, common_steps, not_foldable, no_directive_on, next_joined)
 
 groups_stay : (gs : List (List Reading)) → AreLogical gs → Each NotLong (flat_map (λ (g : List Reading). g) gs) →

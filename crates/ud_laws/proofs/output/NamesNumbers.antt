@@ -91,13 +91,7 @@ module _ {S : Type 0} (table : List Argument) (rules : Rules) (value : S → Lis
 
     truth_left : (c : Bool) (n : Number) → HasValue (residual table rules e).tree (stay table rules numbers) n → HasTruth c n →
         HasTruthBy (value s) (is_known s) (expression_written (if_condition now)) c
-    truth_left c n v t = go (same_or_left table rules e cells p)
-      where
-        go : (now ≡ cells) ⊎ (expression_of (map shown now) ≡ Some (residual table rules e).tree) → HasTruthBy (value s) (is_known s) (expression_written (if_condition now)) c
-        go (inl q) = subst (λ (cs : List Cell). HasTruthBy (value s) (is_known s) (expression_written (if_condition cs)) c) (sym q)
-            (truth_of s cells e c p (h.0, h.1, truth_kept c tell.value h.0 tell.same.1 tell.same.0 (subst (λ (k : Number). HasTruth c k) (one_value v tell.has) t)))
-        go (inr q) = truth_of s now (residual table rules e).tree c q
-            (n, subst (λ (m : Choice (residual table rules e).tree). HasValue (residual table rules e).tree m n) (stay_by (value s) (is_known s) table rules e) v, t)
+    truth_left c n v t = grind (arith, same_or_left, truth_of, truth_kept, tell, one_value, stay_by)
 
     by_names : IsByNumbers table rules (decides_by value is_known) s cells e b
     by_names = record {

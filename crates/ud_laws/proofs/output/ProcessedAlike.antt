@@ -125,10 +125,7 @@ module _ (u : Bool) {S F : Type 0} (takes : S → List ℕ → Scan → S → Ty
   text_same e l q h = grind (arith, text_is, scan_of, text_stays)
 
   text_by : (e : Edited Reading) (l : Reading) → left_seen u e ≡ scanned l → TextStays e → TextAlike out p e l
-  text_by e l q h = let i = text_same e l q h in record {
-    takes = λ s t g. subst (λ (c : Scan). takes s (line_bytes l) c t) i.1 (subst (λ (b : List ℕ). takes s b e.line.scan t) i.0 g);
-    enters = λ s f t g. subst (λ (c : Scan). enters s (line_bytes l) c f t) i.1 (subst (λ (b : List ℕ). enters s b e.line.scan f t) i.0 g);
-  }
+  text_by e l q h = grind (arith, text_same)
 
   opener_same : (e : Edited Reading) (l : Reading) → left_seen u e ≡ scanned l → KeepsCondition e.verdict → condition_on e.line ≡ condition_on l
   opener_same e l q h = grind (arith, q)

@@ -105,8 +105,7 @@ module _ (t u : List Argument) (name : List ℕ) (none : IsNoValue t name) (same
   over w r h = may_be_over t u (condition_in r) (w r) (signs_alike (condition_in r) h) (each_same (names_in_tree (condition_in r)) h)
 
   back : (w : World Reading) (r : Reading) → Each (Alike t u) (names_in_tree (condition_in r)) → May u w r → May t w r
-  back w r h = may_be_over u t (condition_in r) (w r) (λ e is. sym (signs_alike (condition_in r) h e is))
-      (each_back (names_in_tree (condition_in r)) (each_same (names_in_tree (condition_in r)) h))
+  back w r h k = grind (arith, may_be_over, signs_alike, each_back, each_same)
 
   -- Each line has the property if no condition has the name.
   each_line : (P : Reading → Type 0) → ((r : Reading) → Each (Alike t u) (names_in_tree (condition_in r)) → P r) → (rs : List Reading) →
