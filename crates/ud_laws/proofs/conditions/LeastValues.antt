@@ -157,10 +157,7 @@ module _ (t u : List Argument) (h : ChoosesNumbers t u) where
 
   value_by : (b : Bool) (o p : Option (List ℕ)) (e f : Option Entry) → Chooses e f → Refines (end_value b o) (end_value b p) → Refines (name_value_by b o e) (name_value_by b p f)
   value_by b o p None _ same r = tt
-  value_by b o p (Some x) _ same r = defined_as x.value
-    where
-      defined_as : (v : Option (List ℕ)) → Refines (defined_name_value b o v) (defined_name_value b p v)
-      defined_as v = grind arith
+  value_by b o p (Some x) _ same r = grind arith
   value_by b o p _ _ (number k) r = r
 
   name_refines : (b : Bool) (n : List ℕ) → Refines (name_value t b n) (name_value u b n)
@@ -206,8 +203,7 @@ module _ (t u : List Argument) (h : ChoosesNumbers t u) where
   number_refines s b (constant w) = refines_itself (number_of t s b (constant w))
   number_refines s b (named n a) = name_refines b n
   number_refines s b (is_defined n p) = subst (λ (o : Option ℤ). Refines (amount_from false (defined_value t n)) (amount_from false o)) (sym (defined_alike n)) (refines_itself (amount_from false (defined_value t n)))
-  number_refines s b (unary o x) = let p = number_of t s b x in let q = number_of u s b x in
-      stays_refines (number_of t s b (unary o x)) (number_of u s b (unary o x)) (unary_refines b o p q (number_refines s b x))
+  number_refines s b (unary o x) = grind (arith, stays_refines, unary_refines, number_refines s b x)
   number_refines s b (binary o x y) =
       stays_refines (number_of t s b (binary o x y)) (number_of u s b (binary o x y))
       (binary_refines s s b o (number_of t s b x) (number_of u s b x) (number_of t s b y) (number_of u s b y) (λ r. r) (number_refines s b x) (number_refines s b y))

@@ -67,10 +67,7 @@ chosen (AtLeast n) b (inl h) = (n, least_itself n, λ o d e i z f. ap (λ (c : A
   where
     stays : (o : Operator) (d e : Amount) (z : ℤ) → Refines d e → numbered o (AtLeast n) d n ≡ Some z → counted o (AtLeast n) e ≡ Some z
     stays o d e z i f = grind (arith, same_refines)
-chosen (AtLeast n) b (inr h) = (h.0, h.1, λ o d e i z f. ap (λ (c : Amount). counted o c e) h.2 ∙ is o d z f)
-  where
-    is : (o : Operator) (d : Amount) (z : ℤ) → numbered o (AtLeast n) d h.0 ≡ Some z → Some h.0 ≡ Some z
-    is o d z f = grind arith
+chosen (AtLeast n) b (inr h) = grind arith
 
 pub unary_refines : (u : Bool) (o : Operator) (a b : Amount) → Refines a b → Stays (unary_amount u o a) (unary_amount u o b)
 unary_refines u o a b h = let c : Chosen a b = chosen a b h in

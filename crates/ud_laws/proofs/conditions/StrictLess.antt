@@ -10,12 +10,9 @@ use Rattle.ud_laws.proofs.conditions.Refining.{Stays, stays_refines, unary_refin
 
 module _ (table : List Argument) where
   number_stays : (u : Bool) (e : Expression) → Stays (number_of table true u e) (number_of table false u e)
-  number_stays u (unary o a) = let p = number_of table true u a in let q = number_of table false u a in
-      unary_refines u o p q (stays_refines p q (number_stays u a))
-  number_stays u (binary o a b) =
-      let p = number_of table true u a in let q = number_of table false u a in
-      let v = number_of table true u b in let w = number_of table false u b in
-      binary_refines true false u o p q v w (λ h. refl) (stays_refines p q (number_stays u a)) (stays_refines v w (number_stays u b))
+  number_stays u (unary o a) = grind (arith, unary_refines, stays_refines, number_stays u a)
+  number_stays u (binary o a b) = grind (arith, binary_refines, stays_refines, number_stays u a,
+      number_stays u b)
   number_stays u (parens a) = number_stays u a
   number_stays _ _ = inr refl
 

@@ -42,15 +42,9 @@ module _ (value : List ℕ → Number) (is_known : List ℕ → Bool) where
 
     pub stay_by : (e : Expression) → stay table rules (by e) ≡ by (left e).tree
     stay_by (unary Not a) = ap (λ (m : Choice (left a).tree). for_unary m) (stay_by a)
-    stay_by (binary And a b) =
-        ap₂ (λ (m : Choice (left a).tree) (k : Choice (left b).tree). one_or_both (is_unit And (left a).cond) (is_unit And (left b).cond) And (settled rules.strict And (left a).cond (left b).cond) (left a) (left b) m k) (stay_by a) (stay_by b)
-        ∙ one_by (is_unit And (left a).cond) (is_unit And (left b).cond) And (settled rules.strict And (left a).cond (left b).cond) (left a) (left b)
-    stay_by (binary Or a b) =
-        ap₂ (λ (m : Choice (left a).tree) (k : Choice (left b).tree). one_or_both (is_unit Or (left a).cond) (is_unit Or (left b).cond) Or (settled rules.strict Or (left a).cond (left b).cond) (left a) (left b) m k) (stay_by a) (stay_by b)
-        ∙ one_by (is_unit Or (left a).cond) (is_unit Or (left b).cond) Or (settled rules.strict Or (left a).cond (left b).cond) (left a) (left b)
-    stay_by (parens a) =
-        ap (λ (m : Choice (left a).tree). bare_or_not ((left a).lost && stands_alone (left a).tree) (left a) m) (stay_by a)
-        ∙ bare_by ((left a).lost && stands_alone (left a).tree) (left a)
+    stay_by (binary And a b) = grind (arith, one_by, stay_by a, stay_by b)
+    stay_by (binary Or a b) = grind (arith, one_by, stay_by a, stay_by b)
+    stay_by (parens a) = grind (arith, bare_by, stay_by a)
     stay_by e = grind arith
 
   all_allowed : (table : List Argument) → AreTrue table value is_known → (e : Expression) → IsAllowed table (by e)

@@ -174,11 +174,8 @@ module _ {L : Type 0} where
       (cs : List Cond) (gs : List (Group L)) → stage cs ≡ leading → Leaves gs none_kept → (c : Cond) (ns : Nodes L) (ps : Nodes (Edited L)) → ArePruned ns ps →
       Leaves (gs ++ group part cs c x ns ∷ []) (with_group none_kept part o c ps)
   start_leaves part x o e cs gs s h Yes ns ps p = none_then gs (group part cs Yes x ns ∷ []) ps h.0 (of_this (kept_on cs Yes leading s) p)
-  start_leaves part x o e cs gs s h No ns ps p = (
-    each_both Gone gs (group part cs No x ns ∷ []) h.0 (kept_on cs No leading s, tt),
-    λ all stays. others_then all gs (group part cs No x ns) [] [] (h.1 all stays)
-        (other_gone all (group part cs No x ns) [] (kept_on cs No leading s) (ap (λ (v : Verdict). kept_line v x) (false_verdict all cs stays s part))),
-  )
+  start_leaves part x o e cs gs s h No ns ps p = grind (arith, each_both, kept_on, leading,
+      others_then, other_gone, false_verdict)
   start_leaves part x o e cs gs s h Unknown ns ps p =
       λ all stays. one_kept all gs [] (group part cs Unknown x ns) (group an_if [] o.cond (if_line (edited_opener (first_kept_verdict part) o)) ps)
       (record { are = none_are all gs h.0; others = h.1 all stays })
