@@ -1,5 +1,6 @@
 -- Least values: what is decided by the least value of a symbol is decided alike by each number from
 -- there on.
+use Rattle.std.proofs.lemmas.Grind.{common_steps}
 use Rattle.std.proofs.Common.{◌≡◌, ◌≢◌, ℕ, ◌==◌, List, [], ◌∷◌, drop, if◌then◌else◌, Bool, true, false, ◌&&◌, ◌||◌, Option, Some, None, is_some, option_and_then, ◌⊎◌, inl, inr, ℤ, ◌≤ℤ◌, refl, sym, ◌∙◌, ap, ap₂, subst, int_lt, arith}
 use Rattle.std.proofs.lemmas.Option.{none-some, same_Some}
 use Rattle.std.proofs.lemmas.Bool.{false≢true, eqb-true}
@@ -36,13 +37,7 @@ neither : (c k : Bool) (x y : Option ℤ) (z : ℤ) → c ≡ false → k ≡ fa
 neither c k x y z d l e = grind arith
 
 value_no_name : (w : List ℕ) (z : ℤ) → text_value false w ≡ Some z → is_identifier w ≡ false
-value_no_name [] z e = refl
-value_no_name (b ∷ w) z e = by (b == 45) (is_constant (b ∷ w)) refl refl
-  where
-    by : (c k : Bool) → (b == 45) ≡ c → is_constant (b ∷ w) ≡ k → is_identifier (b ∷ w) ≡ false
-    by true k c i = sign_no_name b w c
-    by false true c i = constant_no_name (b ∷ w) i
-    by false false c i = absurd (neither (b == 45) (is_constant (b ∷ w)) _ _ z c i e)
+value_no_name w z e = grind (arith, common_steps, sign_no_name, constant_no_name, neither)
 
 least_text : (w : List ℕ) (z : ℤ) → end_value false (Some w) ≡ AtLeast z → (starts_with_byte 255 w ≡ true) × (text_value false (constant_in w) ≡ Some z)
 least_text w z e = grind arith
@@ -110,8 +105,7 @@ module _ (t u : List Argument) (h : ChoosesNumbers t u) where
   texts_at n o e = subst (λ x. Texts x (defined_text u n)) e (texts n)
 
   turns_name : (v w : List ℕ) → Turns v w → is_identifier v ≡ true → v ≡ w
-  turns_name v w (inl e) i = e
-  turns_name v w (inr p) i = absurd (false≢true (sym (least_no_name v p.from p.is_least) ∙ i))
+  turns_name v w h i = grind (arith, common_steps, least_no_name)
 
   turns_no_name : (v w : List ℕ) → Turns v w → is_identifier v ≡ false → is_identifier w ≡ false
   turns_no_name v w (inl e) i = ap is_identifier (sym e) ∙ i
@@ -132,8 +126,7 @@ module _ (t u : List Argument) (h : ChoosesNumbers t u) where
   back_name v w (inr p) i = absurd (false≢true (sym (number_no_name w p.number p.is_number) ∙ i))
 
   back_no_name : (v w : List ℕ) → Turns v w → is_identifier w ≡ false → is_identifier v ≡ false
-  back_no_name v w (inl e) i = ap is_identifier e ∙ i
-  back_no_name v w (inr p) i = least_no_name v p.from p.is_least
+  back_no_name v w h i = grind (arith, common_steps, least_no_name)
 
   ends_back : (n w : List ℕ) → ResolvesTo u n w → (v : List ℕ) × ResolvesTo t n v
   ends_back n w (at_text _ _ d i) = let x = text_back n w (defined_text t n) refl d in (x.0, at_text n x.0 x.2 (back_no_name x.0 w x.1 i))

@@ -97,8 +97,7 @@ module _ (t u : List Argument) where
   expression_cond_alike after rules h = tree_cond_if_alike (expression_of after) rules h
 
   ifdef_decision_alike : (o : Option (List ℕ)) → Each Alike (name_alone o) → ifdef_decision o t ≡ ifdef_decision o u
-  ifdef_decision_alike None h = refl
-  ifdef_decision_alike (Some n) h = ap ifdef_by (h.0 n (itself n))
+  ifdef_decision_alike o h = grind (arith, itself)
 
   decided_by_alike : (p : Test) (after : List ℕ) (rules : Rules) → Each Alike (names_by p after) → decision_by_test p after t rules ≡ decision_by_test p after u rules
   decided_by_alike p after rules h = grind (arith, expression_cond_alike, ifdef_decision_alike)

@@ -46,8 +46,7 @@ module _ (table : List Argument) (k : Bool) where
   test_loose : (s : Bool) (t : Test) (after : List ℕ) →
       LooserDecision (decision_by_test t after table (record { constants = k; strict = true }))
       (decision_by_test t after table (record { constants = k; strict = s }))
-  test_loose s Nonzero after = record { cond = expression_loose s after; ignoring = refl }
-  test_loose _ _ _ = record { cond = alike; ignoring = refl }
+  test_loose s t after = grind (arith, expression_loose, alike)
 
   decision_loose : (s : Bool) (scan : Scan) (d : Directive) →
       LooserDecision (decision_on scan d table (record { constants = k; strict = true }))
@@ -69,10 +68,7 @@ pub data LooserItem : Item Reading → Item Reading → Type 0 where
   an_endif : {r : Reading} → LooserItem (endif_line r) (endif_line r)
 
 role_loose : (r : Reading) (p : Role) (d e : Decision) → LooserDecision d e → LooserItem (directive_item r p d) (directive_item r p e)
-role_loose r IfGroup d e h = an_if (record { line = refl; cond = h.cond; ignoring = h.ignoring })
-role_loose r ElifGroup d e h = an_elif (record { line = refl; cond = h.cond; ignoring = h.ignoring })
-role_loose r ElseGroup d e h = an_else
-role_loose r EndifLine d e h = an_endif
+role_loose r p d e h = grind (arith, an_if, an_elif, an_else, an_endif)
 
 -- Under `-K` a line is the same item, but for an unknown condition.
 pub item_loose : (o : Options) (r : Reading) → LooserItem (item_of (under_strict o) r) (item_of o r)

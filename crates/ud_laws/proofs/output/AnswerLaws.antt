@@ -23,10 +23,7 @@ faultless s d f n = grind arith
 -- A second run leaves the output as it is.
 pub answered_again : {args : List (List ℕ)} {input : List ℕ} {a : Answer} → IsAnswer args input a → a.status ≢ 2 → IsPlain (options_of args) →
     LinesFit (lines_of a.output) → IsAnswer args a.output (copy_answer args a.output)
-answered_again (refused f e) n p fit = absurd (n refl)
-answered_again {args = args} {input = input} (ran r e d) n p fit =
-    ran (record { output = r.output; fault = None; differs = false }) e
-    (runs_output (options_of args) p input d (faultless (options_of args).settings r.differs r.fault n) fit)
+answered_again h n p fit = grind (arith, runs_output, faultless, refused, ran)
 
 -- C selects the same lines.
 pub answered_selects : {args : List (List ℕ)} {input : List ℕ} {a : Answer} → IsAnswer args input a → a.status ≢ 2 → IsPlain (options_of args) →

@@ -31,10 +31,7 @@ inserted_both : {ys zs vs ws : List (Item Reading)} → Inserted ys zs → Inser
 inserted_both a b = strewn_both ItemAlike IsInserted a b
 
 alike_role : (r s : Reading) (p : Role) (d e : Decision) → e ≡ d → IsSame r s → ItemAlike (directive_item r p d) (directive_item s p e)
-alike_role r s IfGroup d e h k = an_if (record { line = k; cond = ap (λ (x : Decision). x.cond) h; ignoring = ap (λ (x : Decision). x.ignoring) h })
-alike_role r s ElifGroup d e h k = an_elif (record { line = k; cond = ap (λ (x : Decision). x.cond) h; ignoring = ap (λ (x : Decision). x.ignoring) h })
-alike_role r s ElseGroup d e h k = an_else k
-alike_role r s EndifLine d e h k = an_endif k
+alike_role r s p d e h k = grind (arith, an_if, an_elif, an_else, an_endif)
 
 alike_by : (o : Options) (r s : Reading) (c : Content) → IsSame r s → ItemAlike (item_by o r c) (item_by o s c)
 alike_by o r s c h = grind (arith, a_text, alike_role)

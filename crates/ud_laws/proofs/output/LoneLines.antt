@@ -68,9 +68,7 @@ cut_ending m b e h = grind (arith, take_at, length-append)
 
 -- Quiet bytes and an ending are a line with this body and this ending.
 pub quiet_line : (m : ℕ) (b e : List ℕ) → Each Quiet b → IsEnd e → line_at m (b ++ e) ≡ record { body = b; ending = e; number = m }
-quiet_line m b e q (inl h) = cut_ending m b e (subst (λ (x : List ℕ). ending_of (b ++ x) ≡ x) (sym h) (ending_both b))
-quiet_line m b e q (inr h) =
-    cut_ending m b e (subst (λ (x : List ℕ). ending_of (b ++ x) ≡ x) (sym h) (ending_feed b (ends_quiet 13 (λ k. k.no_return refl) b q)))
+quiet_line m b e q h = grind (arith, common_steps, cut_ending, ending_both, ending_feed, ends_quiet)
 
 pub quiet_whole : (b e : List ℕ) → Each Quiet b → IsEnd e → IsWhole (b ++ e)
 quiet_whole b e q (inl h) =

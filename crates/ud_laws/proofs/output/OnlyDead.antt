@@ -1,4 +1,5 @@
 -- Of the text lines exactly the live ones are left.
+use Rattle.std.proofs.lemmas.Grind.{common_steps}
 use Rattle.std.proofs.Common.{inl, inr, ◌≡◌, ℕ, suc, ◌≤◌, List, [], ◌∷◌, ◌++◌, length, map, Bool, Option, Some, None, refl, sym, ◌∙◌, ap, ap₂, subst, arith, true, false, append_assoc}
 use Rattle.std.specs.Prelude.{◌⊎◌}
 use Rattle.std.specs.List.{Contains}
@@ -179,10 +180,7 @@ module _ {A B : Type 0} (f : A → B) where
       ⊎_elim (λ e. (x, is_first x xs, e)) (λ b. let r = from_map xs y b in (r.0, is_later x xs r.0 r.1, r.2)) (first_or_later (f x) (map f xs) y h)
 
   to_map : (xs : List A) (x : A) → Contains xs x → Contains (map f xs) (f x)
-  to_map [] x h = absurd (none_there x h)
-  to_map (z ∷ xs) x h =
-      ⊎_elim (λ e. subst (λ (y : B). Contains (f z ∷ map f xs) y) (ap f e) (is_first (f z) (map f xs))) (λ b. is_later (f z) (map f xs) (f x) (to_map xs x b))
-      (first_or_later z xs x h)
+  to_map xs x h = grind (arith, common_steps, none_there, is_first, is_later, first_or_later)
 
 -- 5. What is selected is a text line.
 

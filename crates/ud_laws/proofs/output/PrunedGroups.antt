@@ -159,10 +159,8 @@ module _ {L : Type 0} where
   one_kept : (all : List Cond) (gs : List (Group L)) (hs : List (Group (Edited L))) (g : Group L) (h : Group (Edited L)) →
       Left all gs hs [] → is_kept_group g ≡ true → left_of all g ≡ h.opener ∷ [] → ArePruned g.nodes h.nodes →
       Left all (gs ++ g ∷ []) (hs ++ h ∷ []) []
-  one_kept all gs hs g h l e o p = record {
-    are = kept_both (g ∷ []) (h ∷ []) l.are (with_this e o p no_groups);
-    others = others_then all gs g [] [] l.others (other_kept all g e);
-  }
+  one_kept all gs hs g h l e o p = grind (arith, kept_both, others_then, other_kept, with_this,
+      no_groups)
 
   -- One more group isn't kept.
   one_gone : (all : List Cond) (gs : List (Group L)) (hs : List (Group (Edited L))) (g : Group L)
