@@ -1,5 +1,5 @@
 -- An option between other arguments: what they give stays, and what the option gives comes between.
-use Rattle.std.proofs.Common.{◌≡◌, ◌≢◌, ◌<◌, ℕ, suc, List, [], ◌∷◌, ◌++◌, Bool, true, false, ◌||◌, ◌==◌, nat_lt, if◌then◌else◌, bytes_eq, codes, encode_utf8_all, Option, Some, None, refl, sym, ◌∙◌, ap, append_assoc, arith}
+use Rattle.std.proofs.Common.{◌≡◌, ◌≢◌, ◌<◌, ℕ, suc, List, [], ◌∷◌, ◌++◌, Bool, true, false, ◌||◌, ◌==◌, nat_lt, if◌then◌else◌, bytes_eq, codes, encode_utf8_all, Option, Some, None, refl, sym, ◌∙◌, ap, ap₂, append_assoc, arith}
 use Rattle.std.specs.Str.{chars, IsUtf8, IsAscii}
 use Rattle.std.specs.List.{filter_map}
 use Rattle.std.proofs.lemmas.List.Elements.{filter_map-append}
@@ -8,12 +8,13 @@ use Rattle.std.proofs.lemmas.Str.{encodes-chars, IsUtf8-append, IsUtf8-from_asci
 use Rattle.std.proofs.lemmas.Str.Ascii.{IsAscii-nil, IsAscii-cons}
 use Rattle.ud_model.specs.text.Bytes.{hyphen, equals_sign, is_word_byte, are_word_bytes}
 use Rattle.ud_model.specs.conditions.Table.{Argument, Entry, entry_from, entry_in}
-use Rattle.ud_model.specs.answer.CommandLine.{ParsedArg, flag, option, operand, unknown, lacking, has_letter, is_flag, takes_argument, parsed_from, parsed_args, parse_symbol, symbol_named, mode_or, parse_exit_mode, mode_from, has_flag, settings_in, argument_in, options_of, argument_fault, first_fault, usage_fault, WordGives, then_gives, letters_give, option_gives, given_next}
+use Rattle.ud_model.specs.answer.CommandLine.{ParsedArg, flag, option, operand, unknown, lacking, has_letter, is_flag, takes_argument, parsed_from, parsed_args, parse_symbol, symbol_named, mode_or, parse_exit_mode, mode_from, has_flag, settings_in, argument_in, options_of, argument_fault, fault_or, first_fault, usage_fault, WordGives, then_gives, letters_give, option_gives, given_next}
 use Rattle.ud_model.specs.answer.SymbolArguments.{is_name, name_before_equals, value_after_equals, value_or_one}
 use Rattle.ud_laws.specs.answer.OptionArguments.{AreOptions, no_options, whole_word, two_words, IsSymbolOption, defines, defines_as, undefines, AddsSymbol}
 use Rattle.ud_model.specs.declared.settings.ExitMode.{ExitMode}
 use Rattle.ud_model.proofs.answer.WordLemmas.{options_given, both_none}
-use Rattle.ud_laws.proofs.answer.SameArguments.{Same, given_same, flag_same, mode_same, table_same, none_of_both, no_fault_same}
+use Rattle.ud_model.proofs.output.Each.{Each, each_both}
+use Rattle.ud_laws.proofs.answer.SameArguments.{Same, given_same, flag_same, mode_same, table_same, no_fault_same}
 
 word_small : (b : ℕ) → is_word_byte b ≡ true → (nat_lt b 128 ≡ true) × ((b == equals_sign) ≡ false)
 word_small b e = grind arith
@@ -21,29 +22,16 @@ word_small b e = grind arith
 -- 1. Options before other arguments.
 
 -- none of these is an operand
-pub data NoOperand : List ParsedArg → Type 0 where
-  none : NoOperand []
-  a_flag : (c : ℕ) {gs : List ParsedArg} → NoOperand gs → NoOperand (flag c ∷ gs)
-  an_option : (c n : ℕ) (a : List ℕ) {gs : List ParsedArg} → NoOperand gs → NoOperand (option c n a ∷ gs)
-  an_unknown : (c : ℕ) {gs : List ParsedArg} → NoOperand gs → NoOperand (unknown c ∷ gs)
+abbrev IsNoOperand : ParsedArg → Type 0
+IsNoOperand (operand n w) = ⊥
+IsNoOperand g = Unit {0}
 
-then_none : {gs hs : List ParsedArg} → NoOperand gs → NoOperand hs → NoOperand (gs ++ hs)
-then_none none k = k
-then_none (a_flag c h) k = a_flag c (then_none h k)
-then_none (an_option c n a h) k = an_option c n a (then_none h k)
-then_none (an_unknown c h) k = an_unknown c (then_none h k)
+abbrev pub NoOperand : List ParsedArg → Type 0
+NoOperand gs = Each IsNoOperand gs
 
 letters_none : (n : ℕ) (cs : List ℕ) → NoOperand (letters_give n cs).given
-letters_none n [] = none
-letters_none n (c ∷ cs) = go (is_flag c) (takes_argument c) (letters_none n cs)
-  where
-    by_rest : (ls : List ℕ) → NoOperand (option_gives c n ls).given
-    by_rest [] = none
-    by_rest (l ∷ ls) = an_option c n (encode_utf8_all (l ∷ ls)) none
-
-    go : (f t : Bool) → NoOperand (letters_give n cs).given →
-        NoOperand (if f then then_gives (flag c) (letters_give n cs) else if t then option_gives c n cs else then_gives (unknown c) (letters_give n cs)).given
-    go b t k = grind (arith, a_flag, by_rest, an_unknown)
+letters_none n [] = tt
+letters_none n (c ∷ cs) = grind (arith, letters_none n cs)
 
 -- which option waits doesn't depend on the word's number
 waits_same : (n m : ℕ) (cs : List ℕ) → (letters_give n cs).waits ≡ (letters_give m cs).waits
@@ -58,14 +46,14 @@ pub record Splits (n : ℕ) (before : List (List ℕ)) : Type 0 where
   pub parsed : (rest : List (List ℕ)) → parsed_from n (before ++ rest) ≡ given ++ parsed_from next rest
 
 pub options_split : {before : List (List ℕ)} → AreOptions before → (n : ℕ) → Splits n before
-options_split no_options n = record { given = []; next = n; no_operand = none; parsed = λ rest. refl }
+options_split no_options n = record { given = []; next = n; no_operand = tt; parsed = λ rest. refl }
 options_split (whole_word {w} {c} {cs} {args} is waits more) n =
     let inner : Splits (suc n) args = options_split more (suc n) in
     let gs : List ParsedArg = (letters_give (suc n) (c ∷ cs)).given in
     record {
       given = gs ++ inner.given;
       next = inner.next;
-      no_operand = then_none (letters_none (suc n) (c ∷ cs)) inner.no_operand;
+      no_operand = each_both IsNoOperand gs inner.given (letters_none (suc n) (c ∷ cs)) inner.no_operand;
       parsed = λ rest. options_given n w (args ++ rest) c cs is.no_end is.letters
           ∙ ap (λ (o : Option ℕ). gs ++ given_next o (suc n) (args ++ rest)) (waits_same (suc n) 0 (c ∷ cs) ∙ waits)
           ∙ ap (λ (hs : List ParsedArg). gs ++ hs) (inner.parsed rest)
@@ -77,7 +65,7 @@ options_split (two_words {w} {c} {cs} {d} {v} {args} is waits more) n =
     record {
       given = gs ++ option d (suc (suc n)) v ∷ inner.given;
       next = inner.next;
-      no_operand = then_none (letters_none (suc n) (c ∷ cs)) (an_option d (suc (suc n)) v inner.no_operand);
+      no_operand = each_both IsNoOperand gs (option d (suc (suc n)) v ∷ inner.given) (letters_none (suc n) (c ∷ cs)) (tt, inner.no_operand);
       parsed = λ rest. options_given n w (v ∷ (args ++ rest)) c cs is.no_end is.letters
           ∙ ap (λ (o : Option ℕ). gs ++ given_next o (suc n) (v ∷ (args ++ rest))) (waits_same (suc n) 0 (c ∷ cs) ∙ waits)
           ∙ ap (λ (hs : List ParsedArg). gs ++ option d (suc (suc n)) v ∷ hs) (inner.parsed rest)
@@ -167,33 +155,26 @@ gives_symbol (b ∷ bs) w e undefines =
 
 flag_added : (ls : List ℕ) (xs : List ParsedArg) (l n : ℕ) (a : List ℕ) {hs gs : List ParsedArg} → Same hs gs → has_flag ls (xs ++ option l n a ∷ hs) ≡ has_flag ls (xs ++ gs)
 flag_added ls [] l n a k = flag_same ls k
-flag_added ls (flag c ∷ xs) l n a k = ap (λ (b : Bool). has_letter ls c || b) (flag_added ls xs l n a k)
-flag_added ls (option c i v ∷ xs) l n a k = flag_added ls xs l n a k
-flag_added ls (operand i v ∷ xs) l n a k = flag_added ls xs l n a k
-flag_added ls (unknown c ∷ xs) l n a k = flag_added ls xs l n a k
-flag_added ls (lacking c ∷ xs) l n a k = flag_added ls xs l n a k
+flag_added ls (x ∷ xs) l n a k = grind (arith, flag_added ls xs l n a k)
 
 mode_added : (e : ExitMode) (xs : List ParsedArg) (l n : ℕ) (a : List ℕ) {hs gs : List ParsedArg} → has_letter (codes "x") l ≡ false → Same hs gs →
     mode_from e (xs ++ option l n a ∷ hs) ≡ mode_from e (xs ++ gs)
-mode_added e [] l n a {hs} {gs} f k = ap (λ (b : Bool). mode_from (if b then mode_or e (parse_exit_mode a) else e) hs) f ∙ mode_same e k
-mode_added e (flag c ∷ xs) l n a f k = mode_added e xs l n a f k
+mode_added e [] l n a f k = grind (arith, mode_same)
 mode_added e (option c i v ∷ xs) l n a f k = mode_added (if has_letter (codes "x") c then mode_or e (parse_exit_mode v) else e) xs l n a f k
-mode_added e (operand i v ∷ xs) l n a f k = mode_added e xs l n a f k
-mode_added e (unknown c ∷ xs) l n a f k = mode_added e xs l n a f k
-mode_added e (lacking c ∷ xs) l n a f k = mode_added e xs l n a f k
+mode_added e (x ∷ xs) l n a f k = mode_added e xs l n a f k
 
 settings_added : (xs : List ParsedArg) (l n : ℕ) (a : List ℕ) {hs gs : List ParsedArg} → has_letter (codes "x") l ≡ false → Same hs gs →
     settings_in (xs ++ option l n a ∷ hs) ≡ settings_in (xs ++ gs)
 settings_added xs l n a {hs} {gs} f k = grind (arith, mode_added, flag_added)
 
-no_fault_added : {xs : List ParsedArg} → NoOperand xs → (l n : ℕ) (a : List ℕ) {hs gs : List ParsedArg} → argument_fault l n a ≡ None → Same gs hs →
+no_fault_added : (xs : List ParsedArg) → NoOperand xs → (l n : ℕ) (a : List ℕ) {hs gs : List ParsedArg} → argument_fault l n a ≡ None → Same gs hs →
     first_fault (xs ++ gs) ≡ None → first_fault (xs ++ option l n a ∷ hs) ≡ None
-no_fault_added none l n a {hs} {gs} f k e = none_of_both (argument_fault l n a) (first_fault hs) f (no_fault_same k e)
-no_fault_added (a_flag c h) l n a f k e = no_fault_added h l n a f k e
-no_fault_added (an_option c i v {gs = xs} h) l n a {hs} {gs} f k e =
+no_fault_added [] h l n a f k e = ap₂ fault_or f (no_fault_same k e)
+no_fault_added (flag c ∷ xs) h l n a f k e = no_fault_added xs h.1 l n a f k e
+no_fault_added (option c i v ∷ xs) h l n a {gs = gs} f k e =
     let both = both_none (argument_fault c i v) (first_fault (xs ++ gs)) e in
-    none_of_both (argument_fault c i v) (first_fault (xs ++ option l n a ∷ hs)) both.0 (no_fault_added h l n a f k both.1)
-no_fault_added (an_unknown c h) l n a f k e = e
+    ap₂ fault_or both.0 (no_fault_added xs h.1 l n a f k both.1)
+no_fault_added (x ∷ xs) h l n a f k e = grind arith
 
 -- a name's entry doesn't depend on an argument of another name
 entry_added : (e : Option Entry) (ts us : List Argument) (a : Argument) (n : List ℕ) → bytes_eq a.name n ≡ false → entry_from e (ts ++ a ∷ us) n ≡ entry_from e (ts ++ us) n
@@ -229,7 +210,7 @@ with_option before after name w adds =
         let table_gone : (options_of (before ++ after)).table ≡ filter_map argument_in s.given ++ filter_map argument_in gs = simp (filter_map-append, gone) in
         record {
           no_fault = λ e. ap first_fault here
-              ∙ no_fault_added s.no_operand g.letter (suc m) g.argument (grind arith) (given_same m (suc m) after) (sym (ap first_fault gone) ∙ e);
+              ∙ no_fault_added s.given s.no_operand g.letter (suc m) g.argument (grind arith) (given_same m (suc m) after) (sym (ap first_fault gone) ∙ e);
           settings = ap settings_in here ∙ settings_added s.given g.letter (suc m) g.argument g.no_mode k ∙ sym (ap settings_in gone);
           entries = λ n other. ap (λ (t : List Argument). entry_in t n) table_gone
               ∙ sym (ap (λ (t : List Argument). entry_in t n) table_here

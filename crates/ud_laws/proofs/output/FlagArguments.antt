@@ -1,6 +1,6 @@
 -- A flag before other arguments sets its setting, and what these give stays.
 use Rattle.std.proofs.Common.{◌≡◌, ℕ, List, ◌∷◌, Bool, true, false, None, codes, refl, ◌∙◌, ap, arith}
-use Rattle.ud_laws.proofs.answer.SameArguments.{Same, a_flag, given_same, table_same, no_fault_same, name_same, flag_same, mode_same}
+use Rattle.ud_laws.proofs.answer.SameArguments.{Same, given_same, table_same, no_fault_same, name_same, flag_same, mode_same}
 use Rattle.std.specs.Str.{chars}
 use Rattle.std.specs.List.{filter_map}
 use Rattle.std.proofs.Math.Bool.{or-true}
@@ -45,7 +45,7 @@ first_k args = refl
 
 -- the options of arguments with a flag before them
 flagged : (args gs : List (List ℕ)) (c : ℕ) → parsed_args gs ≡ flag c ∷ parsed_from 1 args → options_of gs ≡ options_in (flag c ∷ parsed_args args)
-flagged args gs c e = ap options_in e ∙ options_same (flag c ∷ parsed_from 1 args) (flag c ∷ parsed_args args) (a_flag c (after_flag args))
+flagged args gs c e = ap options_in e ∙ options_same (flag c ∷ parsed_from 1 args) (flag c ∷ parsed_args args) (record { alike = ap (λ (hs : List ParsedArg). flag c ∷ hs) (after_flag args).alike })
 
 -- `-s`, unless `-S` is given too
 pub lists_names : (args : List (List ℕ)) → has_flag (codes "S") (parsed_args args) ≡ false → options_of (codes "-s" ∷ args) ≡ with_listing (options_of args)
