@@ -9,50 +9,11 @@ use Rattle.ud_model.specs.declared.verdict.Verdict.TheVariants.{Keep, Remove, To
 use Rattle.ud_model.specs.sections.Tree.{Item, Opener, Nodes, Groups, Elifs, text_line, if_line, elif_line, else_line, endif_line, nothing, text, section, conditional, otherwise, first, elif, lines_of_nodes, lines_of_groups, lines_of_elifs}
 use Rattle.ud_model.specs.sections.Pruning.{Part, an_if, an_elif, an_else, is_kept, any_true, all_false, gives_way, ends_with_first_true, opener_verdict, first_kept_verdict, later_verdict, endif_verdict, conds_of_elifs, conds_of_groups}
 use Rattle.ud_model.specs.laws.Pruned.{Edited, edited, edited_opener, kept_line, IsPruned, Group, group, groups_of_elifs, groups_of, is_kept_group, left_of, others_left, IsEndif, ArePruned, no_nodes, text_stays, gives_way_to, section_stays, AreOfFirst, no_group, of_later, of_this, AreKept, no_groups, without, with_this}
-use Rattle.ud_model.proofs.sections.Stages.{Stage, leading, given, going, at_true, past, stage, stage_inside, kept_at, endif_at, kept_by_stage, endif_by_stage}
+use Rattle.ud_model.proofs.sections.Stages.{Stage, leading, given, going, at_true, past, stage, stage_inside, next_stage, verdict_at, kept_at, endif_at, verdict_by_stage, kept_by_stage, stage_next, endif_by_stage}
 use Rattle.ud_model.proofs.output.Each.{Each, each_both}
 use Rattle.ud_model.proofs.output.Folded.{KeptGroups, none_kept, replaced, kept_groups, ended, with_group, with_else, then_kept, folded, kept_groups_of, kept_elifs_of}
 use Rattle.ud_model.proofs.output.PrintedPruned.{stage_of, lines_then, elifs_printed, groups_printed}
 use Rattle.ud_model.proofs.output.PrunedTree.{folded_is, is_folded}
-
--- The flags of the conditions so far, by the stage.
-not_leading : (cs : List Cond) → stage_inside cs ≡ leading → ⊥
-not_leading (No ∷ cs) e = not_leading cs e
-not_leading (Unknown ∷ cs) e = not_leading cs e
-not_leading cs h = grind arith
-
-leading_flags : (cs : List Cond) → stage cs ≡ leading → (all_false cs ≡ true) × (any_true cs ≡ false)
-leading_flags (No ∷ cs) e = leading_flags cs e
-leading_flags cs h = grind (arith, not_leading)
-
-inside_untrue : (cs : List Cond) → stage_inside cs ≡ going → any_true cs ≡ false
-inside_untrue (No ∷ cs) e = inside_untrue cs e
-inside_untrue (Unknown ∷ cs) e = inside_untrue cs e
-inside_untrue cs h = grind arith
-
-going_flags : (cs : List Cond) → stage cs ≡ going → (all_false cs ≡ false) × (any_true cs ≡ false)
-going_flags (No ∷ cs) e = going_flags cs e
-going_flags cs h = grind (arith, inside_untrue)
-
-inside_true : (cs : List Cond) → stage_inside cs ≡ at_true → (any_true cs ≡ true) × (ends_with_first_true cs ≡ true)
-inside_true (No ∷ cs) e = inside_true cs e
-inside_true (Unknown ∷ cs) e = inside_true cs e
-inside_true cs h = grind arith
-
-true_flags : (cs : List Cond) → stage cs ≡ at_true → (all_false cs ≡ false) × (any_true cs ≡ true) × (ends_with_first_true cs ≡ true)
-true_flags (No ∷ cs) e = true_flags cs e
-true_flags (Unknown ∷ cs) e = let r : (any_true cs ≡ true) × (ends_with_first_true cs ≡ true) = inside_true cs e in (refl, r.0, r.1)
-true_flags _ e = cc
-
-inside_past : (cs : List Cond) → stage_inside cs ≡ past → (any_true cs ≡ true) × (ends_with_first_true cs ≡ false)
-inside_past (No ∷ cs) e = inside_past cs e
-inside_past (Unknown ∷ cs) e = inside_past cs e
-inside_past cs h = grind arith
-
-past_flags : (cs : List Cond) → stage cs ≡ past → (all_false cs ≡ false) × (any_true cs ≡ true) × (ends_with_first_true cs ≡ false)
-past_flags (No ∷ cs) e = past_flags cs e
-past_flags (Unknown ∷ cs) e = let r : (any_true cs ≡ true) × (ends_with_first_true cs ≡ false) = inside_past cs e in (refl, r.0, r.1)
-past_flags _ e = cc
 
 -- A section at this stage gives way.
 abbrev way_at : Stage → Bool
@@ -69,21 +30,17 @@ way_by_stage : (cs : List Cond) → gives_way cs ≡ way_at (stage cs)
 way_by_stage (No ∷ cs) = way_by_stage cs
 way_by_stage cs = grind (arith, inside_way)
 
-module _ (all cs : List Cond) (stays : gives_way all ≡ false) where
-  leading_verdict : stage cs ≡ leading → (part : Part) → opener_verdict all cs part Unknown ≡ first_kept_verdict part
-  leading_verdict e part = grind (arith, leading_flags)
+-- An opener has the verdict of its stage if its section stays, and would stay without the groups
+-- after its own.
+verdict_on : (all cs : List Cond) (s : Stage) → gives_way all ≡ false → stage cs ≡ s → (part : Part) (c : Cond) →
+    way_at (next_stage s c) ≡ false → opener_verdict all cs part c ≡ verdict_at s part c
+verdict_on all cs s g e part c w =
+    let n : gives_way (cs ++ c ∷ []) ≡ false = way_by_stage (cs ++ c ∷ []) ∙ ap way_at (stage_next cs c ∙ ap (λ (t : Stage). next_stage t c) e) ∙ w in
+    grind (arith, n, verdict_by_stage cs part c)
 
-  false_verdict : stage cs ≡ leading → (part : Part) → opener_verdict all cs part No ≡ Remove
-  false_verdict e part = grind (arith, leading_flags)
-
-  past_verdict : stage cs ≡ past → (part : Part) (c : Cond) → opener_verdict all cs part c ≡ Remove
-  past_verdict e part c = grind (arith, past_flags)
-
-  going_verdict : stage cs ≡ going → (part : Part) (c : Cond) → opener_verdict all cs part c ≡ later_verdict part c
-  going_verdict e part c = grind (arith, going_flags)
-
-  true_verdict : stage cs ≡ at_true → (part : Part) (c : Cond) → opener_verdict all cs part c ≡ ToEndif
-  true_verdict e part c = grind (arith, true_flags)
+-- A false group before all kept ones has an opener that is removed.
+false_verdict : (all cs : List Cond) → gives_way all ≡ false → stage cs ≡ leading → (part : Part) → opener_verdict all cs part No ≡ Remove
+false_verdict all cs g e part = grind (arith, kept_by_stage cs Yes)
 
 kept_on : (cs : List Cond) (c : Cond) (s : Stage) → stage cs ≡ s → is_kept cs c ≡ kept_at s c
 kept_on cs c s e = kept_by_stage cs c ∙ ap (λ (t : Stage). kept_at t c) e
@@ -177,7 +134,7 @@ module _ {L : Type 0} where
   start_leaves part x o e cs gs s h Unknown ns ps p =
       λ all stays. one_kept all gs [] (group part cs Unknown x ns) (group an_if [] o.cond (if_line (edited_opener (first_kept_verdict part) o)) ps)
       (record { are = none_are all gs h.0; others = h.1 all stays })
-      (kept_on cs Unknown leading s) (ap (λ (v : Verdict). kept_line v x) (leading_verdict all cs stays s part) ∙ e) p
+      (kept_on cs Unknown leading s) (ap (λ (v : Verdict). kept_line v x) (verdict_on all cs leading stays s part Unknown refl) ∙ e) p
 
   elif_leaves : (cs : List Cond) (gs : List (Group L)) (left : KeptGroups L) → stage cs ≡ stage_of left → Leaves gs left → (o : Opener L) (c : Cond) (ns : Nodes L) (ps : Nodes (Edited L)) →
       ArePruned ns ps → Leaves (gs ++ group an_elif cs c (elif_line o) ns ∷ []) (with_group left an_elif o c ps)
@@ -185,20 +142,20 @@ module _ {L : Type 0} where
   elif_leaves cs gs (replaced ms) s h o c ns ps p = first_stays (group an_elif cs c (elif_line o) ns ∷ []) h (kept_on cs c given s, tt)
   elif_leaves cs gs (kept_groups es) s h o Yes ns ps p =
       λ all stays. one_kept all gs (groups_of_elifs es) (group an_elif cs Yes (elif_line o) ns) (group an_else (conds_of_elifs es) Yes (else_line (edited ToElse o.line)) ps) (h all stays)
-      (kept_on cs Yes going s) (ap (λ (v : Verdict). kept_line v (elif_line o)) (going_verdict all cs stays s an_elif Yes)) p
+      (kept_on cs Yes going s) (ap (λ (v : Verdict). kept_line v (elif_line o)) (verdict_on all cs going stays s an_elif Yes refl)) p
   elif_leaves cs gs (kept_groups es) s h o No ns ps p =
       λ all stays. one_gone all gs (groups_of_elifs es) (group an_elif cs No (elif_line o) ns) [] [] (h all stays)
-      (kept_on cs No going s) (ap (λ (v : Verdict). kept_line v (elif_line o)) (going_verdict all cs stays s an_elif No))
+      (kept_on cs No going s) (ap (λ (v : Verdict). kept_line v (elif_line o)) (verdict_on all cs going stays s an_elif No refl))
   elif_leaves cs gs (kept_groups es) s h o Unknown ns ps p =
       λ all stays. one_kept all gs (groups_of_elifs es) (group an_elif cs Unknown (elif_line o) ns)
       (group an_elif (conds_of_elifs es) o.cond (elif_line (edited_opener Keep o)) ps) (h all stays)
-      (kept_on cs Unknown going s) (ap (λ (v : Verdict). kept_line v (elif_line o)) (going_verdict all cs stays s an_elif Unknown)) p
+      (kept_on cs Unknown going s) (ap (λ (v : Verdict). kept_line v (elif_line o)) (verdict_on all cs going stays s an_elif Unknown refl)) p
   elif_leaves cs gs (ended es l ms None) s h o c ns ps p =
       λ all stays. one_gone all gs (groups_of (otherwise es l ms)) (group an_elif cs c (elif_line o) ns) [] (endif_line (edited ToEndif o.line) ∷ []) (h all stays)
-      (kept_on cs c at_true s) (ap (λ (v : Verdict). kept_line v (elif_line o)) (true_verdict all cs stays s an_elif c))
+      (kept_on cs c at_true s) (ap (λ (v : Verdict). kept_line v (elif_line o)) (verdict_on all cs at_true stays s an_elif c refl))
   elif_leaves cs gs (ended es l ms (Some k)) s h o c ns ps p =
       λ all stays. one_gone all gs (groups_of (otherwise es l ms)) (group an_elif cs c (elif_line o) ns) (endif_line k ∷ []) [] (h all stays)
-      (kept_on cs c past s) (ap (λ (v : Verdict). kept_line v (elif_line o)) (past_verdict all cs stays s an_elif c))
+      (kept_on cs c past s) (ap (λ (v : Verdict). kept_line v (elif_line o)) (verdict_on all cs past stays s an_elif c refl))
 
   else_leaves : (cs : List Cond) (gs : List (Group L)) (left : KeptGroups L) → stage cs ≡ stage_of left → Leaves gs left → (l : L) (ns : Nodes L) (ps : Nodes (Edited L)) →
       ArePruned ns ps → Leaves (gs ++ group an_else cs Yes (else_line l) ns ∷ []) (with_else left l ps)
@@ -206,13 +163,13 @@ module _ {L : Type 0} where
   else_leaves cs gs (replaced ms) s h l ns ps p = first_stays (group an_else cs Yes (else_line l) ns ∷ []) h (kept_on cs Yes given s, tt)
   else_leaves cs gs (kept_groups es) s h l ns ps p =
       λ all stays. one_kept all gs (groups_of_elifs es) (group an_else cs Yes (else_line l) ns) (group an_else (conds_of_elifs es) Yes (else_line (edited Keep l)) ps) (h all stays)
-      (kept_on cs Yes going s) (ap (λ (v : Verdict). kept_line v (else_line l)) (going_verdict all cs stays s an_else Yes)) p
+      (kept_on cs Yes going s) (ap (λ (v : Verdict). kept_line v (else_line l)) (verdict_on all cs going stays s an_else Yes refl)) p
   else_leaves cs gs (ended es k ms None) s h l ns ps p =
       λ all stays. one_gone all gs (groups_of (otherwise es k ms)) (group an_else cs Yes (else_line l) ns) [] (endif_line (edited ToEndif l) ∷ []) (h all stays)
-      (kept_on cs Yes at_true s) (ap (λ (v : Verdict). kept_line v (else_line l)) (true_verdict all cs stays s an_else Yes))
+      (kept_on cs Yes at_true s) (ap (λ (v : Verdict). kept_line v (else_line l)) (verdict_on all cs at_true stays s an_else Yes refl))
   else_leaves cs gs (ended es k ms (Some j)) s h l ns ps p =
       λ all stays. one_gone all gs (groups_of (otherwise es k ms)) (group an_else cs Yes (else_line l) ns) (endif_line j ∷ []) [] (h all stays)
-      (kept_on cs Yes past s) (ap (λ (v : Verdict). kept_line v (else_line l)) (past_verdict all cs stays s an_else Yes))
+      (kept_on cs Yes past s) (ap (λ (v : Verdict). kept_line v (else_line l)) (verdict_on all cs past stays s an_else Yes refl))
 
   -- The section's `#endif`, by the stage at its end.
   is_endif : (gs : Groups L) (e : L) (k : Edited L) (ends m : List (Item (Edited L))) (v : Verdict) →
