@@ -26,7 +26,7 @@ use Rattle.ud_laws.specs.output.InsertedLines.{IsBlankLine}
 use Rattle.ud_laws.specs.output.InsertedNodes.{IsSame, LinesWithInserted, no_lines, same_line, inserted_line}
 use Rattle.ud_laws.proofs.output.InsertedSelected.{inserted_in_selected}
 use Rattle.ud_laws.proofs.output.InsertedText.{read_items, lines_back, items_are}
-use Rattle.ud_laws.proofs.output.InsertedTree.{items, alike_item, put_item}
+use Rattle.ud_laws.proofs.output.InsertedTree.{items, alike_by, put_item}
 use Rattle.ud_laws.proofs.output.LoneLines.{Quiet, IsQuiet, lone_scan}
 use Rattle.ud_model.proofs.output.WovenTrees.{none, same, put}
 use Rattle.ud_passes.specs.squeezing.SqueezedTexts.{is_blank_line, first_flag, later_flags, flags_in, kept_lines, squeezed_text}
@@ -206,7 +206,7 @@ all_read ms output =
 
 inserted_blanks : (o : Options) {rs ss : List Reading} → LinesWithInserted IsBlankLine rs ss → Blanks (items o rs) (items o ss)
 inserted_blanks o no_lines = none
-inserted_blanks o (same_line {r = r} {s = s} k w) = same (alike_item o r s k) (inserted_blanks o w)
+inserted_blanks o (same_line {r = r} {s = s} k w) = same (grind (arith, alike_by)) (inserted_blanks o w)
 inserted_blanks o (inserted_line {d = d} {rs = rs} {ss = ss} k w) =
     subst (λ (z : Item Reading). Blanks (items o rs) (z ∷ items o ss)) (sym (put_item o d (inl k))) (put k (inserted_blanks o w))
 

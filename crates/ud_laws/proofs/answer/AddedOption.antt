@@ -163,10 +163,6 @@ mode_added e [] l n a f k = grind (arith, mode_same)
 mode_added e (option c i v ∷ xs) l n a f k = mode_added (if has_letter (codes "x") c then mode_or e (parse_exit_mode v) else e) xs l n a f k
 mode_added e (x ∷ xs) l n a f k = mode_added e xs l n a f k
 
-settings_added : (xs : List ParsedArg) (l n : ℕ) (a : List ℕ) {hs gs : List ParsedArg} → has_letter (codes "x") l ≡ false → Same hs gs →
-    settings_in (xs ++ option l n a ∷ hs) ≡ settings_in (xs ++ gs)
-settings_added xs l n a {hs} {gs} f k = grind (arith, mode_added, flag_added)
-
 no_fault_added : (xs : List ParsedArg) → NoOperand xs → (l n : ℕ) (a : List ℕ) {hs gs : List ParsedArg} → argument_fault l n a ≡ None → Same gs hs →
     first_fault (xs ++ gs) ≡ None → first_fault (xs ++ option l n a ∷ hs) ≡ None
 no_fault_added [] h l n a f k e = ap₂ fault_or f (no_fault_same k e)
@@ -186,9 +182,6 @@ pub record WithOption (before after : List (List ℕ)) (name w : List ℕ) : Typ
   pub no_fault : usage_fault (before ++ after) ≡ None → usage_fault (before ++ w ∷ after) ≡ None
   pub settings : (options_of (before ++ w ∷ after)).settings ≡ (options_of (before ++ after)).settings
   pub entries : (n : List ℕ) → n ≢ name → entry_in (options_of (before ++ after)).table n ≡ entry_in (options_of (before ++ w ∷ after)).table n
-
-bytes_ne : (x y : List ℕ) → x ≢ y → bytes_eq x y ≡ false
-bytes_ne x y ne = grind (arith, bytes_eq-Decides)
 
 pub with_option : (before after : List (List ℕ)) (name w : List ℕ) → AddsSymbol before name w → WithOption before after name w
 with_option before after name w adds =
@@ -211,8 +204,9 @@ with_option before after name w adds =
         record {
           no_fault = λ e. ap first_fault here
               ∙ no_fault_added s.given s.no_operand g.letter (suc m) g.argument (grind arith) (given_same m (suc m) after) (sym (ap first_fault gone) ∙ e);
-          settings = ap settings_in here ∙ settings_added s.given g.letter (suc m) g.argument g.no_mode k ∙ sym (ap settings_in gone);
+          settings = ap settings_in here ∙ (grind (arith, mode_added, flag_added))
+              ∙ sym (ap settings_in gone);
           entries = λ n other. ap (λ (t : List Argument). entry_in t n) table_gone
               ∙ sym (ap (λ (t : List Argument). entry_in t n) table_here
-              ∙ entry_added None (filter_map argument_in s.given) (filter_map argument_in gs) said n (bytes_ne name n (λ e. other (sym e))));
+              ∙ entry_added None (filter_map argument_in s.given) (filter_map argument_in gs) said n (grind (arith, bytes_eq-Decides)));
         }

@@ -12,13 +12,10 @@ use Rattle.ud_model.specs.declared.amount.Amount.TheVariants.{Anything, Exactly,
 use Rattle.ud_laws.specs.conditions.Choices.{Choice, IsNumberOf, IsAllowed, HasValue, of_constant, of_name, of_defined, of_unary, of_binary, of_and_left, of_and_both, of_or_left, of_or_both, of_parens}
 use Rattle.ud_laws.proofs.conditions.Refining.{Stays}
 
-entry_less : (u v : Bool) (end : Option (List ℕ)) (o : Option Entry) → (v ≡ true → u ≡ true) → Stays (name_value_by u end o) (name_value_by v end o)
-entry_less u v end o h = grind arith
-
 -- A name's value that is known in an expression with a `u` is known in one without.
 pub name_less : (table : List Argument) (u v : Bool) (n : List ℕ) → (v ≡ true → u ≡ true) → Stays (name_value table u n) (name_value table v n)
 unfolding name_value
-name_less table u v n h = entry_less u v (resolve table n) (entry_in table n) h
+name_less table u v n h = grind arith
 
 number_by : (b : Bool) (a d : Amount) (c : Number) → Stays a d → IsNumberOf b d c → IsNumberOf b a c
 number_by b a d c h k = grind arith

@@ -23,21 +23,14 @@ use Rattle.ud_laws.proofs.conditions.Refining.{Refines, stays_refines, unary_ref
 
 -- 1. Texts.
 
--- A constant is no name.
-constant_no_name : (w : List ℕ) → is_constant w ≡ true → is_identifier w ≡ false
-constant_no_name w c = grind arith
-
 sign_no_name : (b : ℕ) (w : List ℕ) → (b == 45) ≡ true → is_identifier (b ∷ w) ≡ false
 sign_no_name b w e = subst (λ (n : ℕ). is_identifier (n ∷ w) ≡ false) (sym (eqb-true b 45 e)) refl
-
-mark_no_name : (w : List ℕ) → starts_with_byte 255 w ≡ true → is_identifier w ≡ false
-mark_no_name w e = grind (arith, eqb-true)
 
 neither : (c k : Bool) (x y : Option ℤ) (z : ℤ) → c ≡ false → k ≡ false → (if c then x else if k then y else None) ≡ Some z → ⊥
 neither c k x y z d l e = grind arith
 
 value_no_name : (w : List ℕ) (z : ℤ) → text_value false w ≡ Some z → is_identifier w ≡ false
-value_no_name w z e = grind (arith, common_steps, sign_no_name, constant_no_name, neither)
+value_no_name w z e = grind (arith, common_steps, sign_no_name, neither)
 
 least_text : (w : List ℕ) (z : ℤ) → end_value false (Some w) ≡ AtLeast z → (starts_with_byte 255 w ≡ true) × (text_value false (constant_in w) ≡ Some z)
 least_text w z e = grind arith
@@ -50,7 +43,7 @@ number_no_name w z e = let p = number_text w z e in
     value_no_name w z (ap (text_value false) (sym (ap (λ (b : Bool). if b then drop 1 w else w) p.0)) ∙ p.1)
 
 least_no_name : (w : List ℕ) (z : ℤ) → end_value false (Some w) ≡ AtLeast z → is_identifier w ≡ false
-least_no_name w z e = mark_no_name w (least_text w z e).0
+least_no_name w z e = grind (arith, eqb-true)
 
 value_fits : (w : List ℕ) (z : ℤ) → text_value false w ≡ Some z → fits false z ≡ true
 value_fits w z e = grind arith
@@ -90,11 +83,8 @@ abbrev Texts : Option (List ℕ) → Option (List ℕ) → Type 0
 Texts None o = o ≡ None
 Texts (Some v) o = (w : List ℕ) × Turns v w × (o ≡ Some w)
 
-texts_itself : (o : Option (List ℕ)) → Texts o o
-texts_itself o = grind arith
-
 entry_texts : (e f : Option Entry) → Chooses e f → Texts (text_in e) (text_in f)
-entry_texts e _ same = texts_itself (text_in e)
+entry_texts e _ same = grind arith
 entry_texts _ _ (number {text = text} p) = (text, inr p, refl)
 
 module _ (t u : List Argument) (h : ChoosesNumbers t u) where
@@ -183,15 +173,6 @@ module _ (t u : List Argument) (h : ChoosesNumbers t u) where
 
   -- 3. Expressions.
 
-  sign_alike : (e : Expression) → has_unsigned u e ≡ has_unsigned t e
-  sign_alike e = grind (arith, name_sign)
-
-  mentions_alike : (e : Expression) → mentions_listed u e ≡ mentions_listed t e
-  mentions_alike e = grind (arith, listed_by)
-
-  calls_alike : (e : Expression) → calls_undefined u e ≡ calls_undefined t e
-  calls_alike e = grind (arith, undefined_alike)
-
   number_refines : (s b : Bool) (e : Expression) → Refines (number_of t s b e) (number_of u s b e)
   number_refines s b (constant w) = refines_itself (number_of t s b (constant w))
   number_refines s b (named n a) = name_refines b n
@@ -203,7 +184,7 @@ module _ (t u : List Argument) (h : ChoosesNumbers t u) where
   number_refines s b (parens x) = number_refines s b x
 
   value_refines : (s : Bool) (e : Expression) → Refines (value_of t s e) (value_of u s e)
-  value_refines s e = subst (λ (b : Bool). Refines (value_of t s e) (number_of u s b e)) (sym (sign_alike e)) (number_refines s (has_unsigned t e) e)
+  value_refines s e = subst (λ (b : Bool). Refines (value_of t s e) (number_of u s b e)) (sym (grind (arith, name_sign))) (number_refines s (has_unsigned t e) e)
 
   -- A known value is the same for each number.
   pub value_alike : (s : Bool) (e : Expression) (n : ℤ) → value_of t s e ≡ Exactly n → value_of u s e ≡ Exactly n
@@ -213,7 +194,7 @@ module _ (t u : List Argument) (h : ChoosesNumbers t u) where
   cond_by a b r n = grind (arith, int_lt)
 
   tree_alike : (e : Expression) (r : Rules) → tree_cond e t r ≢ Unknown → tree_cond e u r ≡ tree_cond e t r
-  tree_alike e r n = grind (arith, calls_alike, mentions_alike, cond_by, value_refines)
+  tree_alike e r n = grind (arith, undefined_alike, listed_by, cond_by, value_refines)
 
   tree_if_alike : (o : Option Expression) (r : Rules) → tree_cond_if o t r ≢ Unknown → tree_cond_if o u r ≡ tree_cond_if o t r
   tree_if_alike o r n = grind (arith, tree_alike)
@@ -222,11 +203,8 @@ module _ (t u : List Argument) (h : ChoosesNumbers t u) where
   unfolding expression_cond
   text_alike text r n = tree_if_alike (expression_of text) r n
 
-  name_alike : (o : Option (List ℕ)) → ifdef_decision o u ≡ ifdef_decision o t
-  name_alike o = grind (arith, ifdef_alike)
-
   test_alike : (p : Test) (text : List ℕ) (r : Rules) → (decision_by_test p text t r).cond ≢ Unknown → decision_by_test p text u r ≡ decision_by_test p text t r
-  test_alike p text r n = grind (arith, text_alike, name_alike)
+  test_alike p text r n = grind (arith, text_alike, ifdef_alike)
 
   -- A decided directive is decided alike for each number.
   pub condition_alike : (k : Kind) (text : List ℕ) (r : Rules) → (condition_of k text t r).cond ≢ Unknown → condition_of k text u r ≡ condition_of k text t r

@@ -89,20 +89,15 @@ module _ (t u : List Argument) where
   calls_undefined_alike (parens x) h = calls_undefined_alike x h
   calls_undefined_alike _ _ = refl
 
-  tree_cond_if_alike : (o : Option Expression) (rules : Rules) → Each Alike (names_in_tree o) → tree_cond_if o t rules ≡ tree_cond_if o u rules
-  tree_cond_if_alike o rules h = grind (arith, calls_undefined_alike, names_listed_alike, has_unsigned_alike, number_of_alike)
-
   expression_cond_alike : (after : List ℕ) (rules : Rules) → Each Alike (names_in_tree (expression_of after)) → expression_cond after t rules ≡ expression_cond after u rules
   unfolding expression_cond
-  expression_cond_alike after rules h = tree_cond_if_alike (expression_of after) rules h
+  expression_cond_alike after rules h =
+      grind (arith, calls_undefined_alike, names_listed_alike, has_unsigned_alike, number_of_alike)
 
   ifdef_decision_alike : (o : Option (List ℕ)) → Each Alike (name_alone o) → ifdef_decision o t ≡ ifdef_decision o u
   ifdef_decision_alike o h = grind (arith, itself)
 
-  decided_by_alike : (p : Test) (after : List ℕ) (rules : Rules) → Each Alike (names_by p after) → decision_by_test p after t rules ≡ decision_by_test p after u rules
-  decided_by_alike p after rules h = grind (arith, expression_cond_alike, ifdef_decision_alike)
-
 module _ (o p : Options) (same : rules_of o.settings ≡ rules_of p.settings) where
   -- A line is the same item if the tables agree on its names.
   pub item_alike : (r : Reading) (c : Content) → Each (Alike o.table p.table) (names_in_content c) → item_by o r c ≡ item_by p r c
-  item_alike r c h = grind (arith, decided_by_alike)
+  item_alike r c h = grind (arith, expression_cond_alike, ifdef_decision_alike)

@@ -30,9 +30,6 @@ change_after : (b c : Bool) (o : Operator) (x : ℤ) → After (apply_unary_know
 unfolding apply_unary_known
 change_after b c o x = grind arith
 
-alter_after : (b c : Bool) (o : Operator) (x y : Option ℤ) → After x y → After (apply_unary b o x) (apply_unary c o y)
-alter_after b c o x y h z e = grind (arith, change_after)
-
 -- 1. One operand that decides, and both.
 
 both_zero : (a b : Bool) → a ≡ true → Some (truth (not a && not b)) ≡ Some (pos 0)
@@ -131,7 +128,7 @@ counted_after : (o : Operator) (a b d e : Amount) → Lasts a b → Lasts d e �
 counted_after o a b d e h k z f = grind arith
 
 alter_lasts : (b c : Bool) (o : Operator) (x y : Amount) → Lasts x y → Lasts (unary_amount b o x) (unary_amount c o y)
-alter_lasts b c o x y h = grind (arith, after_lasts, alter_after, counted_after)
+alter_lasts b c o x y h = grind (arith, after_lasts, change_after, counted_after)
 
 combine_lasts : (s b c : Bool) (o : Operator) (x y v w : Amount) → Lasts x v → Lasts y w → Lasts (binary_amount s b o x y) (binary_amount s c o v w)
 combine_lasts s b c o x y v w h k = grind (arith, after_lasts, combine_after, counted_after)

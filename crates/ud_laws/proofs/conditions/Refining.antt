@@ -29,9 +29,6 @@ looser s r o x z h e = grind arith
 pub binary_keeps : (s r u : Bool) (o : Operator) (x y v w : Option ℤ) → (r ≡ true → s ≡ true) → Keeps x v → Keeps y w → Keeps (apply_binary s u o x y) (apply_binary r u o v w)
 binary_keeps s r u o x y v w l h k z e = grind (arith, looser, short_both, both_short, none-some)
 
-unary_keeps : (u : Bool) (o : Operator) (x v : Option ℤ) → Keeps x v → Keeps (apply_unary u o x) (apply_unary u o v)
-unary_keeps u o x v h z e = grind arith
-
 -- 2. Amounts.
 
 -- A known number stays; the least number may become one from there on.
@@ -50,30 +47,24 @@ stays_refines a b h = grind arith
 pub keeps_stays : (least : Bool) (x v : Option ℤ) → Keeps x v → Stays (amount_from least x) (amount_from least v)
 keeps_stays least x v h = grind arith
 
-same_refines : (o : Operator) (n : ℤ) (d e : Amount) → Refines d e → is_same_from o n d ≡ true → is_same_from o n e ≡ true
-same_refines o n d e h s = grind arith
-
 -- A number that the first amount may be counts for it, and the second one keeps this.
 abbrev Chosen : Amount → Amount → Type 0
 Chosen a b = (k : ℤ) × From a k × ((o : Operator) (d e : Amount) → Refines d e → Keeps (numbered o a d k) (counted o b e))
 
-least_itself : (n : ℤ) → n ≤ℤ n
-least_itself n = grind arith
-
 chosen : (a b : Amount) → Refines a b → Chosen a b
 chosen Anything b h = (pos 0, tt, λ o d e i z f. absurd (none-some z f))
 chosen (Exactly z) b h = (pos 0, tt, λ o d e i y f. ap (λ (c : Amount). counted o c e) h ∙ f)
-chosen (AtLeast n) b (inl h) = (n, least_itself n, λ o d e i z f. ap (λ (c : Amount). counted o c e) h ∙ stays o d e z i f)
+chosen (AtLeast n) b (inl h) = (n, grind arith, λ o d e i z f. ap (λ (c : Amount). counted o c e) h ∙ stays o d e z i f)
   where
     stays : (o : Operator) (d e : Amount) (z : ℤ) → Refines d e → numbered o (AtLeast n) d n ≡ Some z → counted o (AtLeast n) e ≡ Some z
-    stays o d e z i f = grind (arith, same_refines)
+    stays o d e z i f = grind arith
 chosen (AtLeast n) b (inr h) = grind arith
 
 pub unary_refines : (u : Bool) (o : Operator) (a b : Amount) → Refines a b → Stays (unary_amount u o a) (unary_amount u o b)
 unary_refines u o a b h = let c : Chosen a b = chosen a b h in
     keeps_stays false (apply_unary u o (counted o a Anything)) (apply_unary u o (counted o b Anything))
     (subst (λ x. Keeps x (apply_unary u o (counted o b Anything))) (sym (unary_numbered u o a c.0 c.1))
-    (unary_keeps u o (numbered o a Anything c.0) (counted o b Anything) (c.2 o Anything Anything tt)))
+    (grind arith))
 
 pub binary_refines : (s r u : Bool) (o : Operator) (a b d e : Amount) → (r ≡ true → s ≡ true) → Refines a b → Refines d e → Stays (binary_amount s u o a d) (binary_amount r u o b e)
 binary_refines s r u o a b d e l h k =

@@ -51,9 +51,6 @@ both a b = ((λ x. b), (λ y. a))
 neither : {A B : Type 0} → (A → ⊥) → (B → ⊥) → A ↔ B
 neither f g = ((λ a. absurd (f a)), (λ b. absurd (g b)))
 
-truth_one : (Holds : Type 0) (c : Number) → IsTruth Holds c → Holds → IsZero c → ⊥
-truth_one Holds c h g z = grind arith
-
 -- A truth of one of two facts that are alike is a truth of the other.
 truth_alike : (P Q : Type 0) (c : Number) → IsTruth P c → (P ↔ Q) → IsTruth Q c
 truth_alike P Q c h g = grind arith
@@ -75,7 +72,7 @@ module _ (table : List Argument) (rules : Rules) where
 
 not_tells : (x : Residual) (m : Choice x.tree) (y c : Number) → Tells x m y → IsTruth (IsZero y) c → Tells (negated x) (for_unary m) c
 not_tells x m y c t g = record {
-  yes = λ e. truth_one (IsZero y) c g (t.no (grind (arith, e)));
+  yes = λ e. grind arith;
   no = λ e. (grind (arith, g, t.yes (grind (arith, e))));
   value = c;
   has = of_unary t.has (truth_alike (IsZero y) (IsZero t.value) c g t.same);
@@ -132,9 +129,6 @@ module _ (strict : Bool) (x y : Residual) (m : Choice x.tree) (k : Choice y.tree
     and_both : (IsZero v → ⊥) → Tells (joined strict And x y) (one_or_both (is_unit And x.cond) (is_unit And y.cond) And (settled strict And x.cond y.cond) x y m k) c
     and_both n = by (is_unit And x.cond) (is_unit And y.cond) refl
       where
-        no_by : (x.cond ≡ No) ⊎ (y.cond ≡ No) → IsZero c
-        no_by h = grind arith
-
         by : (b d : Bool) → is_unit And y.cond ≡ d →
             Tells (joined_if b d And (settled strict And x.cond y.cond) x y)
             (one_or_both b d And (settled strict And x.cond y.cond) x y m k) c
@@ -142,7 +136,7 @@ module _ (strict : Bool) (x y : Residual) (m : Choice x.tree) (k : Choice y.tree
         by false true e = one_tells x m v c t (neither (λ z. s.yes (and_unit y.cond e) ((truth_same w c g).0 z)) n)
         by false false e = record {
           yes = λ f. absurd (and_never_yes strict x.cond y.cond f);
-          no = λ f. no_by (grind (arith, f));
+          no = λ f. grind arith;
           value = c;
           has = of_and_both t.has (λ z. n (t.same.1 z)) s.has (truth_alike (IsZero w → ⊥) (IsZero s.value → ⊥) c g (not_alike s.same));
           same = ((λ z. z), (λ z. z));
@@ -152,16 +146,13 @@ module _ (strict : Bool) (x y : Residual) (m : Choice x.tree) (k : Choice y.tree
     or_both : IsZero v → Tells (joined strict Or x y) (one_or_both (is_unit Or x.cond) (is_unit Or y.cond) Or (settled strict Or x.cond y.cond) x y m k) c
     or_both z = by (is_unit Or x.cond) (is_unit Or y.cond) refl
       where
-        yes_by : (x.cond ≡ Yes) ⊎ (y.cond ≡ Yes) → IsZero c → ⊥
-        yes_by h q = grind arith
-
         by : (b d : Bool) → is_unit Or y.cond ≡ d →
             Tells (joined_if b d Or (settled strict Or x.cond y.cond) x y)
             (one_or_both b d Or (settled strict Or x.cond y.cond) x y m k) c
         by true d e = one_tells y k w c s (truth_same w c g)
         by false true e = one_tells x m v c t (both ((truth_same w c g).1 (s.no (or_unit y.cond e))) z)
         by false false e = record {
-          yes = λ f. yes_by (grind (arith, f));
+          yes = λ f. grind arith;
           no = λ f. absurd (or_never_no strict x.cond y.cond f);
           value = c;
           has = of_or_both t.has (t.same.0 z) s.has (truth_alike (IsZero w → ⊥) (IsZero s.value → ⊥) c g (not_alike s.same));

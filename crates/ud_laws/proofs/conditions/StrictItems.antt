@@ -34,24 +34,16 @@ module _ (table : List Argument) (k : Bool) where
   tree_loose : (s : Bool) (e : Expression) → Looser (tree_cond e table (record { constants = k; strict = true })) (tree_cond e table (record { constants = k; strict = s }))
   tree_loose s e = grind (arith, unknown, alike, cond_keeps)
 
-  tree_if_loose : (s : Bool) (e : Option Expression) → Looser (tree_cond_if e table (record { constants = k; strict = true })) (tree_cond_if e table (record { constants = k; strict = s }))
-  tree_if_loose s e = grind (arith, alike, tree_loose)
-
   expression_loose : (s : Bool) (after : List ℕ) →
       Looser (expression_cond after table (record { constants = k; strict = true }))
       (expression_cond after table (record { constants = k; strict = s }))
   unfolding expression_cond
-  expression_loose s after = tree_if_loose s (expression_of after)
+  expression_loose s after = grind (arith, alike, tree_loose)
 
   test_loose : (s : Bool) (t : Test) (after : List ℕ) →
       LooserDecision (decision_by_test t after table (record { constants = k; strict = true }))
       (decision_by_test t after table (record { constants = k; strict = s }))
   test_loose s t after = grind (arith, expression_loose, alike)
-
-  decision_loose : (s : Bool) (scan : Scan) (d : Directive) →
-      LooserDecision (decision_on scan d table (record { constants = k; strict = true }))
-      (decision_on scan d table (record { constants = k; strict = s }))
-  decision_loose s scan d = grind (arith, test_loose, same_decision)
 
 -- The openers differ in such conditions at most.
 pub record LooserOpener (o p : Opener Reading) : Type 0 where
@@ -67,9 +59,6 @@ pub data LooserItem : Item Reading → Item Reading → Type 0 where
   an_else : {r : Reading} → LooserItem (else_line r) (else_line r)
   an_endif : {r : Reading} → LooserItem (endif_line r) (endif_line r)
 
-role_loose : (r : Reading) (p : Role) (d e : Decision) → LooserDecision d e → LooserItem (directive_item r p d) (directive_item r p e)
-role_loose r p d e h = grind (arith, an_if, an_elif, an_else, an_endif)
-
 -- Under `-K` a line is the same item, but for an unknown condition.
 pub item_loose : (o : Options) (r : Reading) → LooserItem (item_of (under_strict o) r) (item_of o r)
-item_loose o r = grind (arith, role_loose, decision_loose, a_text)
+item_loose o r = grind (arith, an_if, an_elif, an_else, an_endif, test_loose, same_decision, a_text)

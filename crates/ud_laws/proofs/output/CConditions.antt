@@ -26,13 +26,10 @@ Fits No b = b ≡ false
 Fits Unknown b = Unit {0}
 
 module _ (table : List Argument) where
-  tree_if_fits : (rules : Rules) (o : Option Expression) (b : Bool) → MayBe table o b → Fits (tree_cond_if o table rules) b
-  tree_if_fits rules o b h = grind (arith, yes_is_true, no_is_false)
-
   -- The case of `#if` and `#elif`.
   expression_fits : (rules : Rules) (after : List ℕ) (b : Bool) → MayBe table (expression_of after) b → Fits (expression_cond after table rules) b
   unfolding expression_cond
-  expression_fits rules after b h = tree_if_fits rules (expression_of after) b h
+  expression_fits rules after b h = grind (arith, yes_is_true, no_is_false)
 
   -- The case of `defined` and a listed name.
   defined_is : (n : List ℕ) (x : Entry) → entry_in table n ≡ Some x → value_of table false (is_defined n false) ≡ Exactly (truth (is_some x.value))
@@ -60,16 +57,8 @@ module _ (table : List Argument) where
   no_entry_fits n b h (Some x) e = negated_fits x.value x.ignoring b h.0
       (known_stays table false (unary Not (is_defined n false)) (truth (is_zero (truth (is_some x.value)))) h.0 (undefined_is n x e) h.1) h.2
 
-  -- The case of `#ifdef`.
-  ifdef_fits : (o : Option (List ℕ)) (b : Bool) → MayBe table (option_map (λ n. is_defined n false) o) b → Fits (ifdef_decision o table).cond b
-  ifdef_fits o b h = grind (arith, entry_fits)
-
-  -- The case of `#ifndef`.
-  ifndef_fits : (o : Option (List ℕ)) (b : Bool) → MayBe table (option_map (λ n. unary Not (is_defined n false)) o) b → Fits (negate (ifdef_decision o table).cond) b
-  ifndef_fits o b h = grind (arith, no_entry_fits)
-
   test_fits : (rules : Rules) (p : Test) (after : List ℕ) (b : Bool) → MayBe table (condition_by_test p after) b → Fits (decision_by_test p after table rules).cond b
-  test_fits rules p after b h = grind (arith, expression_fits, ifdef_fits, ifndef_fits)
+  test_fits rules p after b h = grind (arith, expression_fits, entry_fits, no_entry_fits)
 
 -- The opener of an item is decided so.
 abbrev pub ItemFits : Item Reading → Bool → Type 0

@@ -33,7 +33,7 @@ use Rattle.ud_model.proofs.output.PrintedPruned.{printed-append}
 use Rattle.ud_model.proofs.output.RereadLaws.{left_piece, item_bytes}
 use Rattle.ud_model.proofs.output.RereadMore.{last_removed as last_removed_mark, Again, Between, Carry, alike, gone, IsLine, start}
 use Rattle.ud_model.proofs.output.RereadStep.{More, the_more, step, plain_run, stayed_alone, goes_or_left, left_stays}
-use Rattle.ud_laws.proofs.output.Inserting.{Weave, line_after, with_line, are_more, put, put_lone, left, left_seen, lines_last, read_once, piece_of, gone_blank, gone_nothing, left_blank, removed_last}
+use Rattle.ud_laws.proofs.output.Inserting.{Weave, line_after, with_line, are_more, put, put_lone, left, left_seen, lines_last, read_once, piece_of, gone_blank, gone_nothing, removed_last}
 
 -- 1. The positions at which lines are inserted.
 
@@ -279,7 +279,7 @@ module _ (o : Options) (m : Mode) (b n : Bool) (some : (b || n) ≡ true) (padde
     ready h = by_style b refl
       where
         blank_piece : b ≡ true → piece_of b n (so_far xs t) j ≡ piece_by false j.verdict j.keyword j.line
-        blank_piece f = ap (λ (c : Bool). piece_of c n (so_far xs t) j) f ∙ left_blank j.verdict n (so_far xs t) j.line j.keyword h
+        blank_piece f = ap (λ (c : Bool). piece_of c n (so_far xs t) j) f ∙ (grind arith)
 
         number_piece : b ≡ false → (r : Bool) → last_removed (so_far xs t) ≡ r →
             piece_of b n (so_far xs t) j ≡ (if r then number_line j.line else []) ++ piece_by false j.verdict j.keyword j.line

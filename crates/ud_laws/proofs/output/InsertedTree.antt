@@ -30,14 +30,8 @@ Inserted ys zs = Strewn ItemAlike IsInserted ys zs
 inserted_both : {ys zs vs ws : List (Item Reading)} → Inserted ys zs → Inserted vs ws → Inserted (ys ++ vs) (zs ++ ws)
 inserted_both a b = strewn_both ItemAlike IsInserted a b
 
-alike_role : (r s : Reading) (p : Role) (d e : Decision) → e ≡ d → IsSame r s → ItemAlike (directive_item r p d) (directive_item s p e)
-alike_role r s p d e h k = grind (arith, an_if, an_elif, an_else, an_endif)
-
-alike_by : (o : Options) (r s : Reading) (c : Content) → IsSame r s → ItemAlike (item_by o r c) (item_by o s c)
-alike_by o r s c h = grind (arith, a_text, alike_role)
-
-pub alike_item : (o : Options) (r s : Reading) → IsSame r s → ItemAlike (item_of o r) (item_of o s)
-alike_item o r s k = grind (arith, alike_by)
+pub alike_by : (o : Options) (r s : Reading) (c : Content) → IsSame r s → ItemAlike (item_by o r c) (item_by o s c)
+alike_by o r s c h = grind (arith, a_text, an_if, an_elif, an_else, an_endif)
 
 text_is : (d : Reading) → IsInserted d → content_of d.scan ≡ text_content
 text_is d h = grind arith
@@ -49,7 +43,7 @@ put_one : (o : Options) (d : Reading) → IsInserted d → Inserted [] (item_of 
 put_one o d k = subst (λ (z : Item Reading). Inserted [] (z ∷ [])) (sym (put_item o d k)) (put k none)
 
 same_one : (o : Options) (j : Judged) (r s : Reading) → IsPrinted j r s → Inserted (item_of o r ∷ []) (item_of o s ∷ [])
-same_one o j r s k = same (alike_item o r s (record { bytes = k.same; scanned = k.scanned })) none
+same_one o j r s k = same (grind (arith, alike_by)) none
 
 abbrev pub items : Options → List Reading → List (Item Reading)
 items o rs = map (λ r. item_of o r) rs

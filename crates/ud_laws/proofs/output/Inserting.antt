@@ -155,10 +155,6 @@ pub gone_nothing : (b n : Bool) (before : List Judged) (j : Judged) → j.verdic
     piece_of b n before j ≡ []
 gone_nothing b n before j e none = grind (arith, gone_blank)
 
-pub left_blank : (v : Verdict) (n : Bool) (before : List Judged) (l : Line) (k : Span) → IsLeft v →
-    piece_of true n before (record { line = l; verdict = v; keyword = k }) ≡ piece_by false v k l
-left_blank v n before l k h = grind arith
-
 -- The last judged line is removed if the last mark means so.
 pub removed_last : (xs : List (Item Reading)) (ms : List Mark) → length xs ≡ length ms → last_removed (judged_lines xs ms) ≡ ends_removed ms
 removed_last [] [] e = refl

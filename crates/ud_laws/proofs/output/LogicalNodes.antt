@@ -167,11 +167,8 @@ module _ (o : Options) (p : IsPlainC o) where
   of_text : (bytes : List ℕ) (ns : Nodes Reading) → IsTreeOf o bytes (closed ns) → lines_of_nodes ns ≡ map (item_of o) (read_as C bytes)
   of_text bytes ns t = grind (arith, read_lines, items_are)
 
-  item_by_role : (r : Reading) (q : Role) (d : Decision) → item_with c_one (unknown_item (directive_item r q d)) ≡ role_item q (c_one r)
-  item_by_role r q d = grind arith
-
   item_there : (r : Reading) → item_with c_one (unknown_item (item_of o r)) ≡ c_item r
-  item_there r = grind (arith, item_by_role)
+  item_there r = grind arith
 
   items_there : (rs : List Reading) → map (item_with c_one) (map unknown_item (map (item_of o) rs)) ≡ map c_item rs
   items_there [] = refl
@@ -185,12 +182,9 @@ module _ (o : Options) (p : IsPlainC o) where
   pub c_nodes_are : (bytes : List ℕ) → HasNoLong bytes → (ns : Nodes Reading) → IsTreeOf o bytes (closed ns) → (us : Nodes CLine) → IsCTree bytes us → us ≡ c_nodes ns
   c_nodes_are bytes h ns t us i = nodes_same us (c_nodes ns) (i ∙ sym (c_nodes_of bytes h ns t))
 
-  item_by_content : (r : Reading) (c : Content) → content_of r.scan ≡ c → NotLong r → IsOf IsText IsShort (item_by o r c)
-  item_by_content r c e h = grind arith
-
   items_short : (rs : List Reading) → Each NotLong rs → Each (IsOf IsText IsShort) (map (item_of o) rs)
   items_short [] h = tt
-  items_short (r ∷ rs) h = (item_by_content r (content_of r.scan) refl h.0, items_short rs h.1)
+  items_short (r ∷ rs) h = (grind arith, items_short rs h.1)
 
   -- Its lines are short.
   pub lines_short : (bytes : List ℕ) → HasNoLong bytes → (ns : Nodes Reading) → IsTreeOf o bytes (closed ns) → LinesShort ns
@@ -202,12 +196,9 @@ module _ (o : Options) (p : IsPlainC o) where
 ends_here : (scan : Scan) → (true && is_spanning scan) ≡ false → scan.joins_after ≡ false
 ends_here scan h = (or_parts scan.joins_before scan.joins_after h).1
 
-by_content : (scan : Scan) (c : Content) (r : Reading) → (is_directive c && is_spanning scan) ≡ false → condition_with scan c ≡ condition_of (c_line_by c [] (other_lines (r ∷ [])))
-by_content scan c r h = grind (arith, append-nil, ends_here)
-
 -- The condition of the line is that of the logical line.
 condition_is : (r : Reading) → NotLong r → condition_on r ≡ condition_of (c_one r)
-condition_is r h = by_content r.scan (content_of r.scan) (unnumbered r) h
+condition_is r h = grind (arith, append-nil, ends_here)
 
 text_one : (r : Reading) → IsText r → c_one r ≡ other_lines (unnumbered r ∷ [])
 text_one r h = line_of_text (content_of r.scan) (other_lines (unnumbered r ∷ [])) (grind (arith, h))

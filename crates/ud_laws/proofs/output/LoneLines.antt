@@ -63,12 +63,10 @@ ends_quiet z loud b q (c, e) = go c (subst (Each Quiet) e q)
     go [] h = loud h.0
     go (x ∷ c) h = go c h.1
 
-cut_ending : (m : ℕ) (b e : List ℕ) → ending_of (b ++ e) ≡ e → line_at m (b ++ e) ≡ record { body = b; ending = e; number = m }
-cut_ending m b e h = grind (arith, take_at, length-append)
-
 -- Quiet bytes and an ending are a line with this body and this ending.
 pub quiet_line : (m : ℕ) (b e : List ℕ) → Each Quiet b → IsEnd e → line_at m (b ++ e) ≡ record { body = b; ending = e; number = m }
-quiet_line m b e q h = grind (arith, common_steps, cut_ending, ending_both, ending_feed, ends_quiet)
+quiet_line m b e q h =
+    grind (arith, common_steps, take_at, length-append, ending_both, ending_feed, ends_quiet)
 
 pub quiet_whole : (b e : List ℕ) → Each Quiet b → IsEnd e → IsWhole (b ++ e)
 quiet_whole b e q (inl h) =
@@ -98,12 +96,9 @@ module _ (l : Line) (q : IsQuiet l) where
   all_content : content l ≡ l.body
   all_content = ap (λ (s : Bool). if s then take (length l.body - 1) l.body else l.body) (spliced_not l q)
 
-  lands : state_after_line (stays_open l) (place_after in_text (content l)) ≡ in_text
-  lands = grind (arith, all_content, place_quiet)
-
   seen_quiet : scan_from in_text true false l ≡ plain_scan l
   unfolding scan_from
-  seen_quiet = grind (arith, masked_quiet, spliced_not, lands)
+  seen_quiet = grind (arith, masked_quiet, spliced_not, all_content, place_quiet)
 
 -- Between logical lines a quiet line is scanned by itself.
 pub lone_scan : (zs : List (Item Reading)) (m : Mode) (l : Line) → LeavesOff zs in_text true false → IsQuiet l → scan_after (map reading_of zs) m l ≡ plain_scan l

@@ -83,10 +83,6 @@ module _ {S : Type 0} (table : List Argument) (rules : Rules) (value : S → Lis
     tell : Tells (residual table rules e) (stay table rules numbers) h.0
     tell = tells table rules (all_allowed (value s) (is_known s) table (true_of s) e) h.1
 
-    truth_left : (c : Bool) (n : Number) → HasValue (residual table rules e).tree (stay table rules numbers) n → HasTruth c n →
-        HasTruthBy (value s) (is_known s) (expression_written (if_condition now)) c
-    truth_left c n v t = grind (arith, same_or_left, truth_of, truth_kept, tell, one_value, stay_by)
-
     by_names : IsByNumbers table rules (decides_by value is_known) s cells e b
     by_names = record {
       numbers = numbers;
@@ -94,7 +90,8 @@ module _ {S : Type 0} (table : List Argument) (rules : Rules) (value : S → Lis
       value = h.0;
       has = h.1;
       truth = h.2;
-      left = λ c n v t. (truth_left c n v t, refl);
+      left = λ c n v t.
+          (grind (arith, same_or_left, truth_of, truth_kept, tell, one_value, stay_by), refl);
     }
 
   pub names_keep : KeepsNumbers table rules (decides_by value is_known)

@@ -134,9 +134,6 @@ is_yes Yes = true
 is_yes _ = false
 
 module _ {L : Type 0} where
-  fits_by : (w : World L) (c : Cond) (l : L) → w l ≡ is_yes c → AgreesWith w c l
-  fits_by w c l h = grind arith
-
   unknown_fits : (w : World L) (c : Cond) (l : L) → c ≡ Unknown → AgreesWith w c l
   unknown_fits w c l e = subst (λ (d : Cond). AgreesWith w d l) (sym e) tt
 
@@ -149,7 +146,7 @@ module _ {L : Type 0} where
   pub given : {os : List (Opener L)} {ps : List (Opener (Edited L))} → Left IsFrom os ps → Each IsUnknown ps → (bs : List Bool) → length bs ≡ length ps →
       Truths (lines_of_heads os) (Gives os ps bs)
   given (gone {x = o} h) u bs e =
-      weaker (λ w s. record { agrees = (fits_by w o.cond o.line s.0, s.1.agrees); truths = s.1.truths }) (both_truths (one_truth o.line (is_yes o.cond)) (given h u bs e))
+      weaker (λ w s. record { agrees = (grind arith, s.1.agrees); truths = s.1.truths }) (both_truths (one_truth o.line (is_yes o.cond)) (given h u bs e))
   given (stays {x = o} {y = p} r h) u (b ∷ bs) e =
       weaker (λ w s. record {
         agrees = (unknown_fits w o.cond o.line (sym r.1 ∙ u.0), s.1.agrees);
@@ -186,9 +183,6 @@ module _ {A B : Type 0} (f : A → B) where
 
 where_some : {A : Type 0} (b : Bool) (qs ls : List A) → where_true b qs ≡ Some ls → qs ≡ ls
 where_some b qs ls e = grind arith
-
-either_some : {A : Type 0} (s r : Option (List A)) (ls : List A) → or_else s r ≡ Some ls → (s ≡ Some ls) ⊎ (r ≡ Some ls)
-either_some s r ls h = grind arith
 
 module _ {L : Type 0} where
   in_first : (xs ys : List (Item L)) (l : L) → Contains (text_lines_in xs) l → Contains (text_lines_in (xs ++ ys)) l
@@ -234,7 +228,7 @@ module _ {L : Type 0} (w : World L) where
         (λ a. in_first (lines_of_elifs es ++ elif_line o ∷ []) (lines_of_nodes ns) l (in_first (lines_of_elifs es) (elif_line o ∷ []) l (elifs_in es ls l a c)))
         (λ b. in_second (lines_of_elifs es ++ elif_line o ∷ []) (lines_of_nodes ns) l
         (selected_in ns l (subst (λ (qs : List L). Contains qs l) (sym (where_some (w o.line) (selected w ns) ls b)) c)))
-        (either_some (selected_elifs w es) (where_true (w o.line) (selected w ns)) ls e)
+        (grind arith)
 
 -- 6. The lines that are left, by their numbers.
 

@@ -111,9 +111,6 @@ module _ (u : Bool) {S F : Type 0} (takes : S → List ℕ → Scan → S → Ty
   abbrev out : Preprocessor S F (Edited Reading)
   out = of_origin p
 
-  scan_of : (a : Scan) (l : Reading) → Some a ≡ text_scan l → a ≡ l.scan
-  scan_of a l e = grind arith
-
   text_stays : (v : Verdict) (r : Reading) → v ≡ Keep → left_text v r ≡ text_scan r
   text_stays v r e = ap (λ (w : Verdict). left_text w r) e
 
@@ -122,16 +119,10 @@ module _ (u : Bool) {S F : Type 0} (takes : S → List ℕ → Scan → S → Ty
 
   -- The line has the bytes and the scan of the one from which it comes.
   text_same : (e : Edited Reading) (l : Reading) → left_seen u e ≡ scanned l → TextStays e → (line_bytes e.line ≡ line_bytes l) × (e.line.scan ≡ l.scan)
-  text_same e l q h = grind (arith, text_is, scan_of, text_stays)
-
-  text_by : (e : Edited Reading) (l : Reading) → left_seen u e ≡ scanned l → TextStays e → TextAlike out p e l
-  text_by e l q h = grind (arith, text_same)
-
-  opener_same : (e : Edited Reading) (l : Reading) → left_seen u e ≡ scanned l → KeepsCondition e.verdict → condition_on e.line ≡ condition_on l
-  opener_same e l q h = grind (arith, q)
+  text_same e l q h = grind (arith, text_is, text_stays)
 
   opener_by : (o : Opener (Edited Reading)) (k : Opener Reading) → left_seen u o.line ≡ scanned k.line → KeepsCondition o.line.verdict → OpenerAlike out p o k
-  opener_by o k q h = λ s b t d. subst (λ (c : Condition). decides s c b t) (opener_same o.line k.line q h) d
+  opener_by o k q h = λ s b t d. subst (λ (c : Condition). decides s c b t) (grind (arith, q)) d
 
   abbrev Alike : Nodes (Edited Reading) → Nodes Reading → Type 0
   Alike ms us = IsDoneAlike out p ms us
@@ -143,7 +134,7 @@ module _ (u : Bool) {S F : Type 0} (takes : S → List ℕ → Scan → S → Ty
     nodes_alike (text ms e) (text us l) q h =
         let a : with_lines (left_seen u) ms ≡ with_lines scanned us = cc in
         let b : left_seen u e ≡ scanned l = cc in
-        text_alike (nodes_alike ms us a h.0) (text_by e l b h.1)
+        text_alike (nodes_alike ms us a h.0) (grind (arith, text_same))
     nodes_alike (section ms gs e) (section us hs l) q h =
         let a : with_lines (left_seen u) ms ≡ with_lines scanned us = cc in
         let b : groups_with_lines (left_seen u) gs ≡ groups_with_lines scanned hs = cc in

@@ -153,9 +153,6 @@ sub_same (with_same {y = y} p) e = ap (λ zs. y ∷ zs) (sub_same p (omega (arit
 is_some : {A : Type 0} {x y : A} → ◌≡◌ {A = Option A} (Some x) (Some y) → x ≡ y
 is_some e = cc
 
-not_closing : (k : Kind) → test_of k ≡ Nonzero → is_closing k ≡ false
-not_closing k e = grind arith
-
 module _ (table : List Argument) (rules : Rules) where
   -- 2. If a line is edited to itself, all cells of its text are left.
   all_left : (l : Line) (d : Directive) → is_spliced l ≡ false → left_line table rules l d ≡ l → left_cells_of table rules l d ≡ text_cells l d
@@ -178,7 +175,7 @@ module _ (table : List Argument) (rules : Rules) where
     cells = condition_cells r.line d
 
     cells_are : text_cells r.line d ≡ cells
-    cells_are = condition_text table rules r.line d (not_closing d.kind value)
+    cells_are = condition_text table rules r.line d (grind arith)
 
     abbrev Reason : Type 0
     Reason = IsSimplified table rules r d

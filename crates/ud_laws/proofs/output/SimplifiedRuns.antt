@@ -102,9 +102,6 @@ module _ (table : List Argument) (rules : Rules) where
   short_left : (r s : Reading) → ReadingSimplified table rules r s → length (text_of s.line) ≤ length (text_of r.line)
   short_left r s i = grind (arith, line_left r s i, sub_fewer (line_bytes table rules r.line r.scan (simplified_line table rules r) (becomes table rules r)))
 
-  calm_left : (r s : Reading) → ReadingSimplified table rules r s → is_in_block r.scan.comment ≡ false → is_in_block s.scan.comment ≡ false
-  calm_left r s h g = grind (arith, out_of_comment)
-
   cond_first : (k : Kind) (after : List ℕ) → test_of k ≡ Nonzero → (condition_of k after table rules).cond ≡ expression_cond after table rules
   cond_first k after h = grind arith
 
@@ -177,7 +174,7 @@ module _ (o : Options) where
 
   pub all_calm : {rs ss : List Reading} → Pairs Simplified rs ss → ends_in_comment (items o rs) ≡ false → ends_in_comment (items o ss) ≡ false
   all_calm no_pair h = refl
-  all_calm (pair {x = r} {y = s} i no_pair) h = of_reading (λ (x : Reading). is_in_block x.scan.comment ≡ false) r s (calm_left o.table (rules_of o.settings) r s i) h
+  all_calm (pair {x = r} {y = s} i no_pair) h = of_reading (λ (x : Reading). is_in_block x.scan.comment ≡ false) r s (grind (arith, out_of_comment)) h
   all_calm (pair i (pair {x = q} {y = t} {xs = rs} {ys = ss} j p)) h = all_calm (pair {x = q} {y = t} {xs = rs} {ys = ss} j p) h
 
   -- 4. Heights.

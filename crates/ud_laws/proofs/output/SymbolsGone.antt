@@ -77,14 +77,10 @@ module _ {L : Type 0} (w : World L) (R S : L → Type 0) where
         (elifs_over es q.0 k.0, λ none. let r = k.1 none in (q.1.0 r.0, λ is. reached_over ns p.1 (r.1 is)))
 
 module _ (t u : List Argument) (name : List ℕ) (none : IsNoValue t name) (same : DifferAtMostAt name t u) where
-  -- Another name isn't led to this one.
-  other_alike : (n : List ℕ) → n ≢ name → Alike t u n
-  other_alike n other m l = grind (arith, led_to)
-
   all_alike : (names : List (List ℕ)) → (Contains names name → ⊥) → Each (Alike t u) names
   all_alike [] out = tt
   all_alike (n ∷ names) out =
-      (other_alike n (λ is. out (0, omega arith, is)), all_alike names (λ there. out (Contains-append_right (n ∷ []) names name there)))
+      (grind (arith, led_to), all_alike names (λ there. out (Contains-append_right (n ∷ []) names name there)))
 
   as_same : (n : List ℕ) → Alike t u n → Same t u n
   as_same n h = record { value = λ b. name_value_alike t u b n h; has_u = name_has_u_alike t u n h; is_set = defined_value_alike t u n h }
