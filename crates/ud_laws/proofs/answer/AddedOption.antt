@@ -165,12 +165,11 @@ mode_added e (x ∷ xs) l n a f k = mode_added e xs l n a f k
 
 no_fault_added : (xs : List ParsedArg) → NoOperand xs → (l n : ℕ) (a : List ℕ) {hs gs : List ParsedArg} → argument_fault l n a ≡ None → Same gs hs →
     first_fault (xs ++ gs) ≡ None → first_fault (xs ++ option l n a ∷ hs) ≡ None
-no_fault_added [] h l n a f k e = ap₂ fault_or f (no_fault_same k e)
 no_fault_added (flag c ∷ xs) h l n a f k e = no_fault_added xs h.1 l n a f k e
 no_fault_added (option c i v ∷ xs) h l n a {gs = gs} f k e =
     let both = both_none (argument_fault c i v) (first_fault (xs ++ gs)) e in
     ap₂ fault_or both.0 (no_fault_added xs h.1 l n a f k both.1)
-no_fault_added (x ∷ xs) h l n a f k e = grind arith
+no_fault_added xs h l n a f k e = grind (arith, no_fault_same)
 
 -- a name's entry doesn't depend on an argument of another name
 entry_added : (e : Option Entry) (ts us : List Argument) (a : Argument) (n : List ℕ) → bytes_eq a.name n ≡ false → entry_from e (ts ++ a ∷ us) n ≡ entry_from e (ts ++ us) n

@@ -33,14 +33,13 @@ word_same : (g h : WordGives) (n m : ℕ) (ws : List (List ℕ)) → map placele
 word_same g h n m ws e f k = grind (arith, map-append)
 
 next_same : (o : Option ℕ) (n m : ℕ) (ws : List (List ℕ)) → map placeless (given_next o n ws) ≡ map placeless (given_next o m ws)
-next_same None n m [] = refl
-next_same (Some c) n m [] = refl
 next_same (Some c) n m (w ∷ ws) = grind (arith, next_same None (suc n) (suc m) ws)
 next_same None n m (w ∷ ws) =
     let h = letters_same (suc n) (suc m) (option_letters w) in
     if_same (bytes_eq w (codes "--")) _ _ _ _ (operands_same (suc n) (suc m) ws)
     (if_same (is_operand w) _ _ _ _ (operands_same n m (w ∷ ws)) (word_same _ (letters_give (suc m) (option_letters w)) (suc n) (suc m) ws h.0 h.1
     (next_same (letters_give (suc n) (option_letters w)).waits (suc n) (suc m) ws)))
+next_same o n m ws = grind arith
 
 pub given_same : (n m : ℕ) (ws : List (List ℕ)) → Same (parsed_from n ws) (parsed_from m ws)
 given_same n m ws = record { alike = next_same None n m ws }
@@ -67,13 +66,10 @@ either_right : {A B : Type 0} (b : Bool) (o : Option A) (p : Option B) (f g h k 
 either_right b o p f g h k = grind arith
 
 fault_placeless : (gs : List ParsedArg) → is_some (first_fault (map placeless gs)) ≡ is_some (first_fault gs)
-fault_placeless [] = refl
 fault_placeless (option c n a ∷ gs) = either_fault _ (first_fault (map placeless gs)) (argument_fault c n a) _
     (either_right (has_letter (codes "x") c) (parse_exit_mode a) (parse_symbol c a) _ _ _ _) (fault_placeless gs)
-fault_placeless (operand n w ∷ []) = refl
-fault_placeless (operand n w ∷ g ∷ gs) = refl
 fault_placeless (flag c ∷ gs) = fault_placeless gs
-fault_placeless (g ∷ gs) = refl
+fault_placeless gs = grind arith
 
 name_placeless : (gs : List ParsedArg) → name_or_stdin (operand_in (map placeless gs)) ≡ name_or_stdin (operand_in gs)
 name_placeless [] = refl

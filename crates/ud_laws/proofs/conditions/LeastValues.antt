@@ -174,14 +174,12 @@ module _ (t u : List Argument) (h : ChoosesNumbers t u) where
   -- 3. Expressions.
 
   number_refines : (s b : Bool) (e : Expression) → Refines (number_of t s b e) (number_of u s b e)
-  number_refines s b (constant w) = refines_itself (number_of t s b (constant w))
-  number_refines s b (named n a) = name_refines b n
-  number_refines s b (is_defined n p) = subst (λ (o : Option ℤ). Refines (amount_from false (defined_value t n)) (amount_from false o)) (sym (defined_alike n)) (refines_itself (amount_from false (defined_value t n)))
   number_refines s b (unary o x) = grind (arith, stays_refines, unary_refines, number_refines s b x)
   number_refines s b (binary o x y) =
       stays_refines (number_of t s b (binary o x y)) (number_of u s b (binary o x y))
       (binary_refines s s b o (number_of t s b x) (number_of u s b x) (number_of t s b y) (number_of u s b y) (λ r. r) (number_refines s b x) (number_refines s b y))
   number_refines s b (parens x) = number_refines s b x
+  number_refines s b e = grind (arith, refines_itself, name_refines, defined_alike, constant)
 
   value_refines : (s : Bool) (e : Expression) → Refines (value_of t s e) (value_of u s e)
   value_refines s e = subst (λ (b : Bool). Refines (value_of t s e) (number_of u s b e)) (sym (grind (arith, name_sign))) (number_refines s (has_unsigned t e) e)

@@ -52,42 +52,36 @@ module _ (t u : List Argument) where
   defined_value_alike n h = ap defined_value_by (h n (itself n))
 
   number_of_alike : (strict b : Bool) (e : Expression) → Each Alike (names_in e) → number_of t strict b e ≡ number_of u strict b e
-  number_of_alike strict b (constant w) h = refl
-  number_of_alike strict b (named n a) h = name_value_alike b n h.0
-  number_of_alike strict b (is_defined n p) h = ap (amount_from false) (defined_value_alike n h.0)
   number_of_alike strict b (unary o x) h = ap (unary_amount b o) (number_of_alike strict b x h)
   number_of_alike strict b (binary o x y) h =
       let p : Each Alike (names_in x) × Each Alike (names_in y) = each_parts Alike (names_in x) (names_in y) h in
       ap₂ (binary_amount strict b o) (number_of_alike strict b x p.0) (number_of_alike strict b y p.1)
   number_of_alike strict b (parens x) h = number_of_alike strict b x h
+  number_of_alike strict b e h = grind (arith, name_value_alike, defined_value_alike)
 
   pub has_unsigned_alike : (e : Expression) → Each Alike (names_in e) → has_unsigned t e ≡ has_unsigned u e
-  has_unsigned_alike (named n a) h = name_has_u_alike n h.0
   has_unsigned_alike (unary o x) h = has_unsigned_alike x h
   has_unsigned_alike (binary o x y) h =
       let p : Each Alike (names_in x) × Each Alike (names_in y) = each_parts Alike (names_in x) (names_in y) h in
       ap₂ (λ (a : Bool) (b : Bool). a || b) (has_unsigned_alike x p.0) (has_unsigned_alike y p.1)
   has_unsigned_alike (parens x) h = has_unsigned_alike x h
-  has_unsigned_alike _ _ = refl
+  has_unsigned_alike e h = grind (arith, name_has_u_alike)
 
   names_listed_alike : (e : Expression) → Each Alike (names_in e) → mentions_listed t e ≡ mentions_listed u e
-  names_listed_alike (constant w) h = refl
-  names_listed_alike (named n a) h = ap is_some (h.0 n (itself n))
-  names_listed_alike (is_defined n p) h = ap is_some (h.0 n (itself n))
   names_listed_alike (unary o x) h = names_listed_alike x h
   names_listed_alike (binary o x y) h =
       let p : Each Alike (names_in x) × Each Alike (names_in y) = each_parts Alike (names_in x) (names_in y) h in
       ap₂ (λ (a : Bool) (b : Bool). a || b) (names_listed_alike x p.0) (names_listed_alike y p.1)
   names_listed_alike (parens x) h = names_listed_alike x h
+  names_listed_alike e h = grind (arith, itself)
 
   calls_undefined_alike : (e : Expression) → Each Alike (names_in e) → calls_undefined t e ≡ calls_undefined u e
-  calls_undefined_alike (named n a) h = ap (λ (o : Option Entry). a && undefined_by o) (h.0 n (itself n))
   calls_undefined_alike (unary o x) h = calls_undefined_alike x h
   calls_undefined_alike (binary o x y) h =
       let p : Each Alike (names_in x) × Each Alike (names_in y) = each_parts Alike (names_in x) (names_in y) h in
       ap₂ (λ (a : Bool) (b : Bool). a || b) (calls_undefined_alike x p.0) (calls_undefined_alike y p.1)
   calls_undefined_alike (parens x) h = calls_undefined_alike x h
-  calls_undefined_alike _ _ = refl
+  calls_undefined_alike e h = grind (arith, itself)
 
   expression_cond_alike : (after : List ℕ) (rules : Rules) → Each Alike (names_in_tree (expression_of after)) → expression_cond after t rules ≡ expression_cond after u rules
   unfolding expression_cond

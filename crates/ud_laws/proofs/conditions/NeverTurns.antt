@@ -170,13 +170,11 @@ module _ (t u : List Argument) (more : ExtendsTable t u) where
   defined_after n = defined_by n (entry_in t n) refl
 
   number_lasts : (s b c : Bool) (e : Expression) → Lasts (number_of t s b e) (number_of u s c e)
-  number_lasts s b c (constant w) = inr (inl refl)
-  number_lasts s b c (named n a) = name_lasts b c n
-  number_lasts s b c (is_defined n p) = after_lasts false (defined_value t n) (defined_value u n) (defined_after n)
   number_lasts s b c (unary o a) = alter_lasts b c o (number_of t s b a) (number_of u s c a) (number_lasts s b c a)
   number_lasts s b c (binary o a d) =
       combine_lasts s b c o (number_of t s b a) (number_of t s b d) (number_of u s c a) (number_of u s c d) (number_lasts s b c a) (number_lasts s b c d)
   number_lasts s b c (parens a) = number_lasts s b c a
+  number_lasts s b c e = grind (arith, name_lasts, after_lasts, defined_after)
 
   -- The value of an expression stays, or is unknown.
   pub value_after : (s : Bool) (e : Expression) → value_of t s e ≢ Anything → (value_of u s e ≡ value_of t s e) ⊎ (value_of u s e ≡ Anything)
