@@ -76,9 +76,7 @@ options_split (two_words {w} {c} {cs} {d} {v} {args} is waits more) n =
 
 word_ascii : (bytes : List ℕ) → are_word_bytes bytes ≡ true → IsAscii bytes
 word_ascii [] e = IsAscii-nil
-word_ascii (b ∷ bs) e = let small : b < 128 = grind (arith, word_small b) in
-    let more : are_word_bytes bs ≡ true = grind arith in
-    IsAscii-cons b bs small (word_ascii bs more)
+word_ascii (b ∷ bs) e = grind (arith, word_small, word_ascii bs (grind arith))
 
 -- an ASCII byte is a character
 chars_ascii : (b : ℕ) (t : List ℕ) → nat_lt b 128 ≡ true → chars (b ∷ t) ≡ b ∷ chars t

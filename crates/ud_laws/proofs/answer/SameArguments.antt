@@ -34,11 +34,8 @@ word_same g h n m ws e f k = grind (arith, map-append)
 
 next_same : (o : Option ℕ) (n m : ℕ) (ws : List (List ℕ)) → map placeless (given_next o n ws) ≡ map placeless (given_next o m ws)
 next_same (Some c) n m (w ∷ ws) = grind (arith, next_same None (suc n) (suc m) ws)
-next_same None n m (w ∷ ws) =
-    let h = letters_same (suc n) (suc m) (option_letters w) in
-    if_same (bytes_eq w (codes "--")) _ _ _ _ (operands_same (suc n) (suc m) ws)
-    (if_same (is_operand w) _ _ _ _ (operands_same n m (w ∷ ws)) (word_same _ (letters_give (suc m) (option_letters w)) (suc n) (suc m) ws h.0 h.1
-    (next_same (letters_give (suc n) (option_letters w)).waits (suc n) (suc m) ws)))
+next_same None n m (w ∷ ws) = grind (arith, letters_same, if_same, operands_same, word_same,
+    next_same (letters_give (suc n) (option_letters w)).waits (suc n) (suc m) ws)
 next_same o n m ws = grind arith
 
 pub given_same : (n m : ℕ) (ws : List (List ℕ)) → Same (parsed_from n ws) (parsed_from m ws)

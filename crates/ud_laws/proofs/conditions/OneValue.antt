@@ -29,8 +29,8 @@ pub one_value : {e : Expression} {m : Choice e} {c : Number} → HasValue e m c 
 one_value (of_constant {w = w} {c = c} p) (of_constant {c = d} q) = one_constant w c d p q
 one_value of_name of_name = refl
 one_value of_defined of_defined = refl
-one_value (of_unary {o = o} {x = x} {c = c} a g) (of_unary {x = y} {c = d} b h) = grind (arith, (subst (λ n. GivesUnary o n c) (one_value a b) g), h)
-one_value (of_binary {o = o} {x = x} {y = y} {c = c} a b g) (of_binary {x = u} {y = v} {c = d} f k h) = grind (arith, one_value b k, one_value a f)
+one_value (of_unary {o = o} {c = c} a g) (of_unary b h) = grind (arith, (subst (λ n. GivesUnary o n c) (one_value a b) g), h)
+one_value (of_binary a b g) (of_binary f k h) = grind (arith, one_value b k, one_value a f)
 one_value (of_binary {x = x} {y = y} {c = c} a b g) (of_and_left f z) = absurd (no_and x y c g)
 one_value (of_binary {x = x} {y = y} {c = c} a b g) (of_and_both f n k t) = absurd (no_and x y c g)
 one_value (of_binary {x = x} {y = y} {c = c} a b g) (of_or_left f n) = absurd (no_or x y c g)

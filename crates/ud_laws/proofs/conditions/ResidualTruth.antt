@@ -166,15 +166,15 @@ module _ (table : List Argument) (rules : Rules) where
   tells h (of_name {n = n} {arguments = arguments} {c = c}) = by_itself table rules (named n arguments) (for_name c) c h of_name
   tells h (of_defined {n = n} {p = p} {b = b}) = by_itself table rules (is_defined n p) (for_defined b) (signed (truth b)) h of_defined
   tells h (of_unary {o = Not} {a = a} {m = m} {x = x} {c = c} d g) = not_tells (residual table rules a) (stay table rules m) x c (tells h d) g
-  tells h (of_unary {o = o} {a = a} {m = m} {x = x} {c = c} d g) = by_itself table rules (unary o a) (for_unary m) c h (of_unary d g)
+  tells h (of_unary {o = o} {a = a} {m = m} {c = c} d g) = by_itself table rules (unary o a) (for_unary m) c h (of_unary d g)
   tells h (of_binary {o = And} {x = x} {y = y} {c = c} d f g) = absurd (no_and x y c g)
   tells h (of_binary {o = Or} {x = x} {y = y} {c = c} d f g) = absurd (no_or x y c g)
-  tells h (of_binary {o = o} {a = a} {b = b} {m = m} {k = k} {x = x} {y = y} {c = c} d f g) = by_itself table rules (binary o a b) (for_binary m k) c h (of_binary d f g)
-  tells h (of_and_left {a = a} {b = b} {m = m} {k = k} {x = x} d z) = grind (arith, and_left, tells h.0 d)
-  tells h (of_and_both {a = a} {b = b} {m = m} {k = k} {x = x} {y = y} {c = c} d n f g) = grind (arith, and_both, tells h.0 d, tells h.1 f)
-  tells h (of_or_left {a = a} {b = b} {m = m} {k = k} {x = x} d n) = grind (arith, or_left, tells h.0 d)
-  tells h (of_or_both {a = a} {b = b} {m = m} {k = k} {x = x} {y = y} {c = c} d z f g) = grind (arith, or_both, tells h.0 d, tells h.1 f)
-  tells h (of_parens {a = a} {m = m} {c = c} d) = grind (arith, parens_tell, tells h d)
+  tells h (of_binary {o = o} {a = a} {b = b} {m = m} {k = k} {c = c} d f g) = by_itself table rules (binary o a b) (for_binary m k) c h (of_binary d f g)
+  tells h (of_and_left d z) = grind (arith, and_left, tells h.0 d)
+  tells h (of_and_both d n f g) = grind (arith, and_both, tells h.0 d, tells h.1 f)
+  tells h (of_or_left d n) = grind (arith, or_left, tells h.0 d)
+  tells h (of_or_both d z f g) = grind (arith, or_both, tells h.0 d, tells h.1 f)
+  tells h (of_parens d) = grind (arith, parens_tell, tells h d)
 
 -- A truth of one value is a truth of the other, if both are 0 or neither is.
 pub truth_kept : (b : Bool) (c d : Number) → (IsZero c → IsZero d) → (IsZero d → IsZero c) → HasTruth b c → HasTruth b d

@@ -104,9 +104,7 @@ unended_placed c j n t e w = by_verdict (goes_or_left (complemented_if c j).verd
     gone_piece i v = ap (λ (u : Verdict). piece_alone false true (record { line = i.line; verdict = u; keyword = i.keyword })) v
 
     by_verdict : ((complemented_if c j).verdict ≡ Remove) ⊎ IsLeft (complemented_if c j).verdict → Places c (j ∷ []) n
-    by_verdict (inl v) =
-        let empty = gone_piece (complemented_if c j) v ∙ ap (λ (l : Line). l.ending) (turned_line c j) ∙ none in
-        record { pieces = []; formed = tt; same = sym (ap (λ (x : List ℕ). x ++ []) empty); places = lost_line j none empty }
+    by_verdict (inl v) = grind (arith, gone_piece, turned_line, none, lost_line)
     by_verdict (inr h) = let v : Verdict = (complemented_if c j).verdict in
         let k : Span = (complemented_if c j).keyword in
         let is = left_alone v k (complemented_if c j).line h ∙ ap (λ (l : Line). piece_by false v k l) line in
@@ -151,11 +149,11 @@ lines_read {input = input} (ends xs t g) = (texts_of input, (lines_exist input).
 -- Each judged line is the line that was read.
 pub judged_read : {o : Options} {input : List ℕ} {xs : List (Item Reading)} {t : Tree Reading} {f : Option Fault} → ReadsAs o input xs t f →
     map (λ (j : Judged). j.line) (judged_lines xs (marks t)) ≡ map line_of xs
-judged_read {xs = xs} {t = t} a = grind (arith, judged_all, length_marks, read_lines)
+judged_read a = grind (arith, judged_all, length_marks, read_lines)
 
 pub blanked_places : (o : Options) (input : List ℕ) {xs : List (Item Reading)} {t : Tree Reading} {f : Option Fault} {r : Outcome} → o.settings.blank ≡ true → o.settings.listing ≡ Off →
     o.settings.unpadded ≡ false → ReadsAs o input xs t f → HasOutcome o input r → AreBlankedLines o.settings.complement (judged_lines xs (marks t)) (lines_of r.output)
-blanked_places o input {xs = xs} {t = t} {f = f} {r = r} b off u a run =
+blanked_places o input {xs = xs} {t = t} {r = r} b off u a run =
     let c : Bool = o.settings.complement in
     let js : List Judged = judged_lines xs (marks t) in
     let ls = lines_read a in
@@ -176,9 +174,8 @@ same_endings (lost_line j e b) h = absurd (h.0 e)
 
 all_ended : (n : ℕ) (ts : List (List ℕ)) (js : List Judged) → AreWhole ts → map (λ (j : Judged). j.line) js ≡ numbered_from n ts → Each Ended js
 all_ended n [] (j ∷ js) w e = cc
-all_ended n (t ∷ ts) (j ∷ js) w e = let p : j.line ≡ line_at n t = cc in
-    let q : map (λ (j : Judged). j.line) js ≡ numbered_from (suc n) ts = cc in
-    (subst (λ (l : Line). l.ending ≢ []) (sym p) (end_is_some (ending_of t) (whole_ending t w.0)), all_ended (suc n) ts js w.1 q)
+all_ended n (t ∷ ts) (j ∷ js) w e = grind (arith, end_is_some, whole_ending, all_ended (suc n) ts js
+    w.1 cc)
 all_ended n _ [] _ _ = tt
 
 endings_of : (js : List Judged) → map (λ (j : Judged). j.line.ending) js ≡ map (λ (l : Line). l.ending) (map (λ (j : Judged). j.line) js)

@@ -9,10 +9,7 @@ use Rattle.ud_laws.specs.output.InsertedNodes.{NodesWithInserted, no_nodes, same
 apart : (v w : World Reading) (xs bs cs ds : List Reading) → length xs ≡ length cs → map v (xs ++ bs) ≡ map w (cs ++ ds) →
     (map v xs ≡ map w cs) × (map v bs ≡ map w ds)
 apart v w [] bs [] ds l e = (refl, e)
-apart v w (a ∷ xs) bs (c ∷ cs) ds l e = let p : v a ≡ w c = cc in
-    let q : map v (xs ++ bs) ≡ map w (cs ++ ds) = cc in
-    let r : (map v xs ≡ map w cs) × (map v bs ≡ map w ds) = apart v w xs bs cs ds (omega arith) q in
-    (ap₂ (λ (x : Bool) (zs : List Bool). x ∷ zs) p r.0, r.1)
+apart v w (a ∷ xs) bs (c ∷ cs) ds l e = grind (arith, apart v w xs bs cs ds (omega arith) cc)
 apart v w xs bs cs ds l e = absurd (omega arith)
 
 long_both : (xs bs cs ds : List Reading) → length xs ≡ length cs → length bs ≡ length ds → length (xs ++ bs) ≡ length (cs ++ ds)

@@ -57,7 +57,7 @@ strewn_counted o no_line = none
 strewn_counted o (goes c j g) = strewn_counted o c
 strewn_counted o (blanked {rs = rs} {ss = ss} j c g d k) =
     grind (arith, last_item o ss d, append-nil (items o rs), inserted_both (strewn_counted o c) (put_one o d (inl k)))
-strewn_counted o (counts_on {rs = rs} {ss = ss} j c r s k) =
+strewn_counted o (counts_on j c r s k) =
     grind (arith, last_item, inserted_both, same_one, strewn_counted o c)
 strewn_counted o (starts_anew {rs = rs} {ss = ss} c j d q r s k) =
     subst (λ (ys : List (Item Reading)). Inserted ys (items o ((ss ++ d ∷ []) ++ s ∷ []))) (sym (last_item o rs r))

@@ -98,7 +98,7 @@ the_same t n m l = refl
 
 same_settings : {o p : Options} {input : List ℕ} {xs : List (Item Reading)} {t : Tree Reading} {f : Option Fault} {r : Outcome} → p.settings ≡ o.settings →
     ReadsAs o input xs t f → ReadsAs p input xs t f → HasOutcome o input r → HasOutcome p input r
-same_settings {o = o} {p = p} {input = input} {xs = xs} {t = t} {f = f} {r = r} same a b run = grind (arith, same, one_run, ran_as)
+same_settings same a b run = grind (arith, same, one_run, ran_as)
 
 pub list_complete : (o p : Options) (input : List ℕ) {l r : Outcome} → HasOutcome (with_listing o) input l → l.fault ≡ None → p.settings ≡ o.settings →
     AgreeOnListed l.output o.table p.table → HasOutcome o input r → HasOutcome p input r

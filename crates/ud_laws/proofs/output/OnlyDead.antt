@@ -147,7 +147,7 @@ module _ {L : Type 0} where
       Truths (lines_of_heads os) (Gives os ps bs)
   given (gone {x = o} h) u bs e =
       weaker (λ w s. record { agrees = (grind arith, s.1.agrees); truths = s.1.truths }) (both_truths (one_truth o.line (is_yes o.cond)) (given h u bs e))
-  given (stays {x = o} {y = p} r h) u (b ∷ bs) e =
+  given (stays {x = o} r h) u (b ∷ bs) e =
       weaker (λ w s. record {
         agrees = (unknown_fits w o.cond o.line (sym r.1 ∙ u.0), s.1.agrees);
         truths = ap₂ (λ (c : Bool) (cs : List Bool). c ∷ cs) (ap w r.0 ∙ s.0) s.1.truths;

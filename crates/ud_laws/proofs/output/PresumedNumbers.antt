@@ -60,18 +60,9 @@ pub data LastLine (ls : List Reading) (d : Reading) : List Presumed → Bool →
 -- The last line is one of these.
 pub last_by : {ks : List Reading} {ps : List Presumed} {sure : Bool} {n : ℕ} → Presumes ks ps sure n → (ls : List Reading) (d : Reading) → ks ≡ ls ++ d ∷ [] → LastLine ls d ps sure n
 last_by no_lines ls d e = absurd (push_not_nil ls d (sym e))
-last_by (passes {ls = ks} {ps = ps} {sure = sure} {n = n} p r) ls d e =
-    let s : (ks ≡ ls) × (r ≡ d) = same_from_push ks ls r d e in
-    subst (λ (q : Reading). LastLine ls d ps (sure && not (is_some (line_operand q.scan))) (suc n)) (sym s.1)
-    (passed (subst (λ (rs : List Reading). Presumes rs ps sure n) s.0 p))
-last_by (processes {ls = ks} {ps = ps} {sure = sure} {n = n} p r h) ls d e =
-    let s : (ks ≡ ls) × (r ≡ d) = same_from_push ks ls r d e in
-    subst (λ (q : Reading). LastLine ls d (ps ++ record { line = q; number = n; sure = sure } ∷ []) sure (suc n)) (sym s.1)
-    (processed (subst (λ (rs : List Reading). Presumes rs ps sure n) s.0 p) (subst (λ (q : Reading). line_operand q.scan ≡ None) s.1 h))
-last_by (obeys {ls = ks} {ps = ps} {sure = sure} {n = n} p r m h) ls d e =
-    let s : (ks ≡ ls) × (r ≡ d) = same_from_push ks ls r d e in
-    subst (λ (q : Reading). LastLine ls d (ps ++ record { line = q; number = n; sure = sure } ∷ []) true m) (sym s.1)
-    (obeyed (subst (λ (rs : List Reading). Presumes rs ps sure n) s.0 p) m (subst (λ (q : Reading). GivesNumber m q) s.1 h))
+last_by (passes p r) ls d e = grind (arith, same_from_push, passed)
+last_by (processes p r h) ls d e = grind (arith, same_from_push, processed)
+last_by (obeys p r m h) ls d e = grind (arith, same_from_push, obeyed)
 
 have_both : (js : List Judged) (ps : List Presumed) (p : Presumed) → HaveInputNumbers js ps → HasInputNumber js p → HaveInputNumbers js (ps ++ p ∷ [])
 have_both js [] p h k = (k, tt)
@@ -96,9 +87,9 @@ right_line : (js : List Judged) (ss : List Reading) (d : Reading) (n : ℕ) → 
 right_line js ss d n none h is ps sure m p = by_last (last_by p ss d refl)
   where
     by_last : {qs : List Presumed} {b : Bool} {k : ℕ} → LastLine ss d qs b k → (b ≡ true → k ≡ suc n) × HaveInputNumbers js qs
-    by_last (passed {ps = qs} {sure = b} {n = k} q) = grind arith
-    by_last (processed {ps = qs} {sure = b} {n = k} q e) = grind (arith, have_both)
-    by_last (obeyed {ps = qs} {sure = b} {n = k} q i g) = let e : None ≡ Some (decimal i) = sym none ∙ g.operand in cc
+    by_last (passed q) = grind arith
+    by_last (processed q e) = grind (arith, have_both)
+    by_last (obeyed q i g) = let e : None ≡ Some (decimal i) = sym none ∙ g.operand in cc
 
 -- An inserted `#line`.
 right_number : (js : List Judged) (ss : List Reading) (d : Reading) (n k : ℕ) → k ≤ 2147483647 → IsNumberLine k d → Right js ss n → Right js (ss ++ d ∷ []) k

@@ -31,14 +31,14 @@ pass_one : {ls ss : List Reading} → Got ls ss → (r : Reading) → Got (ls ++
 pass_one g r = record { lines = g.lines; sure = _; next = _; presumes = passes g.presumes r; are = g.are }
 
 take_one : {ls ss : List Reading} → Got ls ss → (r : Reading) → IsClear r → Got (ls ++ r ∷ []) (ss ++ r ∷ [])
-take_one {ls} {ss} g r (inl h) = record {
+take_one g r (inl h) = record {
   lines = g.lines ++ record { line = r; number = g.next; sure = g.sure } ∷ [];
   sure = _;
   next = _;
   presumes = processes g.presumes r h;
   are = map-append line_in g.lines (record { line = r; number = g.next; sure = g.sure } ∷ []) ∙ ap (λ (z : List Reading). z ++ r ∷ []) g.are;
 }
-take_one {ls} {ss} g r (inr h) = record {
+take_one g r (inr h) = record {
   lines = g.lines ++ record { line = r; number = g.next; sure = g.sure } ∷ [];
   sure = _;
   next = _;

@@ -27,12 +27,12 @@ module _ {S F L : Type 0} (p : Preprocessor S F L) (files : F → Nodes L) (one 
 
   none_once : {es : Elifs L} {s t u : S} → NoneTrue p es s t → NoneTrue p es s u → t ≡ u
   none_once (first_false {o = o} {s = s} {t = t} d) (first_false {t = u} e) = (one.one_truth s o false false t u d e).1
-  none_once (elif_false {o = o} {t = t} {u = v} h d) (elif_false {t = u} {u = w} k e) = grind (arith, none_once h k)
+  none_once (elif_false h d) (elif_false k e) = grind (arith, none_once h k)
 
   true_or_none : {es : Elifs L} {s t u : S} → ProcessesTrue p files es s t → NoneTrue p es s u → ⊥
   true_or_none (first_true {o = o} {s = s} {t = t} d g) (first_false {t = u} e) = differ (one.one_truth s o true false t u d e).0
   true_or_none (true_before h) (elif_false k e) = true_or_none h k
-  true_or_none (elif_true {o = o} {t = t} {u = v} h d g) (elif_false {t = u} {u = w} k e) = grind (arith, differ, none_once)
+  true_or_none (elif_true h d g) (elif_false k e) = grind (arith, differ, none_once)
 
   mutual
     -- The nodes lead to one state at most.
@@ -61,5 +61,5 @@ module _ {S F L : Type 0} (p : Preprocessor S F L) (files : F → Nodes L) (one 
     true_once (true_before h) (true_before k) = true_once h k
     true_once (true_before h) (elif_true k e i) = absurd (true_or_none h k)
     true_once (elif_true h d g) (true_before k) = absurd (true_or_none k h)
-    true_once (elif_true {o = o} {ns = ns} {t = t} {u = v} h d g) (elif_true {t = u} {u = w} {v = x} k e i) =
+    true_once (elif_true {o = o} {ns = ns} {t = t} {u = v} h d g) (elif_true {u = w} {v = x} k e i) =
         once g (nodes_at ns v w x (one.one_truth t o true true v w d (subst (λ (x : S). p.decides x o true w) (sym (none_once h k)) e)).1 i)

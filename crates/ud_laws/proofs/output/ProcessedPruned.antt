@@ -132,7 +132,7 @@ module _ {S F L : Type 0} (p : Preprocessor S F L) (files : F → Nodes L) (outp
   -- No group is processed.
   none_processed : {es : Elifs L} {s t : S} → ElifsRight p es → NoneTrue p es s t → LeftNone (kept_elifs_of es) s t
   none_processed r (first_false {o = o} {ns = ns} {s = s} {t = t} d) = still_none none_kept an_if o o.cond (folded ns) s s t refl (r.0 s false t d) d
-  none_processed r (elif_false {es = es} {o = o} {ns = ns} {s = s} {t = t} {u = u} h d) = grind (arith, still_none, none_processed r.0 h)
+  none_processed r (elif_false h d) = grind (arith, still_none, none_processed r.0 h)
 
   none_same : {es : Elifs L} {s t : S} → NoneTrue p es s t → NoneTrue out (elifs_with_lines (edited Keep) es) s t
   none_same (first_false d) = first_false d

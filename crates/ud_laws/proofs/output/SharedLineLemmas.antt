@@ -74,7 +74,7 @@ printed_lone o {xs = xs} {t = t} c off b n u k a run =
 pub shared : (o : Options) (input : List ℕ) {xs : List (Item Reading)} {t : Tree Reading} {f : Option Fault} {r s : Outcome} → OnlyDecides o →
     ReadsAs o input xs t f → HasOutcome o input r → HasOutcome (with_complement o) input s →
     (s.fault ≡ r.fault) × ShareLines (judged_lines xs (marks t)) r.output s.output
-shared o input {xs = xs} {t = t} {r = r} {s = s} p a run turned =
+shared o input {xs = xs} {t = t} {r = r} p a run turned =
     let js : List Judged = judged_lines xs (marks t) in
     let d = reads_too o (with_complement o) refl refl refl a in
     let here = printed_lone o false p.unlisted p.unblanked p.unnumbered p.padded p.uncomplemented a run in

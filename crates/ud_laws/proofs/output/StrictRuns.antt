@@ -94,7 +94,7 @@ any_loose (pair (unknown {d = Unknown}) p) e = any_loose p e
 any_loose h g = grind arith
 
 kept_loose : {cs ds : List Cond} {c d : Cond} → Pairs Looser cs ds → Looser c d → is_kept ds d ≡ true → is_kept cs c ≡ true
-kept_loose {cs} {ds} {c} {d} p l e = grind (arith, any_loose)
+kept_loose p l e = grind (arith, any_loose)
 
 inside_loose : {h k : Head Reading} → LooserHead h k → is_inside_kept k ≡ true → is_inside_kept h ≡ true
 inside_loose (with_if o) e = kept_loose no_pair o.cond e
@@ -116,18 +116,18 @@ end_loose (one_open {h = k} {k = l} s t) a b h e =
 
 text_mark_in : {t u : Tree Reading} {x : Item Reading} → Adds t x u → (r : Reading) → x ≡ text_line r → (kept : Bool) →
     marks_so_far kept u ≡ marks_so_far kept t ++ marked (kept_at_end kept t) Keep ∷ []
-text_mark_in (adds_under {ns = ns} {h = h} {t = t} {u = u} a) r e kept = simp (append_assoc, text_mark_in a r e (kept && is_inside_kept h))
+text_mark_in (adds_under {h = h} a) r e kept = simp (append_assoc, text_mark_in a r e (kept && is_inside_kept h))
 text_mark_in h r g kept = grind arith
 
 -- A text line is kept if all groups around it are.
 pub text_mark : {t u : Tree Reading} {x : Item Reading} → Adds t x u → (r : Reading) → x ≡ text_line r →
     marks u ≡ marks t ++ marked (kept_at_end true t) Keep ∷ []
-text_mark {t = t} {u = u} a r e = grind (arith, marks_so_far_same, text_mark_in)
+text_mark a r e = grind (arith, marks_so_far_same, text_mark_in)
 
 -- A text line that is removed with `-K` is removed without.
 pub removed_loose : {t u : Tree Reading} → LooserTree t u → is_removed (marked (kept_at_end true t) Keep).verdict ≡ true →
     is_removed (marked (kept_at_end true u) Keep).verdict ≡ true
-removed_loose {t = t} {u = u} k = grind (arith, end_loose)
+removed_loose k = grind (arith, end_loose)
 
 -- 4. One line more.
 
@@ -160,10 +160,10 @@ marked_more a b k (a_text {r = r}) h = record {
   marks_without = text_mark b r refl;
   keeps = record { line = refl; keyword = refl; text = λ e. removed_loose k };
 }
-marked_more a b k (an_if {o = o} {p = p} i) h = grind (arith, marks_more, directive_keeps)
-marked_more a b k (an_elif {o = o} {p = p} i) h = grind (arith, marks_more, directive_keeps)
-marked_more a b k (an_else {r = r}) h = grind (arith, marks_more, directive_keeps)
-marked_more a b k (an_endif {r = r}) h = grind (arith, marks_more, directive_keeps)
+marked_more a b k (an_if i) h = grind (arith, marks_more, directive_keeps)
+marked_more a b k (an_elif i) h = grind (arith, marks_more, directive_keeps)
+marked_more a b k an_else h = grind (arith, marks_more, directive_keeps)
+marked_more a b k an_endif h = grind (arith, marks_more, directive_keeps)
 
 judged_grown : (xs : List (Item Reading)) (t u : Tree Reading) (x : Item Reading) (m : Mark) → lines t ≡ xs → marks u ≡ marks t ++ m ∷ [] →
     judged_lines (xs ++ x ∷ []) (marks u) ≡ judged_lines xs (marks t) ++ judged_line x m ∷ []
@@ -290,7 +290,7 @@ strict_keeps o input (judged_as {xs = ys} {t = u} b) (judged_as {xs = xs} {t = t
 -- The judged lines of a text without a fault are its lines.
 pub judged_are_all : (o : Options) (input : List ℕ) {js : List Judged} {r : Outcome} → JudgedAs o input js → HasOutcome o input r → r.fault ≡ None →
     map (λ (j : Judged). j.line) js ≡ lines_of input
-judged_are_all o input {r = r} (judged_as a) run e = by_reading a (ap (λ (s : Outcome). s.fault) (one_run (ran_as a) run) ∙ e)
+judged_are_all o input (judged_as a) run e = by_reading a (ap (λ (s : Outcome). s.fault) (one_run (ran_as a) run) ∙ e)
   where
     by_reading : {xs : List (Item Reading)} {t : Tree Reading} {f : Option Fault} → ReadsAs o input xs t f → f ≡ None →
         map (λ (j : Judged). j.line) (judged_lines xs (marks t)) ≡ lines_of input
