@@ -15,10 +15,6 @@ placeless g = g
 pub record Same (gs hs : List ParsedArg) : Type 0 where
   pub alike : map placeless gs ≡ map placeless hs
 
-if_same : (b : Bool) (p q r s : List ParsedArg) → map placeless p ≡ map placeless q → map placeless r ≡ map placeless s →
-    map placeless (if b then p else r) ≡ map placeless (if b then q else s)
-if_same b p q r s h k = grind arith
-
 operands_same : (n m : ℕ) (ws : List (List ℕ)) → map placeless (operands_from n ws) ≡ map placeless (operands_from m ws)
 operands_same n m [] = refl
 operands_same n m (w ∷ ws) = grind (arith, operands_same (suc n) (suc m) ws)
@@ -28,13 +24,9 @@ letters_same : (n m : ℕ) (ls : List ℕ) →
 letters_same n m [] = (refl, refl)
 letters_same n m (c ∷ cs) = grind (arith, letters_same n m cs)
 
-word_same : (g h : WordGives) (n m : ℕ) (ws : List (List ℕ)) → map placeless g.given ≡ map placeless h.given → g.waits ≡ h.waits →
-    map placeless (given_next g.waits n ws) ≡ map placeless (given_next g.waits m ws) → map placeless (g.given ++ given_next g.waits n ws) ≡ map placeless (h.given ++ given_next h.waits m ws)
-word_same g h n m ws e f k = grind (arith, map-append)
-
 next_same : (o : Option ℕ) (n m : ℕ) (ws : List (List ℕ)) → map placeless (given_next o n ws) ≡ map placeless (given_next o m ws)
 next_same (Some c) n m (w ∷ ws) = grind (arith, next_same None (suc n) (suc m) ws)
-next_same None n m (w ∷ ws) = grind (arith, letters_same, if_same, operands_same, word_same,
+next_same None n m (w ∷ ws) = grind (arith, letters_same, operands_same, map-append,
     next_same (letters_give (suc n) (option_letters w)).waits (suc n) (suc m) ws)
 next_same o n m ws = grind arith
 

@@ -29,18 +29,12 @@ sign_no_name b w e = subst (λ (n : ℕ). is_identifier (n ∷ w) ≡ false) (sy
 neither : (c k : Bool) (x y : Option ℤ) (z : ℤ) → c ≡ false → k ≡ false → (if c then x else if k then y else None) ≡ Some z → ⊥
 neither c k x y z d l e = grind arith
 
-value_no_name : (w : List ℕ) (z : ℤ) → text_value false w ≡ Some z → is_identifier w ≡ false
-value_no_name w z e = grind (arith, common_steps, sign_no_name, neither)
-
-least_text : (w : List ℕ) (z : ℤ) → end_value false (Some w) ≡ AtLeast z → (starts_with_byte 255 w ≡ true) × (text_value false (constant_in w) ≡ Some z)
-least_text w z e = grind arith
-
 number_text : (w : List ℕ) (z : ℤ) → end_value false (Some w) ≡ Exactly z → (starts_with_byte 255 w ≡ false) × (text_value false (constant_in w) ≡ Some z)
 number_text w z e = grind arith
 
 number_no_name : (w : List ℕ) (z : ℤ) → end_value false (Some w) ≡ Exactly z → is_identifier w ≡ false
 number_no_name w z e = let p = number_text w z e in
-    value_no_name w z (ap (text_value false) (sym (ap (λ (b : Bool). if b then drop 1 w else w) p.0)) ∙ p.1)
+    grind (arith, common_steps, sign_no_name, neither)
 
 least_no_name : (w : List ℕ) (z : ℤ) → end_value false (Some w) ≡ AtLeast z → is_identifier w ≡ false
 least_no_name w z e = grind (arith, eqb-true)
@@ -69,7 +63,7 @@ refines_itself a = stays_refines a a (inr refl)
 turns_refines : (u : Bool) (v w : List ℕ) → Turns v w → Refines (end_value u (Some v)) (end_value u (Some w))
 turns_refines u v w (inl e) = subst (λ x. Refines (end_value u (Some v)) (end_value u (Some x))) e (refines_itself (end_value u (Some v)))
 turns_refines u v w (inr p) =
-    subst (λ x. Refines x (end_value u (Some w))) (sym (text_from u true v p.from (least_text v p.from p.is_least)))
+    subst (λ x. Refines x (end_value u (Some w))) (sym (text_from u true v p.from (grind arith)))
     (subst (λ y. Refines (amount_from true (fit u p.from)) y) (sym (text_from u false w p.number (number_text w p.number p.is_number)))
     (from_refines u p.from p.number p.above (value_fits (constant_in w) p.number (number_text w p.number p.is_number).1)))
 
@@ -201,9 +195,6 @@ module _ (t u : List Argument) (h : ChoosesNumbers t u) where
   unfolding expression_cond
   text_alike text r n = tree_if_alike (expression_of text) r n
 
-  test_alike : (p : Test) (text : List ℕ) (r : Rules) → (decision_by_test p text t r).cond ≢ Unknown → decision_by_test p text u r ≡ decision_by_test p text t r
-  test_alike p text r n = grind (arith, text_alike, ifdef_alike)
-
   -- A decided directive is decided alike for each number.
   pub condition_alike : (k : Kind) (text : List ℕ) (r : Rules) → (condition_of k text t r).cond ≢ Unknown → condition_of k text u r ≡ condition_of k text t r
-  condition_alike k text r n = grind (arith, test_alike)
+  condition_alike k text r n = grind (arith, text_alike, ifdef_alike)

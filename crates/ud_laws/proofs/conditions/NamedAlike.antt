@@ -88,10 +88,7 @@ module _ (t u : List Argument) where
   expression_cond_alike after rules h =
       grind (arith, calls_undefined_alike, names_listed_alike, has_unsigned_alike, number_of_alike)
 
-  ifdef_decision_alike : (o : Option (List ℕ)) → Each Alike (name_alone o) → ifdef_decision o t ≡ ifdef_decision o u
-  ifdef_decision_alike o h = grind (arith, itself)
-
 module _ (o p : Options) (same : rules_of o.settings ≡ rules_of p.settings) where
   -- A line is the same item if the tables agree on its names.
   pub item_alike : (r : Reading) (c : Content) → Each (Alike o.table p.table) (names_in_content c) → item_by o r c ≡ item_by p r c
-  item_alike r c h = grind (arith, expression_cond_alike, ifdef_decision_alike)
+  item_alike r c h = grind (arith, expression_cond_alike, itself)

@@ -30,90 +30,33 @@ change_after : (b c : Bool) (o : Operator) (x : ℤ) → After (apply_unary_know
 unfolding apply_unary_known
 change_after b c o x = grind arith
 
--- 1. One operand that decides, and both.
+-- 1. One operand that decides, and both, give the same.
 
-both_zero : (a b : Bool) → a ≡ true → Some (truth (not a && not b)) ≡ Some (pos 0)
-both_zero a b e = grind arith
-
-right_zero : (a b : Bool) → b ≡ true → Some (truth (not a && not b)) ≡ Some (pos 0)
-right_zero a b e = grind arith
-
-left_one : (a b : Bool) → a ≡ false → Some (truth (not a || not b)) ≡ Some (pos 1)
-left_one a b e = grind arith
-
-right_one : (a b : Bool) → b ≡ false → Some (truth (not a || not b)) ≡ Some (pos 1)
-right_one a b e = grind arith
-
--- The value that one operand decides.
-data Decides : Operator → ℤ → Option ℤ → Type 0 where
-  by_none : {o : Operator} {x : ℤ} → Decides o x None
-  and_zero : {x : ℤ} → is_zero x ≡ true → Decides And x (Some (pos 0))
-  or_some : {x : ℤ} → is_zero x ≡ false → Decides Or x (Some (pos 1))
-
-decides_is : (s : Bool) (o : Operator) (x : ℤ) → Decides o x (short_circuits s o x)
-decides_is s o x = grind (arith, by_none, and_zero, or_some)
-
--- If one operand decides, both operands give the same value.
-left_decides : (b : Bool) (o : Operator) (x y : ℤ) (d : Option ℤ) → Decides o x d → After d (apply_binary_known b o x y)
+left_decides : (s b : Bool) (o : Operator) (x y : ℤ) → After (short_circuits s o x) (apply_binary_known b o x y)
 unfolding apply_binary_known
-left_decides b o x y _ by_none z e = absurd (none-some z e)
-left_decides b _ x y _ (and_zero h) z e = inl (both_zero (is_zero x) (is_zero y) h ∙ e)
-left_decides b _ x y _ (or_some h) z e = inl (left_one (is_zero x) (is_zero y) h ∙ e)
+left_decides s b o x y z e = grind arith
 
-right_decides : (b : Bool) (o : Operator) (x y : ℤ) (d : Option ℤ) → Decides o y d → After d (apply_binary_known b o x y)
+right_decides : (s b : Bool) (o : Operator) (x y : ℤ) → After (short_circuits s o y) (apply_binary_known b o x y)
 unfolding apply_binary_known
-right_decides b o x y _ by_none z e = absurd (none-some z e)
-right_decides b _ x y _ (and_zero h) z e = inl (right_zero (is_zero x) (is_zero y) h ∙ e)
-right_decides b _ x y _ (or_some h) z e = inl (right_one (is_zero x) (is_zero y) h ∙ e)
+right_decides s b o x y z e = grind arith
 
-back : (a b : Option ℤ) → ((z : ℤ) → a ≡ Some z → b ≡ Some z) → After b a
-back a b h z e = grind arith
-
-left_back : (b : Bool) (o : Operator) (x y : ℤ) (d : Option ℤ) → Decides o x d → After (apply_binary_known b o x y) d
+left_back : (s b : Bool) (o : Operator) (x y : ℤ) → After (apply_binary_known b o x y) (short_circuits s o x)
 unfolding apply_binary_known
-left_back b o x y _ by_none = back None (apply_binary_known b o x y) (λ z e. absurd (none-some z e))
-left_back b _ x y _ (and_zero h) = back (Some (pos 0)) (apply_binary_known b And x y) (λ z e. both_zero (is_zero x) (is_zero y) h ∙ e)
-left_back b _ x y _ (or_some h) = back (Some (pos 1)) (apply_binary_known b Or x y) (λ z e. left_one (is_zero x) (is_zero y) h ∙ e)
+left_back s b o x y z e = grind arith
 
-right_back : (b : Bool) (o : Operator) (x y : ℤ) (d : Option ℤ) → Decides o y d → After (apply_binary_known b o x y) d
+right_back : (s b : Bool) (o : Operator) (x y : ℤ) → After (apply_binary_known b o x y) (short_circuits s o y)
 unfolding apply_binary_known
-right_back b o x y _ by_none = back None (apply_binary_known b o x y) (λ z e. absurd (none-some z e))
-right_back b _ x y _ (and_zero h) = back (Some (pos 0)) (apply_binary_known b And x y) (λ z e. right_zero (is_zero x) (is_zero y) h ∙ e)
-right_back b _ x y _ (or_some h) = back (Some (pos 1)) (apply_binary_known b Or x y) (λ z e. right_one (is_zero x) (is_zero y) h ∙ e)
+right_back s b o x y z e = grind arith
 
 -- Two operands that decide give the same value.
-two_decide : (o : Operator) (x y : ℤ) (d e : Option ℤ) → Decides o x d → Decides o y e → After d e
-two_decide o x y d e g k z f = grind (arith, none-some)
+two_decide : (s : Bool) (o : Operator) (x y : ℤ) → After (short_circuits s o x) (short_circuits s o y)
+two_decide s o x y z e = grind arith
 
 -- 2. Expressions.
 
 combine_after : (s b c : Bool) (o : Operator) (x y v w : Option ℤ) → After x v → After y w → After (apply_binary s b o x y) (apply_binary s c o v w)
-combine_after s b c o None None v w h k z e = absurd (none-some z e)
-combine_after s b c o (Some p) (Some q) v w h k z e = by (h p refl) (k q refl)
-  where
-    by : Or_none p v → Or_none q w → Or_none z (apply_binary s c o v w)
-    by (inl f) (inl g) = subst (λ (d : Option ℤ). Or_none z d) (sym (ap₂ (apply_binary s c o) f g)) (operate_after b c o p q z e)
-    by (inl f) (inr g) = subst (λ (d : Option ℤ). Or_none z d) (sym (ap₂ (apply_binary s c o) f g)) (left_back b o p q (short_circuits s o p) (decides_is s o p) z e)
-    by (inr f) (inl g) = subst (λ (d : Option ℤ). Or_none z d) (sym (ap₂ (apply_binary s c o) f g)) (right_back b o p q (short_circuits s o q) (decides_is s o q) z e)
-    by (inr f) (inr g) = inr (ap₂ (apply_binary s c o) f g)
-combine_after s b c o (Some p) None v w h k z e = by (h p refl) w
-  where
-    by : Or_none p v → (d : Option ℤ) → Or_none z (apply_binary s c o v d)
-    by (inl f) None = inl (ap (λ (d : Option ℤ). apply_binary s c o d None) f ∙ e)
-    by (inl f) (Some q) =
-        subst (λ (d : Option ℤ). Or_none z d) (sym (ap (λ (d : Option ℤ). apply_binary s c o d (Some q)) f))
-        (left_decides c o p q (short_circuits s o p) (decides_is s o p) z e)
-    by (inr f) None = inr (ap (λ (d : Option ℤ). apply_binary s c o d None) f)
-    by (inr f) (Some q) = grind (arith, two_decide, decides_is, f)
-combine_after s b c o None (Some q) v w h k z e = by (k q refl) v
-  where
-    by : Or_none q w → (d : Option ℤ) → Or_none z (apply_binary s c o d w)
-    by (inl f) None = inl (ap (λ (d : Option ℤ). apply_binary s c o None d) f ∙ e)
-    by (inl f) (Some p) =
-        subst (λ (d : Option ℤ). Or_none z d) (sym (ap (λ (d : Option ℤ). apply_binary s c o (Some p) d) f))
-        (right_decides c o p q (short_circuits s o q) (decides_is s o q) z e)
-    by (inr f) None = inr (ap (λ (d : Option ℤ). apply_binary s c o None d) f)
-    by (inr f) (Some p) = grind (arith, two_decide, decides_is, f)
+combine_after s b c o x y v w h k z e =
+    grind (arith, operate_after, left_decides, right_decides, left_back, right_back, two_decide)
 
 -- 3. Amounts.
 
@@ -140,12 +83,9 @@ end_lasts : (b c : Bool) (x y : Option (List ℕ)) → ((v : List ℕ) → x ≡
 end_lasts b c x y h = grind (arith, after_lasts, text_after)
 
 module _ (t u : List Argument) (more : ExtendsTable t u) where
-  text_more : (n v : List ℕ) (o : Option Entry) → entry_in t n ≡ o → text_in o ≡ Some v → defined_text u n ≡ Some v
-  text_more n v o e f = grind arith
-
   ends_more : (n v : List ℕ) → ResolvesTo t n v → ResolvesTo u n v
-  ends_more n v (at_text _ _ d i) = at_text n v (text_more n v (entry_in t n) refl d) i
-  ends_more n v (by_name _ m _ d i e) = by_name n m v (text_more n m (entry_in t n) refl d) i (ends_more m v e)
+  ends_more n v (at_text _ _ d i) = at_text n v (grind arith) i
+  ends_more n v (by_name _ m _ d i e) = by_name n m v (grind arith) i (ends_more m v e)
 
   end_more : (n v : List ℕ) → resolve t n ≡ Some v → resolve u n ≡ Some v
   end_more n v e = end_found u n v (ends_more n v (end_is t n v e))

@@ -28,14 +28,8 @@ pub record Tells (x : Residual) (m : Choice x.tree) (c : Number) : Type 0 where
 
 -- 1. Units, and what settles.
 
-and_unit : (c : Cond) → is_unit And c ≡ true → c ≡ Yes
-and_unit c e = grind arith
-
 or_unit : (c : Cond) → is_unit Or c ≡ true → c ≡ No
 or_unit c e = grind arith
-
-and_never_yes : (strict : Bool) (c d : Cond) → settled strict And c d ≡ Yes → ⊥
-and_never_yes strict c d e = grind arith
 
 or_never_no : (strict : Bool) (c d : Cond) → settled strict Or c d ≡ No → ⊥
 or_never_no strict c d e = grind arith
@@ -97,10 +91,10 @@ module _ (strict : Bool) (x y : Residual) (m : Choice x.tree) (k : Choice y.tree
       by : (b d : Bool) → is_unit And x.cond ≡ b →
           Tells (joined_if b d And (settled strict And x.cond y.cond) x y)
           (one_or_both b d And (settled strict And x.cond y.cond) x y m k) (signed (pos 0))
-      by true d e = absurd (t.yes (and_unit x.cond e) z)
+      by true d e = absurd (t.yes (grind arith) z)
       by false true e = one_tells x m v (signed (pos 0)) t (both refl z)
       by false false e = record {
-        yes = λ f. absurd (and_never_yes strict x.cond y.cond f);
+        yes = λ f. absurd (grind arith);
         no = λ f. refl;
         value = signed (pos 0);
         has = of_and_left t.has (t.same.0 z);
@@ -133,9 +127,9 @@ module _ (strict : Bool) (x y : Residual) (m : Choice x.tree) (k : Choice y.tree
             Tells (joined_if b d And (settled strict And x.cond y.cond) x y)
             (one_or_both b d And (settled strict And x.cond y.cond) x y m k) c
         by true d e = one_tells y k w c s (truth_same w c g)
-        by false true e = one_tells x m v c t (neither (λ z. s.yes (and_unit y.cond e) ((truth_same w c g).0 z)) n)
+        by false true e = one_tells x m v c t (neither (λ z. s.yes (grind arith) ((truth_same w c g).0 z)) n)
         by false false e = record {
-          yes = λ f. absurd (and_never_yes strict x.cond y.cond f);
+          yes = λ f. absurd (grind arith);
           no = λ f. grind arith;
           value = c;
           has = of_and_both t.has (λ z. n (t.same.1 z)) s.has (truth_alike (IsZero w → ⊥) (IsZero s.value → ⊥) c g (not_alike s.same));

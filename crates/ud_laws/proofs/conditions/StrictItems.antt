@@ -40,11 +40,6 @@ module _ (table : List Argument) (k : Bool) where
   unfolding expression_cond
   expression_loose s after = grind (arith, alike, tree_loose)
 
-  test_loose : (s : Bool) (t : Test) (after : List ℕ) →
-      LooserDecision (decision_by_test t after table (record { constants = k; strict = true }))
-      (decision_by_test t after table (record { constants = k; strict = s }))
-  test_loose s t after = grind (arith, expression_loose, alike)
-
 -- The openers differ in such conditions at most.
 pub record LooserOpener (o p : Opener Reading) : Type 0 where
   pub line : p.line ≡ o.line
@@ -61,4 +56,4 @@ pub data LooserItem : Item Reading → Item Reading → Type 0 where
 
 -- Under `-K` a line is the same item, but for an unknown condition.
 pub item_loose : (o : Options) (r : Reading) → LooserItem (item_of (under_strict o) r) (item_of o r)
-item_loose o r = grind (arith, an_if, an_elif, an_else, an_endif, test_loose, same_decision, a_text)
+item_loose o r = grind (arith, an_if, an_elif, an_else, an_endif, expression_loose, alike, same_decision, a_text)

@@ -74,9 +74,6 @@ record Places (c : Bool) (js : List Judged) (n : ℕ) : Type 0 where
 turned_line : (c : Bool) (j : Judged) → (complemented_if c j).line ≡ j.line
 turned_line c j = grind arith
 
-in_place : (c : Bool) (j : Judged) (n : ℕ) (t : List ℕ) → j.line ≡ line_at n t → (line_at n (blanked c j)).ending ≡ ending_of t → IsBlankedLine c j (line_at n (blanked c j))
-in_place c j n t e d = search (rules, text_of-line_at)
-
 whole_more : (c : Bool) (j : Judged) (js : List Judged) (n : ℕ) (t : List ℕ) → j.line ≡ line_at n t → IsWhole t → Places c js (suc n) → Places c (j ∷ js) n
 whole_more c j js n t e w r =
     let p : Placed (complemented_if c j) n t = placed (complemented_if c j) n t (turned_line c j ∙ e) w in
@@ -84,7 +81,7 @@ whole_more c j js n t e w r =
       pieces = blanked c j ∷ r.pieces;
       formed = formed_more (blanked c j) r.pieces (p.formed w) r.formed;
       same = ap (λ (x : List ℕ). blanked c j ++ x) r.same;
-      places = one_line j (line_at n (blanked c j)) js (numbered_from (suc n) r.pieces) (in_place c j n t e p.ending) r.places;
+      places = one_line j (line_at n (blanked c j)) js (numbered_from (suc n) r.pieces) (search (rules, text_of-line_at)) r.places;
     }
 
 none_placed : (c : Bool) (n : ℕ) → Places c [] n
@@ -114,7 +111,7 @@ unended_placed c j n t e w = by_verdict (goes_or_left (complemented_if c j).verd
           pieces = blanked c j ∷ [];
           formed = inr (subst IsUnterminated (sym is) (unended_piece false v k n t h w));
           same = refl;
-          places = one_line j (line_at n (blanked c j)) [] [] (in_place c j n t e d) no_line;
+          places = one_line j (line_at n (blanked c j)) [] [] (search (rules, text_of-line_at)) no_line;
         }
 
 all_placed : (c : Bool) (js : List Judged) (n : ℕ) (ts : List (List ℕ)) → map (λ (j : Judged). j.line) js ≡ numbered_from n ts → AreFormed ts → Places c js n

@@ -57,9 +57,6 @@ module _ (table : List Argument) where
   no_entry_fits n b h (Some x) e = negated_fits x.value x.ignoring b h.0
       (known_stays table false (unary Not (is_defined n false)) (truth (is_zero (truth (is_some x.value)))) h.0 (undefined_is n x e) h.1) h.2
 
-  test_fits : (rules : Rules) (p : Test) (after : List ℕ) (b : Bool) → MayBe table (condition_by_test p after) b → Fits (decision_by_test p after table rules).cond b
-  test_fits rules p after b h = grind (arith, expression_fits, entry_fits, no_entry_fits)
-
 -- The opener of an item is decided so.
 abbrev pub ItemFits : Item Reading → Bool → Type 0
 ItemFits (if_line p) b = Fits p.cond b
@@ -68,4 +65,4 @@ ItemFits _ _ = Unit {0}
 
 -- A decision on a condition that ends on its line has each truth that C may give it.
 pub item_fits : (o : Options) (r : Reading) (b : Bool) → r.scan.joins_after ≡ false → MayBe o.table (condition_in r) b → ItemFits (item_of o r) b
-item_fits o r b j h = grind (arith, test_fits)
+item_fits o r b j h = grind (arith, expression_fits, entry_fits, no_entry_fits)

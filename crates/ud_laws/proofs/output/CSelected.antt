@@ -91,16 +91,13 @@ module _ (o : Options) (w : World Reading) where
   abbrev Right : Opener Reading → Type 0
   Right p = AgreesWith w p.cond p.line
 
-  decided_by : (c : Cond) (l : Reading) → (Decided c → AgreesWith w c l) → AgreesWith w c l
-  decided_by c l h = grind arith
-
   -- The case of an `#if` that is reached.
   if_right : (p : Opener Reading) → Clear o (if_line p) (marked true (verdict_so_far [] an_if p.cond)) → Possible p → Right p
-  if_right p k h = search (rules, decided_by, item_fits)
+  if_right p k h = search (rules, item_fits)
 
   -- The case of an `#elif` that is reached.
   elif_right : (cs : List Cond) (p : Opener Reading) → Clear o (elif_line p) (marked true (verdict_so_far cs an_elif p.cond)) → Possible p → Right p
-  elif_right cs p k h = search (rules, decided_by, item_fits, elif_moves)
+  elif_right cs p k h = search (rules, item_fits, elif_moves)
 
   -- A group that is processed is kept.
   kept_by : (cs : List Cond) (c : Cond) (l : Reading) → any_true cs ≡ false → AgreesWith w c l → w l ≡ true → is_kept cs c ≡ true
@@ -109,9 +106,6 @@ module _ (o : Options) (w : World Reading) where
   -- An opener that is reached and false isn't decided to be true.
   not_yes : (c : Cond) (l : Reading) → AgreesWith w c l → w l ≡ false → c ≡ Yes → ⊥
   not_yes c l a f e = grind arith
-
-  where_none : (b : Bool) (ls : List Reading) → where_true b ls ≡ None → b ≡ false
-  where_none b ls e = grind arith
 
   or_none : (s r : Option (List Reading)) → or_else s r ≡ None → (s ≡ None) × (r ≡ None)
   or_none s r e = grind arith
@@ -151,7 +145,7 @@ module _ (o : Options) (w : World Reading) where
         let q : Pairwise (Clear o) (lines_of_nodes ns) (nodes_so_far (is_kept [] p.cond) ns) = k.1 in
         let a : Right p = if_right p k.0 h.0 in (
           (a, λ t. nodes_right ns (at_kept o (is_kept [] p.cond) ns (kept_by [] p.cond p.line refl a t) q) (h.1 t)),
-          λ e. not_any [] p.cond refl (not_yes p.cond p.line a (where_none (w p.line) (selected w ns) e)),
+          λ e. not_any [] p.cond refl (not_yes p.cond p.line a (grind arith)),
         )
     elifs_right (elif es p ns) k h =
         let parts = elif_parts o es p ns k in
@@ -159,7 +153,7 @@ module _ (o : Options) (w : World Reading) where
         let a : selected_elifs w es ≡ None → Right p = λ e. elif_right (conds_of_elifs es) p parts.1 (h.1 e).0 in (
           (r.0, λ e. (a e, λ t. nodes_right ns (at_kept o (is_kept (conds_of_elifs es) p.cond) ns (kept_by (conds_of_elifs es) p.cond p.line (r.1 e) (a e) t) parts.2) ((h.1 e).1 t))),
           λ e. let n : (selected_elifs w es ≡ None) × (where_true (w p.line) (selected w ns) ≡ None) = or_none (selected_elifs w es) (where_true (w p.line) (selected w ns)) e in
-              not_any (conds_of_elifs es) p.cond (r.1 n.0) (not_yes p.cond p.line (a n.0) (where_none (w p.line) (selected w ns) n.1)),
+              not_any (conds_of_elifs es) p.cond (r.1 n.0) (not_yes p.cond p.line (a n.0) (grind arith)),
         )
 
   -- A world that C may give these nodes agrees with the decisions on them.

@@ -59,9 +59,6 @@ module _ (o : Options) (p : IsPlain o) (b n : Bool) (some : (b || n) ≡ true) (
   abbrev End : List (Item Reading) → Tree Reading → Type 0
   End xs t = Done o (the_mode o) b n some padded xs t
 
-  few : (xs : List (Item Reading)) (t : Tree Reading) (l : Line) → NoneHolds xs (next_item o xs t l) cases → l.number < 2 ^ 64
-  few xs t l h = grind (arith, line_of-next_item)
-
   inside : {xs : List (Item Reading)} {t : Tree Reading} → AreFaultless o xs t → Each IsInner (map line_of xs) → InOrder 1 (map line_of xs) → The xs t
   inside no_lines h i = first_state o (the_mode o) b n some padded
   inside (one_more xs t s l u e w) h i =
@@ -69,7 +66,7 @@ module _ (o : Options) (p : IsPlain o) (b n : Bool) (some : (b || n) ≡ true) (
       let c = order_last 1 (map line_of xs) l (subst (InOrder 1) (lines_with_next o xs t l) i) in
       let same : next_item o xs t l ≡ item_of o (read_after xs (the_mode o) l) = next_is o p xs t l s in
       subst (λ (x : Item Reading). The (xs ++ x ∷ []) u) (sym same)
-      (next_state o (the_mode o) b n some padded xs t (sound_lines s) (inside s k.0 c.0) l u (c.1 ∙ ap (λ (d : ℕ). 1 + d) (order_map xs) ∙ omega arith) (few xs t l w)
+      (next_state o (the_mode o) b n some padded xs t (sound_lines s) (inside s k.0 c.0) l u (c.1 ∙ ap (λ (d : ℕ). 1 + d) (order_map xs) ∙ omega arith) (grind (arith, line_of-next_item))
       (subst (λ (x : Item Reading). lines u ≡ xs ++ x ∷ []) same e) (subst (λ (x : Item Reading). NoneHolds xs x cases) same w) k.1.0.1 k.1.0.0)
 
   to_the_end : {xs : List (Item Reading)} {t : Tree Reading} → AreFaultless o xs t → AllButLast (map line_of xs) → InOrder 1 (map line_of xs) → End xs t
@@ -79,7 +76,7 @@ module _ (o : Options) (p : IsPlain o) (b n : Bool) (some : (b || n) ≡ true) (
       let c = order_last 1 (map line_of xs) l (subst (InOrder 1) (lines_with_next o xs t l) i) in
       let same : next_item o xs t l ≡ item_of o (read_after xs (the_mode o) l) = next_is o p xs t l s in
       subst (λ (x : Item Reading). End (xs ++ x ∷ []) u) (sym same)
-      (next_done o (the_mode o) b n some padded xs t (sound_lines s) (inside s k.0 c.0) l u (c.1 ∙ ap (λ (d : ℕ). 1 + d) (order_map xs) ∙ omega arith) (few xs t l w)
+      (next_done o (the_mode o) b n some padded xs t (sound_lines s) (inside s k.0 c.0) l u (c.1 ∙ ap (λ (d : ℕ). 1 + d) (order_map xs) ∙ omega arith) (grind (arith, line_of-next_item))
       (subst (λ (x : Item Reading). lines u ≡ xs ++ x ∷ []) same e) (subst (λ (x : Item Reading). NoneHolds xs x cases) same w) k.1)
 
 -- Readings in one mode are those of their lines.

@@ -110,11 +110,8 @@ c_item r = item_as (content_of r.scan) (c_one r)
 line_of_directive : (c : Content) (d : Directive) (other : CLine) → c ≡ directive d → c_line_by c [] other ≡ directive_line d.kind (spaced true (d.after ++ []))
 line_of_directive c d other e = ap (λ (x : Content). c_line_by x [] other) e
 
-line_of_text : (c : Content) (other : CLine) → is_directive c ≡ false → c_line_by c [] other ≡ other
-line_of_text c other e = grind arith
-
 one_text : (r : Reading) → IsTextLine r → text_line (other_lines (unnumbered r ∷ [])) ≡ c_item r
-one_text r e = grind (arith, line_of_text)
+one_text r e = grind arith
 
 text_items : (rs : List Reading) → Each IsTextLine rs → map (λ (r : Reading). text_line (other_lines (r ∷ []))) (map unnumbered rs) ≡ map c_item rs
 text_items [] h = refl
@@ -164,20 +161,14 @@ abbrev pub LinesShort : Nodes Reading → Type 0
 LinesShort ns = EachLine IsText IsShort ns
 
 module _ (o : Options) (p : IsPlainC o) where
-  of_text : (bytes : List ℕ) (ns : Nodes Reading) → IsTreeOf o bytes (closed ns) → lines_of_nodes ns ≡ map (item_of o) (read_as C bytes)
-  of_text bytes ns t = grind (arith, read_lines, items_are)
-
-  item_there : (r : Reading) → item_with c_one (unknown_item (item_of o r)) ≡ c_item r
-  item_there r = grind arith
-
   items_there : (rs : List Reading) → map (item_with c_one) (map unknown_item (map (item_of o) rs)) ≡ map c_item rs
   items_there [] = refl
-  items_there (r ∷ rs) = ap₂ (λ (x : Item CLine) (xs : List (Item CLine)). x ∷ xs) (item_there r) (items_there rs)
+  items_there (r ∷ rs) = ap₂ (λ (x : Item CLine) (xs : List (Item CLine)). x ∷ xs) (grind arith) (items_there rs)
 
   -- The nodes of the logical lines.
   pub c_nodes_of : (bytes : List ℕ) → HasNoLong bytes → (ns : Nodes Reading) → IsTreeOf o bytes (closed ns) → IsCTree bytes (c_nodes ns)
   c_nodes_of bytes h ns t =
-      lines_with c_one (unknown_nodes ns) ∙ ap (map (item_with c_one)) (lines_unknown ns ∙ ap (map unknown_item) (of_text bytes ns t)) ∙ items_there (read_as C bytes) ∙ sym (text_lines bytes h)
+      lines_with c_one (unknown_nodes ns) ∙ ap (map (item_with c_one)) (lines_unknown ns ∙ ap (map unknown_item) (grind (arith, read_lines, items_are))) ∙ items_there (read_as C bytes) ∙ sym (text_lines bytes h)
 
   pub c_nodes_are : (bytes : List ℕ) → HasNoLong bytes → (ns : Nodes Reading) → IsTreeOf o bytes (closed ns) → (us : Nodes CLine) → IsCTree bytes us → us ≡ c_nodes ns
   c_nodes_are bytes h ns t us i = nodes_same us (c_nodes ns) (i ∙ sym (c_nodes_of bytes h ns t))
@@ -189,7 +180,7 @@ module _ (o : Options) (p : IsPlainC o) where
   -- Its lines are short.
   pub lines_short : (bytes : List ℕ) → HasNoLong bytes → (ns : Nodes Reading) → IsTreeOf o bytes (closed ns) → LinesShort ns
   lines_short bytes h ns t = from_items IsText IsShort ns
-      (subst (Each (IsOf IsText IsShort)) (sym (of_text bytes ns t)) (items_short (read_as C bytes) (none_long (read_as C bytes) (read_as C bytes) refl h)))
+      (subst (Each (IsOf IsText IsShort)) (sym (grind (arith, read_lines, items_are))) (items_short (read_as C bytes) (none_long (read_as C bytes) (read_as C bytes) refl h)))
 
 -- 4. They are processed alike.
 
@@ -201,7 +192,7 @@ condition_is : (r : Reading) → NotLong r → condition_on r ≡ condition_of (
 condition_is r h = grind (arith, append-nil, ends_here)
 
 text_one : (r : Reading) → IsText r → c_one r ≡ other_lines (unnumbered r ∷ [])
-text_one r h = line_of_text (content_of r.scan) (other_lines (unnumbered r ∷ [])) (grind (arith, h))
+text_one r h = grind arith
 
 module _ {S F : Type 0} (takes : S → List ℕ → Scan → S → Type 0) (enters : S → List ℕ → Scan → F → S → Type 0) (leaves : S → S → Type 0) (decides : S → Condition → Bool → S → Type 0) where
   -- The preprocessor over lines that were read.

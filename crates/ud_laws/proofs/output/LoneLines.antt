@@ -31,12 +31,9 @@ pub record Quiet (b : ℕ) : Type 0 where
   pub no_newline : b ≢ newline
   pub no_return : b ≢ 13
 
-digit_quiet : (n : ℕ) → n < 10 → Quiet (48 + n)
-digit_quiet n h = grind arith
-
 decimal_quiet : (n : ℕ) → n < 2 ^ 64 → Each Quiet (decimal n)
-decimal_quiet n h = decimal_by_steps (λ k ds. Each Quiet ds) (λ k l. (digit_quiet k l, tt))
-    (λ k ds l q. each_both Quiet ds ((48 + k % 10) ∷ []) q (digit_quiet (k % 10) (omega arith), tt)) n h
+decimal_quiet n h = decimal_by_steps (λ k ds. Each Quiet ds) (λ k l. (grind arith, tt))
+    (λ k ds l q. each_both Quiet ds ((48 + k % 10) ∷ []) q (grind arith, tt)) n h
 
 word_quiet : Each Quiet (codes "#line ")
 word_quiet = grind arith

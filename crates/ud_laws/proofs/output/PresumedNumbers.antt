@@ -17,13 +17,10 @@ use Rattle.std.proofs.lemmas.Grind.{common_steps}
 abbrev NotWhite : ℕ → Type 0
 NotWhite b = is_white b ≡ false
 
-digit_not_white : (n : ℕ) → n < 10 → NotWhite (48 + n)
-digit_not_white n h = grind arith
-
 decimal_not_white : (n : ℕ) → n < 2 ^ 64 → Each NotWhite (decimal n)
 decimal_not_white n h =
-    decimal_by_steps (λ k ds. Each NotWhite ds) (λ k l. (digit_not_white k l, tt))
-    (λ k ds l q. each_both NotWhite ds ((48 + k % 10) ∷ []) q (digit_not_white (k % 10) (omega arith), tt)) n h
+    decimal_by_steps (λ k ds. Each NotWhite ds) (λ k l. (grind arith, tt))
+    (λ k ds l q. each_both NotWhite ds ((48 + k % 10) ∷ []) q (grind arith, tt)) n h
 
 nothing_skipped : (ds : List ℕ) → Each NotWhite ds → skip_white ds ≡ ds
 nothing_skipped [] h = refl

@@ -117,10 +117,6 @@ module _ (u : Bool) {S F : Type 0} (takes : S → List ℕ → Scan → S → Ty
   text_is : (v : Verdict) (l : Reading) → IsKeptText v l → (v ≡ Keep) × IsText l
   text_is v l h = grind arith
 
-  -- The line has the bytes and the scan of the one from which it comes.
-  text_same : (e : Edited Reading) (l : Reading) → left_seen u e ≡ scanned l → TextStays e → (line_bytes e.line ≡ line_bytes l) × (e.line.scan ≡ l.scan)
-  text_same e l q h = grind (arith, text_is, text_stays)
-
   opener_by : (o : Opener (Edited Reading)) (k : Opener Reading) → left_seen u o.line ≡ scanned k.line → KeepsCondition o.line.verdict → OpenerAlike out p o k
   opener_by o k q h = λ s b t d. subst (λ (c : Condition). decides s c b t) (grind (arith, q)) d
 
@@ -134,7 +130,7 @@ module _ (u : Bool) {S F : Type 0} (takes : S → List ℕ → Scan → S → Ty
     nodes_alike (text ms e) (text us l) q h =
         let a : with_lines (left_seen u) ms ≡ with_lines scanned us = cc in
         let b : left_seen u e ≡ scanned l = cc in
-        text_alike (nodes_alike ms us a h.0) (grind (arith, text_same))
+        text_alike (nodes_alike ms us a h.0) (grind (arith, text_is, text_stays))
     nodes_alike (section ms gs e) (section us hs l) q h =
         let a : with_lines (left_seen u) ms ≡ with_lines scanned us = cc in
         let b : groups_with_lines (left_seen u) gs ≡ groups_with_lines scanned hs = cc in

@@ -102,11 +102,6 @@ module _ {S F L : Type 0} (p : Preprocessor S F L) (files : F → Nodes L) (outp
   now_true (kept_groups es) part o Unknown ps s t u v h a d g = elif_true h d g
   now_true (ended es l ms k) part o c ps s t u v h a d g = absurd h
 
-  -- A false group after none.
-  still_none : (left : KeptGroups L) (part : Part) (o : Opener L) (c : Cond) (ps : Nodes (Edited L)) (s t u : S) → LeftNone left s t → AgreesAs c false t u → p.decides t o false u →
-      LeftNone (with_group left part o c ps) s u
-  still_none left part o c ps s t u h g k = grind (arith, first_false, absurd, elif_false)
-
   true_alone : (left : KeptGroups L) (s t : S) → LeftTrue left s t → LeftOne left s t
   true_alone left s t h = grind (arith, absurd, true_group, true_before_else, else_group)
 
@@ -131,8 +126,8 @@ module _ {S F L : Type 0} (p : Preprocessor S F L) (files : F → Nodes L) (outp
 
   -- No group is processed.
   none_processed : {es : Elifs L} {s t : S} → ElifsRight p es → NoneTrue p es s t → LeftNone (kept_elifs_of es) s t
-  none_processed r (first_false {o = o} {ns = ns} {s = s} {t = t} d) = still_none none_kept an_if o o.cond (folded ns) s s t refl (r.0 s false t d) d
-  none_processed r (elif_false h d) = grind (arith, still_none, none_processed r.0 h)
+  none_processed r (first_false {o = o} {ns = ns} {s = s} {t = t} d) = grind (arith, first_false, absurd, elif_false)
+  none_processed r (elif_false h d) = grind (arith, first_false, absurd, elif_false, none_processed r.0 h)
 
   none_same : {es : Elifs L} {s t : S} → NoneTrue p es s t → NoneTrue out (elifs_with_lines (edited Keep) es) s t
   none_same (first_false d) = first_false d

@@ -10,10 +10,6 @@ use Rattle.ud_model.specs.laws.Pruned.{Edited, edited, then_nodes}
 use Rattle.ud_model.proofs.output.Folded.{KeptGroups, none_kept, replaced, kept_groups, ended, with_group, with_else, then_kept, folded, kept_groups_of, kept_elifs_of}
 use Rattle.ud_model.proofs.output.SelectedPruned.{out_world, Fits, Chosen, chosen}
 
--- An option is None if its image is.
-pub map_none : {A B : Type 0} (f : A → B) (o : Option A) → option_map f o ≡ None → o ≡ None
-map_none f h e = grind arith
-
 module _ {L : Type 0} (w : World L) (P : L → Type 0) (Q : Edited L → Type 0) (stays : (part : Part) (l : L) → P l → Q (edited (first_kept_verdict part) l)) where
   abbrev pub Is : Opener L → Type 0
   Is o = P o.line
@@ -32,7 +28,7 @@ module _ {L : Type 0} (w : World L) (P : L → Type 0) (Q : Edited L → Type 0)
 
   -- If no group of the rest is processed, none before it was.
   none_before : (s : Option (List L)) (es : Elifs (Edited L)) → Chosen w s (kept_groups es) → selected_elifs (out_world w) es ≡ None → s ≡ None
-  none_before s es h e = map_none (map (edited Keep)) s (h ∙ e)
+  none_before s es h e = grind arith
 
   -- The case of one more group.
   group_reached : (s : Option (List L)) (left : KeptGroups L) (part : Part) (o : Opener L) (c : Cond) (ps : Nodes (Edited L)) → Chosen w s left → LeftReached left →

@@ -15,7 +15,7 @@ use Rattle.ud_laws.specs.output.CSelection.{MayBe, IsCWorld}
 use Rattle.ud_model.specs.laws.WrittenConditions.{condition_in}
 use Rattle.ud_model.proofs.sections.Soundness.{sound_read, one_tree_of, sound_lines}
 use Rattle.ud_model.proofs.output.SeenLines.{Seen, scanned, left_condition, left_seen}
-use Rattle.ud_laws.proofs.output.ReachedPruned.{pruned_reached, map_none}
+use Rattle.ud_laws.proofs.output.ReachedPruned.{pruned_reached}
 use Rattle.ud_model.proofs.output.Each.{Pairwise}
 use Rattle.ud_laws.proofs.output.CSelected.{Clear, sound_clear, c_agrees}
 use Rattle.ud_model.proofs.output.RereadLaws.{truths_folded, seen_alike, selected_again}
@@ -38,7 +38,7 @@ module _ {L K M : Type 0} (f : L → M) (g : K → M) (v : World L) (w : World K
   -- No group is processed of the one if none is of the other.
   none_alike : (es : Elifs L) (ds : Elifs K) → elifs_with_lines f es ≡ elifs_with_lines g ds → map v (openers_of_elifs es) ≡ map w (openers_of_elifs ds) →
       selected_elifs v es ≡ None → selected_elifs w ds ≡ None
-  none_alike es ds e t h = search (rules, map_none, same_elifs)
+  none_alike es ds e t h = search (rules, same_elifs)
 
   mutual
     -- A property of each opener that is reached in the one tree is one in the other.
