@@ -1,5 +1,5 @@
 -- An option between other arguments: what they give stays, and what the option gives comes between.
-use Rattle.std.proofs.Common.{◌≡◌, ◌≢◌, ◌<◌, ℕ, suc, List, [], ◌∷◌, ◌++◌, Bool, true, false, ◌||◌, ◌==◌, nat_lt, if◌then◌else◌, bytes_eq, codes, encode_utf8_all, Option, Some, None, refl, sym, ◌∙◌, ap, ap₂, append_assoc, arith}
+use Rattle.std.proofs.Common.{◌≡◌, ◌≢◌, ℕ, suc, List, [], ◌∷◌, ◌++◌, Bool, true, false, ◌==◌, nat_lt, if◌then◌else◌, bytes_eq, codes, encode_utf8_all, Option, Some, None, refl, sym, ◌∙◌, ap, ap₂, append_assoc, arith}
 use Rattle.std.specs.Str.{chars, IsUtf8, IsAscii}
 use Rattle.std.specs.List.{filter_map}
 use Rattle.std.proofs.lemmas.List.Elements.{filter_map-append}
@@ -8,7 +8,7 @@ use Rattle.std.proofs.lemmas.Str.{encodes-chars, IsUtf8-append, IsUtf8-from_asci
 use Rattle.std.proofs.lemmas.Str.Ascii.{IsAscii-nil, IsAscii-cons}
 use Rattle.ud_model.specs.text.Bytes.{hyphen, equals_sign, is_word_byte, are_word_bytes}
 use Rattle.ud_model.specs.conditions.Table.{Argument, Entry, entry_from, entry_in}
-use Rattle.ud_model.specs.answer.CommandLine.{ParsedArg, flag, option, operand, unknown, lacking, has_letter, is_flag, takes_argument, parsed_from, parsed_args, parse_symbol, symbol_named, mode_or, parse_exit_mode, mode_from, has_flag, settings_in, argument_in, options_of, argument_fault, fault_or, first_fault, usage_fault, WordGives, then_gives, letters_give, option_gives, given_next}
+use Rattle.ud_model.specs.answer.CommandLine.{ParsedArg, flag, option, operand, unknown, has_letter, is_flag, takes_argument, parsed_from, parsed_args, parse_symbol, symbol_named, mode_or, parse_exit_mode, mode_from, has_flag, settings_in, argument_in, options_of, argument_fault, fault_or, first_fault, usage_fault, WordGives, then_gives, letters_give, option_gives, given_next}
 use Rattle.ud_model.specs.answer.SymbolArguments.{is_name, name_before_equals, value_after_equals, value_or_one}
 use Rattle.ud_laws.specs.answer.OptionArguments.{AreOptions, no_options, whole_word, two_words, IsSymbolOption, defines, defines_as, undefines, AddsSymbol}
 use Rattle.ud_model.specs.declared.settings.ExitMode.{ExitMode}

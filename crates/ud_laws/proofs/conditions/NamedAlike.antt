@@ -1,20 +1,19 @@
 -- Conditions: two tables decide a condition alike if they have the same entry for each of its
 -- names, and for those to which these lead.
-use Rattle.std.proofs.Common.{◌≡◌, ℕ, List, Bool, true, false, ◌&&◌, ◌||◌, Option, Some, None, is_some, refl, sym, ◌∙◌, ap, ap₂, arith, rules}
+use Rattle.std.proofs.Common.{◌≡◌, ℕ, List, Bool, true, ◌||◌, Some, sym, ◌∙◌, ap, ap₂, arith, rules}
 use Rattle.ud_model.specs.text.Bytes.{is_identifier}
 use Rattle.ud_model.specs.text.Scans.{Reading}
 use Rattle.ud_model.specs.sections.Directives.{Content}
-use Rattle.ud_model.specs.conditions.Table.{Argument, Entry, entry_in}
+use Rattle.ud_model.specs.conditions.Table.{Argument, entry_in}
 use Rattle.ud_model.specs.conditions.Symbols.{defined_text, text_in, ResolvesTo, at_text, by_name, resolve}
-use Rattle.ud_model.specs.conditions.Expressions.{Expression, constant, named, is_defined, unary, binary, parens}
+use Rattle.ud_model.specs.conditions.Expressions.{Expression, unary, binary, parens}
 use Rattle.ud_model.specs.conditions.Parsing.{expression_of}
-use Rattle.ud_model.specs.conditions.Values.{amount_from, unary_amount, binary_amount, name_value, name_value_by, name_has_u, end_has_u, defined_value, defined_value_by, number_of, has_unsigned}
-use Rattle.ud_model.specs.conditions.Conditions.{Rules, mentions_listed, undefined_by, calls_undefined, tree_cond_if, expression_cond, decision_by_test, ifdef_by, ifdef_decision}
-use Rattle.ud_model.specs.conditions.Names.{names_in, names_in_tree, name_alone, names_by}
+use Rattle.ud_model.specs.conditions.Values.{unary_amount, binary_amount, name_value, name_value_by, name_has_u, end_has_u, defined_value, defined_value_by, number_of, has_unsigned}
+use Rattle.ud_model.specs.conditions.Conditions.{Rules, mentions_listed, calls_undefined, expression_cond}
+use Rattle.ud_model.specs.conditions.Names.{names_in, names_in_tree}
 use Rattle.ud_model.specs.sections.Items.{Options, rules_of, item_by}
 use Rattle.ud_model.specs.answer.Listing.{names_in_content}
 use Rattle.ud_laws.specs.output.ListedNames.{LeadsTo, itself, by_value}
-use Rattle.ud_model.specs.declared.kind.Test.{Test}
 use Rattle.ud_model.proofs.output.Each.{Each, each_parts}
 use Rattle.ud_model.proofs.conditions.SymbolLemmas.{end_found, end_is, same_by}
 

@@ -1,18 +1,15 @@
 -- Further symbols: a table with more entries leaves a known value as it is, or makes it unknown.
-use Rattle.std.proofs.Common.{◌≡◌, ◌≢◌, ℕ, List, Bool, true, false, not, ◌&&◌, ◌||◌, Option, Some, None, ◌⊎◌, inl, inr, ℤ, pos, refl, sym, ◌∙◌, ap, ap₂, subst, arith}
-use Rattle.std.proofs.lemmas.Option.{none-some}
-use Rattle.ud_model.specs.text.Bytes.{starts_with_byte}
+use Rattle.std.proofs.Common.{◌≡◌, ◌≢◌, ℕ, List, Bool, Option, Some, None, ◌⊎◌, inl, inr, ℤ, refl, sym, subst, arith}
 use Rattle.ud_model.specs.conditions.Table.{Argument, Entry, entry_in}
-use Rattle.ud_model.specs.conditions.Symbols.{defined_text, text_in, ResolvesTo, at_text, by_name, resolve}
-use Rattle.ud_model.specs.conditions.Expressions.{Expression, constant, named, is_defined, unary, binary, parens}
-use Rattle.ud_model.specs.conditions.Values.{truth, is_zero, apply_binary_known, short_circuits, apply_binary, apply_unary_known, apply_unary, amount_from, counted, mirrored, unary_amount, binary_amount, text_value, constant_in, end_value, defined_name_value, name_value_by, name_value, defined_value_by, defined_value, number_of, has_unsigned, value_of}
+use Rattle.ud_model.specs.conditions.Symbols.{ResolvesTo, at_text, by_name, resolve}
+use Rattle.ud_model.specs.conditions.Expressions.{Expression, unary, binary, parens}
+use Rattle.ud_model.specs.conditions.Values.{apply_binary_known, short_circuits, apply_binary, apply_unary_known, amount_from, counted, unary_amount, binary_amount, text_value, end_value, defined_name_value, name_value_by, name_value, defined_value_by, defined_value, number_of, value_of}
 use Rattle.ud_model.specs.conditions.Conditions.{Rules, truth_of, tree_cond}
 use Rattle.ud_laws.specs.output.ListedNames.{ExtendsTable}
 use Rattle.ud_model.specs.declared.amount.Amount.{Amount}
 use Rattle.ud_model.specs.declared.amount.Amount.TheVariants.{Anything}
 use Rattle.ud_model.specs.declared.cond.Cond.TheVariants.{Unknown}
 use Rattle.ud_model.specs.declared.operator.Operator.{Operator}
-use Rattle.ud_model.specs.declared.operator.Operator.TheVariants.{Or, And}
 use Rattle.ud_model.proofs.conditions.SymbolLemmas.{end_found, end_is}
 
 -- The value stays, or is unknown.

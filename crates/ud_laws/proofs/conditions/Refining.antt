@@ -1,7 +1,7 @@
 -- Refining: an operator gives at least as much where more is known of its operands.
-use Rattle.std.proofs.Common.{◌≡◌, Bool, true, false, Option, Some, None, ◌⊎◌, inl, inr, ℤ, pos, ◌≤ℤ◌, refl, sym, ◌∙◌, ap, ap₂, subst, arith}
+use Rattle.std.proofs.Common.{◌≡◌, Bool, true, false, Option, Some, ◌⊎◌, inl, inr, ℤ, pos, ◌≤ℤ◌, sym, ◌∙◌, ap, subst, arith}
 use Rattle.std.proofs.lemmas.Option.{none-some}
-use Rattle.ud_model.specs.conditions.Values.{apply_binary_known, short_circuit, short_circuits, apply_binary, apply_unary, amount_from, is_same_from, counted, mirrored, unary_amount, binary_amount}
+use Rattle.ud_model.specs.conditions.Values.{apply_binary_known, short_circuit, short_circuits, apply_binary, apply_unary, amount_from, counted, mirrored, unary_amount, binary_amount}
 use Rattle.ud_model.specs.declared.amount.Amount.{Amount}
 use Rattle.ud_model.specs.declared.amount.Amount.TheVariants.{Anything, Exactly, AtLeast}
 use Rattle.ud_model.specs.declared.operator.Operator.{Operator}

@@ -2,7 +2,7 @@
 --
 -- The proof goes by the way in which the value of the expression comes about. An operand that is
 -- decided has the truth that the table says, so a unit leaves the truth to the other operand.
-use Rattle.std.proofs.Common.{◌≡◌, Bool, true, false, if◌then◌else◌, refl, ◌⊎◌, ◌↔◌, pos, List, arith}
+use Rattle.std.proofs.Common.{◌≡◌, Bool, true, false, if◌then◌else◌, refl, ◌↔◌, pos, List, arith}
 use Rattle.ud_model.specs.conditions.Table.{Argument}
 use Rattle.ud_model.specs.conditions.Expressions.{Expression, constant, named, is_defined, unary, binary, parens}
 use Rattle.ud_model.specs.conditions.Conditions.{Rules}

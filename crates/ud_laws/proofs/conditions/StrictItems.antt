@@ -1,20 +1,14 @@
 -- Under `-K` a line is the same item, but its condition may be unknown.
-use Rattle.std.proofs.Common.{◌≡◌, ℕ, List, Bool, true, Option, refl, arith}
-use Rattle.ud_model.specs.text.Scans.{Scan, Reading}
-use Rattle.ud_model.specs.sections.Directives.{Directive}
+use Rattle.std.proofs.Common.{◌≡◌, ℕ, List, Bool, true, refl, arith}
+use Rattle.ud_model.specs.text.Scans.{Reading}
 use Rattle.ud_model.specs.conditions.Table.{Argument}
 use Rattle.ud_model.specs.conditions.Expressions.{Expression}
-use Rattle.ud_model.specs.conditions.Parsing.{expression_of}
-use Rattle.ud_model.specs.conditions.Conditions.{Decision, tree_cond, tree_cond_if, expression_cond, decision_by_test, decision_on}
+use Rattle.ud_model.specs.conditions.Conditions.{Decision, tree_cond, expression_cond}
 use Rattle.ud_model.specs.sections.Tree.{Item, Opener, text_line, if_line, elif_line, else_line, endif_line}
-use Rattle.ud_model.specs.sections.Items.{Options, item_of, directive_item}
+use Rattle.ud_model.specs.sections.Items.{Options, item_of}
 use Rattle.ud_laws.specs.output.StrictLines.{under_strict}
 use Rattle.ud_model.specs.declared.cond.Cond.{Cond}
 use Rattle.ud_model.specs.declared.cond.Cond.TheVariants.{Unknown}
-use Rattle.ud_model.specs.declared.kind.Role.{Role}
-use Rattle.ud_model.specs.declared.kind.Role.TheVariants.{IfGroup, ElifGroup, ElseGroup, EndifLine}
-use Rattle.ud_model.specs.declared.kind.Test.{Test}
-use Rattle.ud_model.specs.declared.kind.Test.TheVariants.{Nonzero}
 use Rattle.ud_laws.proofs.conditions.StrictLess.{cond_keeps}
 
 -- The conditions are the same, or the first one is unknown.

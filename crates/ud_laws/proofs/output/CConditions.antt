@@ -1,20 +1,19 @@
 -- A decided condition has the truth that C gives it.
-use Rattle.std.proofs.Common.{◌≡◌, ℕ, List, Bool, true, false, Option, Some, None, is_some, option_map, ap, arith, rules}
+use Rattle.std.proofs.Common.{◌≡◌, ℕ, List, Bool, true, false, Option, Some, None, is_some, ap, arith, rules}
 use Rattle.ud_model.specs.text.Scans.{Reading}
 use Rattle.ud_model.specs.conditions.Table.{Argument, Entry, entry_in}
-use Rattle.ud_model.specs.conditions.Expressions.{Expression, is_defined, unary}
+use Rattle.ud_model.specs.conditions.Expressions.{is_defined, unary}
 use Rattle.ud_model.specs.conditions.Parsing.{expression_of}
 use Rattle.ud_model.specs.conditions.Values.{truth, is_zero, apply_unary_known, amount_from, unary_amount, defined_value, defined_value_by, value_of}
-use Rattle.ud_model.specs.conditions.Conditions.{Rules, ifdef_by, ifdef_decision, negate, tree_cond_if, expression_cond, decision_by_test}
+use Rattle.ud_model.specs.conditions.Conditions.{Rules, ifdef_by, negate, expression_cond}
 use Rattle.ud_model.specs.laws.CValues.{Number, number}
 use Rattle.ud_laws.specs.output.CSelection.{HasTruth, MayBe}
-use Rattle.ud_model.specs.laws.WrittenConditions.{condition_by_test, condition_in}
+use Rattle.ud_model.specs.laws.WrittenConditions.{condition_in}
 use Rattle.ud_model.specs.sections.Tree.{Item, if_line, elif_line}
 use Rattle.ud_model.specs.sections.Items.{Options, item_of}
 use Rattle.ud_model.specs.declared.amount.Amount.TheVariants.{Exactly}
 use Rattle.ud_model.specs.declared.cond.Cond.{Cond}
 use Rattle.ud_model.specs.declared.cond.Cond.TheVariants.{Yes, No, Unknown}
-use Rattle.ud_model.specs.declared.kind.Test.{Test}
 use Rattle.ud_model.specs.declared.operator.Operator.TheVariants.{Not}
 use Rattle.ud_model.proofs.conditions.DecidedConditions.{yes_is_true, no_is_false}
 use Rattle.ud_model.proofs.conditions.KnownStays.{known_stays}

@@ -3,15 +3,12 @@ use Rattle.std.proofs.Common.{◌≡◌, ℕ, List, [], ◌∷◌, ◌++◌, map
 use Rattle.std.proofs.lemmas.List.{map-append}
 use Rattle.ud_model.specs.text.Scans.{Reading}
 use Rattle.ud_model.specs.sections.Directives.{Content, text as text_content, content_of}
-use Rattle.ud_model.specs.conditions.Conditions.{Decision}
 use Rattle.ud_model.specs.sections.Tree.{Item, Opener, Nodes, Groups, Elifs, text_line, if_line, elif_line, else_line, endif_line, lines_of_nodes}
-use Rattle.ud_model.specs.sections.Items.{Options, item_of, item_by, directive_item}
+use Rattle.ud_model.specs.sections.Items.{Options, item_of, item_by}
 use Rattle.ud_model.specs.answer.Printing.{Judged}
 use Rattle.ud_laws.specs.output.InsertedLines.{IsPrinted, Counted, no_line, goes, blanked, counts_on, starts_anew}
 use Rattle.ud_laws.specs.output.InsertedNodes.{IsSame, IsSameOpener, IsInserted, NodesWithInserted, no_nodes, same_text, inserted_text, same_section, GroupsWithInserted, all_conditional, last_otherwise, ElifsWithInserted, same_first, same_elif}
 use Rattle.ud_model.proofs.output.WovenTrees.{Woven, TextGoes, EndifGoes, ElseGoes, IfGoes, ElifGoes, Strewn, none, same, put, strewn_both, weave_nodes}
-use Rattle.ud_model.specs.declared.kind.Role.{Role}
-use Rattle.ud_model.specs.declared.kind.Role.TheVariants.{IfGroup, ElifGroup, ElseGroup, EndifLine}
 
 -- 1. Items.
 

@@ -7,22 +7,20 @@ use Rattle.ud_model.specs.text.Scans.{Reading}
 use Rattle.ud_model.specs.text.Splicing.{content, stays_open}
 use Rattle.ud_model.specs.text.Scanning.{scan_after}
 use Rattle.ud_model.specs.aids.LexStates.{LexState, in_text, state_after_line, white_after_line}
-use Rattle.ud_model.specs.sections.Directives.{Span}
 use Rattle.ud_model.specs.sections.Tree.{Item}
 use Rattle.ud_model.specs.sections.Pruning.{Mark}
 use Rattle.ud_model.specs.sections.Items.{Options, reading_of, line_of, item_of, read_after}
 use Rattle.ud_model.specs.sections.Faults.{ends_removed}
-use Rattle.ud_model.specs.answer.Printing.{Judged, Style, piece_by, piece_after, last_removed, judged_lines}
+use Rattle.ud_model.specs.answer.Printing.{Judged, Style, piece_after, last_removed, judged_lines}
 use Rattle.ud_laws.specs.output.InsertedLines.{IsLone}
 use Rattle.ud_model.specs.declared.kind.Mode.{Mode}
 use Rattle.ud_model.specs.declared.kind.Mode.TheVariants.{C, Plain}
-use Rattle.ud_model.specs.declared.verdict.Verdict.{Verdict}
 use Rattle.ud_model.specs.declared.verdict.Verdict.TheVariants.{Remove}
 use Rattle.ud_model.proofs.text.LinesLemmas.{numbered_from-next}
 use Rattle.ud_model.proofs.text.Pushes.{push_not_nil}
 use Rattle.ud_model.proofs.text.ScanLaws.{place_after, white_after}
 use Rattle.ud_model.proofs.sections.Soundness.{reading_of-item_of}
-use Rattle.ud_model.proofs.output.Formed.{IsLeft, end_is_some}
+use Rattle.ud_model.proofs.output.Formed.{end_is_some}
 use Rattle.ud_model.proofs.output.Heeding.{ReadIn, none_read, one_read}
 use Rattle.ud_model.proofs.output.LeavesOff.{LeavesOff, nowhere, kept_scan, leaves_next, leaves_anew}
 use Rattle.ud_laws.proofs.output.LoneLines.{IsQuiet, lone_scan}

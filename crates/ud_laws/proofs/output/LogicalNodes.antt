@@ -14,18 +14,16 @@ use Rattle.ud_laws.proofs.output.NodesAlike.{nothing_alike, text_alike, section_
 use Rattle.ud_laws.proofs.output.ProcessedAlike.{IsText, TextAlike, OpenerAlike, IsDoneAlike, GroupsDone, ElifsDone}
 use Rattle.ud_model.proofs.output.PrunedTree.{nodes_same}
 use Rattle.ud_model.proofs.sections.Soundness.{read_lines}
-use Rattle.ud_model.specs.conditions.Conditions.{Decision}
 use Rattle.ud_model.specs.declared.kind.Mode.TheVariants.{C}
-use Rattle.ud_model.specs.declared.kind.Role.{Role}
 use Rattle.ud_simplified.specs.FoldedTexts.{is_directive, logical_lines, unnumbered, CLine, directive_line, other_lines, c_line_by, c_line, c_lines, c_line_in, folded_bytes, folded_line, folded_lines, folded_text, has_tab, is_foldable}
 use Rattle.ud_model.specs.aids.ReadAs.{read_as}
-use Rattle.ud_laws.specs.output.LogicalProcessing.{HasNoLong, is_long, unknown_opener, role_item, line_items, IsCTree, condition_of, takes_text, enters_text, over_logical_lines}
-use Rattle.ud_model.specs.laws.WrittenConditions.{Condition, condition_with, condition_on}
+use Rattle.ud_laws.specs.output.LogicalProcessing.{HasNoLong, is_long, unknown_opener, role_item, line_items, IsCTree, condition_of, over_logical_lines}
+use Rattle.ud_model.specs.laws.WrittenConditions.{Condition, condition_on}
 use Rattle.ud_laws.specs.output.Processing.{Preprocessor, over_readings}
 use Rattle.ud_model.specs.laws.Pruned.{EachLine, GroupLines, ElifLines}
 use Rattle.ud_model.specs.laws.Rereading.{IsPlainC, IsTreeOf}
 use Rattle.ud_model.specs.sections.Directives.{cut_keyword, text as text_content, Content, directive, Directive, content_of, role_of}
-use Rattle.ud_model.specs.sections.Items.{Options, item_of, item_by, directive_item}
+use Rattle.ud_model.specs.sections.Items.{Options, item_of}
 use Rattle.ud_model.specs.sections.Tree.{Item, Opener, Nodes, Groups, Elifs, text_line, nothing, text, section, conditional, otherwise, first, elif, closed, item_with, opener_with_line, with_lines, groups_with_lines, elifs_with_lines, if_line, elif_line, lines_of_nodes, lines_of_groups, lines_of_elifs}
 use Rattle.ud_model.specs.text.Scans.{Scan, Reading, is_spanning}
 use Rattle.ud_model.specs.text.Lines.{text_of, lines_of}

@@ -6,11 +6,11 @@ use Rattle.std.proofs.lemmas.Slice.Eq.{ends_is}
 use Rattle.std.proofs.lemmas.List.{take_at}
 use Rattle.std.proofs.lemmas.Fmt.{decimal_by_steps}
 use Rattle.ud_model.specs.text.Bytes.{is_quote, slash, backslash, newline}
-use Rattle.ud_model.specs.text.Lines.{NoNewline, IsWhole, ending_of, Line, line_at}
+use Rattle.ud_model.specs.text.Lines.{NoNewline, IsWhole, Line, line_at}
 use Rattle.ud_model.specs.text.Scans.{Reading, plain_scan}
-use Rattle.ud_model.specs.text.Splicing.{is_spliced, content, stays_open, c_run_of}
+use Rattle.ud_model.specs.text.Splicing.{is_spliced, content, c_run_of}
 use Rattle.ud_model.specs.text.Scanning.{scan_after}
-use Rattle.ud_model.specs.aids.LexStates.{in_text, state_after_line}
+use Rattle.ud_model.specs.aids.LexStates.{in_text}
 use Rattle.ud_model.specs.sections.Tree.{Item}
 use Rattle.ud_model.specs.sections.Items.{reading_of}
 use Rattle.ud_model.specs.answer.Printing.{number_line, ending_or_newline}

@@ -1,7 +1,7 @@
 -- A text without a `#line`: each line's presumed number is its own.
 use Rattle.std.proofs.Common.{◌≡◌, ℕ, suc, ◌+◌, List, [], ◌∷◌, ◌++◌, length, map, Bool, true, None, refl, sym, ◌∙◌, ap, subst, append-nil, arith}
 use Rattle.std.proofs.lemmas.List.{map-append, length-map}
-use Rattle.ud_model.specs.text.Lines.{Line, lines_of, texts_of}
+use Rattle.ud_model.specs.text.Lines.{Line, lines_of}
 use Rattle.ud_model.specs.text.Scans.{Reading}
 use Rattle.ud_model.specs.text.Scanning.{next_reading, readings_after}
 use Rattle.ud_model.specs.aids.ReadAs.{in_mode, read_as}

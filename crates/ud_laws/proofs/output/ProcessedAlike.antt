@@ -8,8 +8,7 @@ use Rattle.ud_model.specs.declared.verdict.Verdict.{Verdict}
 use Rattle.ud_model.specs.declared.verdict.Verdict.TheVariants.{Keep}
 use Rattle.ud_model.specs.sections.Tree.{Opener, Nodes, Groups, Elifs, nothing, text, section, conditional, otherwise, first, elif, opener_with_line, with_lines, groups_with_lines, elifs_with_lines}
 use Rattle.ud_model.specs.laws.Pruned.{Edited, edited, EachLine, GroupLines, ElifLines}
-use Rattle.ud_model.specs.laws.Rereading.{line_bytes}
-use Rattle.ud_model.specs.laws.WrittenConditions.{Condition, condition_on}
+use Rattle.ud_model.specs.laws.WrittenConditions.{Condition}
 use Rattle.ud_laws.specs.output.Processing.{Preprocessor, over_readings, Processes, no_nodes}
 use Rattle.ud_laws.specs.output.Processing.{takes_line, includes_file, selects_group, ProcessesOne}
 use Rattle.ud_laws.specs.output.Processing.{no_group, true_group, true_before_else, else_group}

@@ -6,13 +6,13 @@ use Rattle.ud_model.specs.text.Scans.{Scan, Reading}
 use Rattle.ud_model.specs.text.Splicing.{is_spliced, spliced_text, spliced_part}
 use Rattle.ud_model.specs.text.Lexemes.{kind_at_end, Cell, shown}
 use Rattle.ud_model.specs.text.Scanning.{is_block, comment_at, scan_after_run}
-use Rattle.ud_model.specs.sections.Directives.{Content, Directive, content_of, is_outside, role_of, test_of}
+use Rattle.ud_model.specs.sections.Directives.{Directive, content_of, is_outside, role_of, test_of}
 use Rattle.ud_model.specs.aids.DirectiveParts.{HasDirective}
 use Rattle.ud_model.specs.conditions.Table.{Argument}
 use Rattle.ud_model.specs.conditions.Conditions.{Rules, Decision, undecided, decision_on, condition_of, expression_cond, tree_cond_if}
 use Rattle.ud_model.specs.sections.Tree.{Tree, Item, Nodes, Groups, Elifs, closed}
-use Rattle.ud_model.specs.sections.Items.{Options, reading_of, item_of, item_by, directive_item, rules_of}
-use Rattle.ud_model.specs.sections.Faults.{is_cut, is_in_block, ends_in_comment, end_by, last_number}
+use Rattle.ud_model.specs.sections.Items.{Options, reading_of, item_of, directive_item, rules_of}
+use Rattle.ud_model.specs.sections.Faults.{is_cut, is_in_block, ends_in_comment}
 use Rattle.ud_model.specs.laws.Pruned.{IsUndecided, IsUnknown, Any}
 use Rattle.ud_model.proofs.output.EachLines.{IsOf, to_items, from_items}
 use Rattle.ud_model.specs.aids.Height.{height_of_nodes, height_of_groups, height_of_elifs}
