@@ -80,11 +80,8 @@ entry_texts e _ same = grind arith
 entry_texts _ _ (number {text = text} p) = (text, inr p, refl)
 
 module _ (t u : List Argument) (h : ChoosesNumbers t u) where
-  texts : (n : List ℕ) → Texts (defined_text t n) (defined_text u n)
-  texts n = entry_texts (entry_in t n) (entry_in u n) (h n)
-
   texts_at : (n : List ℕ) (o : Option (List ℕ)) → defined_text t n ≡ o → Texts o (defined_text u n)
-  texts_at n o e = subst (λ x. Texts x (defined_text u n)) e (texts n)
+  texts_at n o e = subst (λ x. Texts x (defined_text u n)) e (entry_texts (entry_in t n) (entry_in u n) (h n))
 
   turns_name : (v w : List ℕ) → Turns v w → is_identifier v ≡ true → v ≡ w
   turns_name v w h i = grind (arith, common_steps, least_no_name)
@@ -143,25 +140,15 @@ module _ (t u : List Argument) (h : ChoosesNumbers t u) where
   unfolding name_has_u
   name_sign n = end_sign (resolve t n) (resolve u n) (ends n)
 
-  defined_by : (e f : Option Entry) → Chooses e f → defined_value_by f ≡ defined_value_by e
-  defined_by e _ same = refl
-  defined_by _ _ (number p) = refl
+  -- Both entries say the same but for the value.
+  entry_alike : (e f : Option Entry) → Chooses e f →
+      (defined_value_by f ≡ defined_value_by e) × (is_some f ≡ is_some e) × (undefined_by f ≡ undefined_by e) × (ifdef_by f ≡ ifdef_by e)
+  entry_alike e _ same = (refl, refl, refl, refl)
+  entry_alike _ _ (number p) = (refl, refl, refl, refl)
 
   defined_alike : (n : List ℕ) → defined_value u n ≡ defined_value t n
   unfolding defined_value
-  defined_alike n = defined_by (entry_in t n) (entry_in u n) (h n)
-
-  listed_by : (e f : Option Entry) → Chooses e f → is_some f ≡ is_some e
-  listed_by e _ same = refl
-  listed_by _ _ (number p) = refl
-
-  undefined_alike : (e f : Option Entry) → Chooses e f → undefined_by f ≡ undefined_by e
-  undefined_alike e _ same = refl
-  undefined_alike _ _ (number p) = refl
-
-  ifdef_alike : (e f : Option Entry) → Chooses e f → ifdef_by f ≡ ifdef_by e
-  ifdef_alike e _ same = refl
-  ifdef_alike _ _ (number p) = refl
+  defined_alike n = (entry_alike (entry_in t n) (entry_in u n) (h n)).0
 
   -- 3. Expressions.
 
@@ -184,7 +171,7 @@ module _ (t u : List Argument) (h : ChoosesNumbers t u) where
   cond_by a b r n = grind (arith, int_lt)
 
   tree_alike : (e : Expression) (r : Rules) → tree_cond e t r ≢ Unknown → tree_cond e u r ≡ tree_cond e t r
-  tree_alike e r n = grind (arith, undefined_alike, listed_by, cond_by, value_refines)
+  tree_alike e r n = grind (arith, entry_alike, cond_by, value_refines)
 
   tree_if_alike : (o : Option Expression) (r : Rules) → tree_cond_if o t r ≢ Unknown → tree_cond_if o u r ≡ tree_cond_if o t r
   tree_if_alike o r n = grind (arith, tree_alike)
@@ -195,4 +182,4 @@ module _ (t u : List Argument) (h : ChoosesNumbers t u) where
 
   -- A decided directive is decided alike for each number.
   pub condition_alike : (k : Kind) (text : List ℕ) (r : Rules) → (condition_of k text t r).cond ≢ Unknown → condition_of k text u r ≡ condition_of k text t r
-  condition_alike k text r n = grind (arith, text_alike, ifdef_alike)
+  condition_alike k text r n = grind (arith, text_alike, entry_alike)

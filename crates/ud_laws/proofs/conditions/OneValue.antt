@@ -31,14 +31,8 @@ one_value of_name of_name = refl
 one_value of_defined of_defined = refl
 one_value (of_unary {o = o} {c = c} a g) (of_unary b h) = grind (arith, (subst (λ n. GivesUnary o n c) (one_value a b) g), h)
 one_value (of_binary a b g) (of_binary f k h) = grind (arith, one_value b k, one_value a f)
-one_value (of_binary {x = x} {y = y} {c = c} a b g) (of_and_left f z) = absurd (no_and x y c g)
-one_value (of_binary {x = x} {y = y} {c = c} a b g) (of_and_both f n k t) = absurd (no_and x y c g)
-one_value (of_binary {x = x} {y = y} {c = c} a b g) (of_or_left f n) = absurd (no_or x y c g)
-one_value (of_binary {x = x} {y = y} {c = c} a b g) (of_or_both f z k t) = absurd (no_or x y c g)
-one_value (of_and_left f z) (of_binary {x = x} {y = y} {c = c} a b g) = absurd (no_and x y c g)
-one_value (of_and_both f n k t) (of_binary {x = x} {y = y} {c = c} a b g) = absurd (no_and x y c g)
-one_value (of_or_left f n) (of_binary {x = x} {y = y} {c = c} a b g) = absurd (no_or x y c g)
-one_value (of_or_both f z k t) (of_binary {x = x} {y = y} {c = c} a b g) = absurd (no_or x y c g)
+one_value (of_binary a b g) h = grind (arith, no_and, no_or)
+one_value h (of_binary a b g) = grind (arith, no_and, no_or)
 one_value (of_and_left a z) (of_and_left b w) = refl
 one_value (of_and_left {x = x} a z) (of_and_both {x = y} b n k t) = absurd (n (zero_alike x y (one_value a b) z))
 one_value (of_and_both {x = x} a n k t) (of_and_left {x = y} b z) = absurd (n (zero_alike y x (sym (one_value a b)) z))

@@ -1,7 +1,7 @@
 -- The lines of a text under `-n` and `-b`, counted from the first to the last.
 use Rattle.std.proofs.Common.{◌≡◌, ℕ, suc, ◌+◌, ◌≤◌, List, [], ◌∷◌, ◌++◌, length, map, Bool, true, false, ◌||◌, Option, refl, sym, ◌∙◌, ap, subst, arith}
 use Rattle.std.specs.List.{concat}
-use Rattle.std.proofs.lemmas.List.{map-append}
+use Rattle.std.proofs.lemmas.List.{map-append, length-map}
 use Rattle.ud_model.specs.text.Lines.{Line, lines_of, numbered_from, AreFormed}
 use Rattle.ud_model.specs.text.Scans.{Reading}
 use Rattle.ud_model.specs.sections.Tree.{Item, Tree, lines}
@@ -48,10 +48,6 @@ unfolding InOrder
 order_last k [] l h = (tt, h.0 ∙ omega arith)
 order_last k (j ∷ ls) l h = let r : InOrder (suc k) ls × (l.number ≡ suc k + length ls) = order_last (suc k) ls l h.1 in ((h.0, r.0), r.1 ∙ omega arith)
 
-order_map : (xs : List (Item Reading)) → length (map line_of xs) ≡ length xs
-order_map [] = refl
-order_map (x ∷ xs) = ap (λ (k : ℕ). suc k) (order_map xs)
-
 module _ (o : Options) (p : IsPlain o) (b n : Bool) (some : (b || n) ≡ true) (padded : o.settings.unpadded ≡ false) where
   abbrev The : List (Item Reading) → Tree Reading → Type 0
   The xs t = State o (the_mode o) b n some padded xs t
@@ -66,7 +62,7 @@ module _ (o : Options) (p : IsPlain o) (b n : Bool) (some : (b || n) ≡ true) (
       let c = order_last 1 (map line_of xs) l (subst (InOrder 1) (lines_with_next o xs t l) i) in
       let same : next_item o xs t l ≡ item_of o (read_after xs (the_mode o) l) = next_is o p xs t l s in
       subst (λ (x : Item Reading). The (xs ++ x ∷ []) u) (sym same)
-      (next_state o (the_mode o) b n some padded xs t (sound_lines s) (inside s k.0 c.0) l u (c.1 ∙ ap (λ (d : ℕ). 1 + d) (order_map xs) ∙ omega arith) (grind (arith, line_of-next_item))
+      (next_state o (the_mode o) b n some padded xs t (sound_lines s) (inside s k.0 c.0) l u (c.1 ∙ ap (λ (d : ℕ). 1 + d) (length-map xs line_of) ∙ omega arith) (grind (arith, line_of-next_item))
       (subst (λ (x : Item Reading). lines u ≡ xs ++ x ∷ []) same e) (subst (λ (x : Item Reading). NoneHolds xs x cases) same w) k.1.0.1 k.1.0.0)
 
   to_the_end : {xs : List (Item Reading)} {t : Tree Reading} → AreFaultless o xs t → AllButLast (map line_of xs) → InOrder 1 (map line_of xs) → End xs t
@@ -76,7 +72,7 @@ module _ (o : Options) (p : IsPlain o) (b n : Bool) (some : (b || n) ≡ true) (
       let c = order_last 1 (map line_of xs) l (subst (InOrder 1) (lines_with_next o xs t l) i) in
       let same : next_item o xs t l ≡ item_of o (read_after xs (the_mode o) l) = next_is o p xs t l s in
       subst (λ (x : Item Reading). End (xs ++ x ∷ []) u) (sym same)
-      (next_done o (the_mode o) b n some padded xs t (sound_lines s) (inside s k.0 c.0) l u (c.1 ∙ ap (λ (d : ℕ). 1 + d) (order_map xs) ∙ omega arith) (grind (arith, line_of-next_item))
+      (next_done o (the_mode o) b n some padded xs t (sound_lines s) (inside s k.0 c.0) l u (c.1 ∙ ap (λ (d : ℕ). 1 + d) (length-map xs line_of) ∙ omega arith) (grind (arith, line_of-next_item))
       (subst (λ (x : Item Reading). lines u ≡ xs ++ x ∷ []) same e) (subst (λ (x : Item Reading). NoneHolds xs x cases) same w) k.1)
 
 -- Readings in one mode are those of their lines.

@@ -113,17 +113,23 @@ module _ {L : Type 0} where
   Leaves gs (ended es l ms (Some k)) = (all : List Cond) → gives_way all ≡ false → Left all gs (groups_of (otherwise es l ms)) (endif_line k ∷ [])
 
   -- One more group is kept.
-  one_kept : (all : List Cond) (gs : List (Group L)) (hs : List (Group (Edited L))) (g : Group L) (h : Group (Edited L)) →
-      Left all gs hs [] → is_kept_group g ≡ true → left_of all g ≡ h.opener ∷ [] → ArePruned g.nodes h.nodes →
-      Left all (gs ++ g ∷ []) (hs ++ h ∷ []) []
-  one_kept all gs hs g h l e o p = grind (arith, kept_both, others_then, other_kept, with_this,
-      no_groups)
+  one_kept : (all cs : List Cond) (st : Stage) → gives_way all ≡ false → stage cs ≡ st →
+      (part : Part) (c : Cond) (x : Item L) (ns : Nodes L) → kept_at st c ≡ true →
+      way_at (next_stage st c) ≡ false → (k : Group (Edited L)) →
+      kept_line (verdict_at st part c) x ≡ k.opener ∷ [] → ArePruned ns k.nodes →
+      {gs : List (Group L)} {hs : List (Group (Edited L))} → Left all gs hs [] →
+      Left all (gs ++ group part cs c x ns ∷ []) (hs ++ k ∷ []) []
+  one_kept all cs st stays s part c x ns e w k o p h =
+      grind (arith, kept_both, others_then, other_kept, with_this, no_groups, kept_on, verdict_on)
 
   -- One more group isn't kept.
-  one_gone : (all : List Cond) (gs : List (Group L)) (hs : List (Group (Edited L))) (g : Group L)
-      (ends m : List (Item (Edited L))) → Left all gs hs ends → is_kept_group g ≡ false → left_of all g ≡ m →
-      Left all (gs ++ g ∷ []) hs (ends ++ m)
-  one_gone all gs hs g ends m l e o = grind (arith, kept_longer, others_then)
+  one_gone : (all cs : List Cond) (st : Stage) → gives_way all ≡ false → stage cs ≡ st →
+      (part : Part) (c : Cond) (x : Item L) (ns : Nodes L) → kept_at st c ≡ false →
+      way_at (next_stage st c) ≡ false → {gs : List (Group L)} {hs : List (Group (Edited L))}
+      {ends : List (Item (Edited L))} → Left all gs hs ends →
+      Left all (gs ++ group part cs c x ns ∷ []) hs (ends ++ kept_line (verdict_at st part c) x)
+  one_gone all cs st stays s part c x ns e w h =
+      grind (arith, kept_longer, others_then, other_gone, kept_on, verdict_on)
 
   start_leaves : (part : Part) (x : Item L) (o : Opener L) → kept_line (first_kept_verdict part) x ≡ if_line (edited_opener (first_kept_verdict part) o) ∷ [] →
       (cs : List Cond) (gs : List (Group L)) → stage cs ≡ leading → Leaves gs none_kept → (c : Cond) (ns : Nodes L) (ps : Nodes (Edited L)) → ArePruned ns ps →
@@ -132,44 +138,39 @@ module _ {L : Type 0} where
   start_leaves part x o e cs gs s h No ns ps p = grind (arith, each_both, kept_on, leading,
       others_then, other_gone, false_verdict)
   start_leaves part x o e cs gs s h Unknown ns ps p =
-      λ all stays. one_kept all gs [] (group part cs Unknown x ns) (group an_if [] o.cond (if_line (edited_opener (first_kept_verdict part) o)) ps)
+      λ all stays. one_kept all cs leading stays s part Unknown x ns refl refl
+      (group an_if [] o.cond (if_line (edited_opener (first_kept_verdict part) o)) ps) e p
       (record { are = none_are all gs h.0; others = h.1 all stays })
-      (kept_on cs Unknown leading s) (ap (λ (v : Verdict). kept_line v x) (verdict_on all cs leading stays s part Unknown refl) ∙ e) p
 
   elif_leaves : (cs : List Cond) (gs : List (Group L)) (left : KeptGroups L) → stage cs ≡ stage_of left → Leaves gs left → (o : Opener L) (c : Cond) (ns : Nodes L) (ps : Nodes (Edited L)) →
       ArePruned ns ps → Leaves (gs ++ group an_elif cs c (elif_line o) ns ∷ []) (with_group left an_elif o c ps)
   elif_leaves cs gs none_kept s h o c ns ps p = start_leaves an_elif (elif_line o) o refl cs gs s h c ns ps p
   elif_leaves cs gs (replaced ms) s h o c ns ps p = first_stays (group an_elif cs c (elif_line o) ns ∷ []) h (kept_on cs c given s, tt)
   elif_leaves cs gs (kept_groups es) s h o Yes ns ps p =
-      λ all stays. one_kept all gs (groups_of_elifs es) (group an_elif cs Yes (elif_line o) ns) (group an_else (conds_of_elifs es) Yes (else_line (edited ToElse o.line)) ps) (h all stays)
-      (kept_on cs Yes going s) (ap (λ (v : Verdict). kept_line v (elif_line o)) (verdict_on all cs going stays s an_elif Yes refl)) p
+      λ all stays. one_kept all cs going stays s an_elif Yes (elif_line o) ns refl refl
+      (group an_else (conds_of_elifs es) Yes (else_line (edited ToElse o.line)) ps) refl p (h all stays)
   elif_leaves cs gs (kept_groups es) s h o No ns ps p =
-      λ all stays. one_gone all gs (groups_of_elifs es) (group an_elif cs No (elif_line o) ns) [] [] (h all stays)
-      (kept_on cs No going s) (ap (λ (v : Verdict). kept_line v (elif_line o)) (verdict_on all cs going stays s an_elif No refl))
+      λ all stays. one_gone all cs going stays s an_elif No (elif_line o) ns refl refl (h all stays)
   elif_leaves cs gs (kept_groups es) s h o Unknown ns ps p =
-      λ all stays. one_kept all gs (groups_of_elifs es) (group an_elif cs Unknown (elif_line o) ns)
-      (group an_elif (conds_of_elifs es) o.cond (elif_line (edited_opener Keep o)) ps) (h all stays)
-      (kept_on cs Unknown going s) (ap (λ (v : Verdict). kept_line v (elif_line o)) (verdict_on all cs going stays s an_elif Unknown refl)) p
+      λ all stays. one_kept all cs going stays s an_elif Unknown (elif_line o) ns refl refl
+      (group an_elif (conds_of_elifs es) o.cond (elif_line (edited_opener Keep o)) ps) refl p
+      (h all stays)
   elif_leaves cs gs (ended es l ms None) s h o c ns ps p =
-      λ all stays. one_gone all gs (groups_of (otherwise es l ms)) (group an_elif cs c (elif_line o) ns) [] (endif_line (edited ToEndif o.line) ∷ []) (h all stays)
-      (kept_on cs c at_true s) (ap (λ (v : Verdict). kept_line v (elif_line o)) (verdict_on all cs at_true stays s an_elif c refl))
+      λ all stays. one_gone all cs at_true stays s an_elif c (elif_line o) ns refl refl (h all stays)
   elif_leaves cs gs (ended es l ms (Some k)) s h o c ns ps p =
-      λ all stays. one_gone all gs (groups_of (otherwise es l ms)) (group an_elif cs c (elif_line o) ns) (endif_line k ∷ []) [] (h all stays)
-      (kept_on cs c past s) (ap (λ (v : Verdict). kept_line v (elif_line o)) (verdict_on all cs past stays s an_elif c refl))
+      λ all stays. one_gone all cs past stays s an_elif c (elif_line o) ns refl refl (h all stays)
 
   else_leaves : (cs : List Cond) (gs : List (Group L)) (left : KeptGroups L) → stage cs ≡ stage_of left → Leaves gs left → (l : L) (ns : Nodes L) (ps : Nodes (Edited L)) →
       ArePruned ns ps → Leaves (gs ++ group an_else cs Yes (else_line l) ns ∷ []) (with_else left l ps)
   else_leaves cs gs none_kept s h l ns ps p = none_then gs (group an_else cs Yes (else_line l) ns ∷ []) ps h.0 (of_this (kept_on cs Yes leading s) p)
   else_leaves cs gs (replaced ms) s h l ns ps p = first_stays (group an_else cs Yes (else_line l) ns ∷ []) h (kept_on cs Yes given s, tt)
   else_leaves cs gs (kept_groups es) s h l ns ps p =
-      λ all stays. one_kept all gs (groups_of_elifs es) (group an_else cs Yes (else_line l) ns) (group an_else (conds_of_elifs es) Yes (else_line (edited Keep l)) ps) (h all stays)
-      (kept_on cs Yes going s) (ap (λ (v : Verdict). kept_line v (else_line l)) (verdict_on all cs going stays s an_else Yes refl)) p
+      λ all stays. one_kept all cs going stays s an_else Yes (else_line l) ns refl refl
+      (group an_else (conds_of_elifs es) Yes (else_line (edited Keep l)) ps) refl p (h all stays)
   else_leaves cs gs (ended es k ms None) s h l ns ps p =
-      λ all stays. one_gone all gs (groups_of (otherwise es k ms)) (group an_else cs Yes (else_line l) ns) [] (endif_line (edited ToEndif l) ∷ []) (h all stays)
-      (kept_on cs Yes at_true s) (ap (λ (v : Verdict). kept_line v (else_line l)) (verdict_on all cs at_true stays s an_else Yes refl))
+      λ all stays. one_gone all cs at_true stays s an_else Yes (else_line l) ns refl refl (h all stays)
   else_leaves cs gs (ended es k ms (Some j)) s h l ns ps p =
-      λ all stays. one_gone all gs (groups_of (otherwise es k ms)) (group an_else cs Yes (else_line l) ns) (endif_line j ∷ []) [] (h all stays)
-      (kept_on cs Yes past s) (ap (λ (v : Verdict). kept_line v (else_line l)) (verdict_on all cs past stays s an_else Yes refl))
+      λ all stays. one_gone all cs past stays s an_else Yes (else_line l) ns refl refl (h all stays)
 
   -- The section's `#endif`, by the stage at its end.
   is_endif : (gs : Groups L) (e : L) (k : Edited L) (ends m : List (Item (Edited L))) (v : Verdict) →

@@ -26,7 +26,7 @@ use Rattle.ud_simplified.proofs.SimplifiedReadings.{IsLeft, ReadingSimplified, r
 use Rattle.std.specs.List.{list_any}
 use Rattle.ud_simplified.specs.Sublists.{IsSublist, nothing, without, with_same}
 use Rattle.ud_model.specs.aids.ReadAs.{read_in, read_as}
-use Rattle.ud_laws.specs.output.LeftOperands.{IsReduced, IsSimplified, joins_line, not_understood, has_quote, decided, rest_decided, rest_misread, HasNoUnit}
+use Rattle.ud_laws.specs.output.LeftOperands.{IsReduced, IsSimplified, joins_line, not_understood, has_quote, decided, rest_decided, rest_misread, line_misread, HasNoUnit}
 use Rattle.ud_model.specs.declared.kind.Kind.{Kind}
 use Rattle.ud_model.specs.declared.kind.Test.TheVariants.{Nonzero, Nothing}
 use Rattle.ud_model.specs.declared.kind.Mode.TheVariants.{C}
@@ -217,29 +217,22 @@ module _ (table : List Argument) (rules : Rules) where
               let f = is_some (sym w ∙ ap (λ (cs : List Cell). expression_of (map shown cs)) (sym b ∙ a ∙ cells_are) ∙ tree_is) in
               fixed_reduced table rules e f (and_parts (is_unknown (residual table rules e).cond) (is_unknown (tree_cond (residual table rules e).tree table rules)) u).0
 
-          by_line : is_read table rules e rest ≡ true → TrueOrFalse (is_read_alone table rules r.line d) → Reason
-          by_line q h = grind (arith, reduced)
+        by_text : may_go table rules e cells ≡ true → is_undecided table rules (residual table rules e) ≡ true →
+            (m z : Bool) → is_read table rules e rest ≡ m → is_read_alone table rules r.line d ≡ z → Reason
+        by_text g u false z a b = inl (rest_misread e p a)
+        by_text g u true false a b = inl (line_misread b)
+        by_text g u true true a b = inr (e, p, reduced g u a b)
 
-          by_rest : TrueOrFalse (is_read table rules e rest) → Reason
-          by_rest (inl q) = by_line q (cases_Bool (is_read_alone table rules r.line d))
-          by_rest (inr q) = inl (rest_misread e p q)
-
-        by_quote : is_unknown (tree_cond e table rules) ≡ true → is_undecided table rules (residual table rules e) ≡ true →
-            TrueOrFalse (list_any is_literal cells) → Reason
-        by_quote k u (inl q) = inl (has_quote q)
-        by_quote k u (inr q) = search (rules, by_rest, and_from, not_from_false, cases_Bool)
-
-        by_residual : is_unknown (tree_cond e table rules) ≡ true → TrueOrFalse (is_undecided table rules (residual table rules e)) → Reason
-        by_residual k (inl u) = by_quote k u (cases_Bool (list_any is_literal cells))
-        by_residual k (inr u) = inl (rest_decided e p u)
-
-        by_cond : TrueOrFalse (is_unknown (tree_cond e table rules)) → Reason
-        by_cond (inl k) = by_residual k (cases_Bool (is_undecided table rules (residual table rules e)))
-        by_cond (inr k) = inl (decided e p k)
+        by_cond : (k u q : Bool) → is_unknown (tree_cond e table rules) ≡ k → is_undecided table rules (residual table rules e) ≡ u →
+            list_any is_literal cells ≡ q → Reason
+        by_cond false u q a b c = inl (decided e p a)
+        by_cond true false q a b c = inl (rest_decided e p b)
+        by_cond true true true a b c = inl (has_quote c)
+        by_cond true true false a b c = by_text (rw (a, b, c) refl) b _ _ refl refl
 
       by_tree : (expression_of d.after ≡ None) ⊎ ((e : Expression) × (expression_of d.after ≡ Some e)) → Reason
       by_tree (inl n) = inl (not_understood n)
-      by_tree (inr (e, p)) = by_cond e p (cases_Bool (is_unknown (tree_cond e table rules)))
+      by_tree (inr (e, p)) = by_cond e p _ _ _ refl refl refl
 
     reason : Reason
     reason = by (cases_Bool (is_lone r.scan r.line))
