@@ -84,11 +84,8 @@ module _ (o : Options) (m : Mode) (xs : List (Item Reading)) (x : Item Reading) 
       p : List ℕ
       p = piece_by o.settings.unpadded mark.verdict (keyword_in (content_of (reading_of x).scan)) (line_of x)
 
-      no_left : (v : Verdict) → v ≡ Remove → IsLeft v → ⊥
-      no_left v e h = subst IsLeft e h
-
       by_one : (mark.verdict ≡ Remove) ⊎ LeftOne o.settings.unpadded mark.verdict x → zs ≡ with_line o m ys (line_after (bytes_of ys) p)
-      by_one (inl e) = absurd (no_left mark.verdict e h)
+      by_one (inl e) = absurd (subst IsLeft e h)
       by_one (inr (y, is, bytes, left)) =
           read_once o m zs (with_line o m ys (line_after (bytes_of ys) p)) b.read (one_read ys a.read (line_after (bytes_of ys) p))
           (lines_next ∙ ap (λ (ws : List (Item (Edited Reading))). numbered_from 1 (bytes_of ys ++ map (left_piece o.settings.unpadded) ws)) is

@@ -183,10 +183,6 @@ module _ (o : Options) where
   abbrev with_k : Options
   with_k = under_strict o
 
-  same_reading : (xs ys : List (Item Reading)) (t u : Tree Reading) (l k : Line) → LooserTree t u → map reading_of xs ≡ map reading_of ys → l ≡ k →
-      read_after xs (mode_after with_k t) l ≡ read_after ys (mode_after o u) k
-  same_reading xs ys t u l k s e f = rw (loose_ignoring s, e, f)
-
   one_alongside : (xs ys : List (Item Reading)) (t t2 u u2 : Tree Reading) (r s : Reading) → AreFaultless with_k xs t → AreFaultless o ys u → Alongside xs t ys u → r ≡ s →
       lines t2 ≡ xs ++ item_of with_k r ∷ [] → lines u2 ≡ ys ++ item_of o s ∷ [] → Alongside (xs ++ item_of with_k r ∷ []) t2 (ys ++ item_of o s ∷ []) u2
   one_alongside xs ys t t2 u u2 r s a b k e f g = let x : Item Reading = item_of with_k r in
@@ -213,7 +209,7 @@ module _ (o : Options) where
       let s : (map line_of xs ≡ map line_of ys) × (l ≡ k) =
       same_from_push (map line_of xs) (map line_of ys) l k (sym (lines_with_next with_k xs t l) ∙ e ∙ lines_with_next o ys u k) in
       let z : Alongside xs t ys u = alongside a b s.0 in
-      one_alongside xs ys t w u v (read_after xs (mode_after with_k t) l) (read_after ys (mode_after o u) k) a b z (same_reading xs ys t u l k z.sections z.readings s.1) c d
+      one_alongside xs ys t w u v (read_after xs (mode_after with_k t) l) (read_after ys (mode_after o u) k) a b z (rw (loose_ignoring z.sections, z.readings, s.1)) c d
 
 -- 6. One run stops before the other.
 
