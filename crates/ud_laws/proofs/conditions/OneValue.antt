@@ -27,18 +27,15 @@ truths_alike x y c d e p q = one_truth (IsZero y → ⊥) c d (subst (λ n. IsTr
 -- An expression has one value at most.
 pub one_value : {e : Expression} {m : Choice e} {c : Number} → HasValue e m c → {d : Number} → HasValue e m d → c ≡ d
 one_value (of_constant {w = w} {c = c} p) (of_constant {c = d} q) = one_constant w c d p q
-one_value of_name of_name = refl
-one_value of_defined of_defined = refl
 one_value (of_unary {o = o} {c = c} a g) (of_unary b h) = grind (arith, (subst (λ n. GivesUnary o n c) (one_value a b) g), h)
 one_value (of_binary a b g) (of_binary f k h) = grind (arith, one_value b k, one_value a f)
 one_value (of_binary a b g) h = grind (arith, no_and, no_or)
 one_value h (of_binary a b g) = grind (arith, no_and, no_or)
-one_value (of_and_left a z) (of_and_left b w) = refl
 one_value (of_and_left {x = x} a z) (of_and_both {x = y} b n k t) = absurd (n (zero_alike x y (one_value a b) z))
 one_value (of_and_both {x = x} a n k t) (of_and_left {x = y} b z) = absurd (n (zero_alike y x (sym (one_value a b)) z))
 one_value (of_and_both {y = y} {c = c} a n k t) (of_and_both {y = v} {c = d} b m l s) = truths_alike y v c d (one_value k l) t s
-one_value (of_or_left a n) (of_or_left b m) = refl
 one_value (of_or_left {x = x} a n) (of_or_both {x = y} b z k t) = absurd (n (zero_alike y x (sym (one_value a b)) z))
 one_value (of_or_both {x = x} a z k t) (of_or_left {x = y} b n) = absurd (n (zero_alike x y (one_value a b) z))
 one_value (of_or_both {y = y} {c = c} a z k t) (of_or_both {y = v} {c = d} b w l s) = truths_alike y v c d (one_value k l) t s
 one_value (of_parens a) (of_parens b) = one_value a b
+one_value _ _ = refl

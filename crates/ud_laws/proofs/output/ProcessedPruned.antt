@@ -94,13 +94,12 @@ module _ {S F L : Type 0} (p : Preprocessor S F L) (files : F → Nodes L) (outp
   now_true : (left : KeptGroups L) (part : Part) (o : Opener L) (c : Cond) (ps : Nodes (Edited L)) (s t u v : S) → LeftNone left s t → AgreesAs c true t u → p.decides t o true u →
       Processes out outputs ps u v → LeftTrue (with_group left part o c ps) s v
   now_true none_kept part o Yes ps s t u v h a d g = from_state ps s u v (h ∙ a.1) g
-  now_true none_kept part o No ps s t u v h a d g = let e : true ≡ false = a.0 in cc
   now_true none_kept part o Unknown ps s t u v h a d g = first_true (subst (λ (x : S). p.decides x o true u) (sym h) d) g
   now_true (replaced ms) part o c ps s t u v h a d g = absurd h
   now_true (kept_groups es) part o Yes ps s t u v h a d g = inr (t, h, from_state ps t u v a.1 g)
-  now_true (kept_groups es) part o No ps s t u v h a d g = let e : true ≡ false = a.0 in cc
   now_true (kept_groups es) part o Unknown ps s t u v h a d g = elif_true h d g
   now_true (ended es l ms k) part o c ps s t u v h a d g = absurd h
+  now_true _ part o No ps s t u v h a d g = let e : true ≡ false = a.0 in cc
 
   true_alone : (left : KeptGroups L) (s t : S) → LeftTrue left s t → LeftOne left s t
   true_alone left s t h = grind (arith, absurd, true_group, true_before_else, else_group)

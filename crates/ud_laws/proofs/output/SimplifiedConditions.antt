@@ -33,8 +33,7 @@ module _ (table : List Argument) (rules : Rules) where
   values_alike : (j k : Kind) → SameKind j k → ((test_of j ≡ Nonzero) × (test_of k ≡ Nonzero) × (is_closing j ≡ false)) ⊎ ((test_of j ≡ Nothing) × (test_of k ≡ Nothing))
   values_alike j k both_if = inl (refl, refl, refl)
   values_alike j k both_elif = inl (refl, refl, refl)
-  values_alike j k both_else = inr (refl, refl)
-  values_alike j k both_endif = inr (refl, refl)
+  values_alike j k _ = inr (refl, refl)
 
   -- The edited line has the rest of the condition.
   pub line_simplified : (l k : Reading) (d : Directive) → IsEdited table rules l.line l.scan d → l.scan ≡ scan_after [] C l.line →

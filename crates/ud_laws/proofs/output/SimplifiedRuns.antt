@@ -141,8 +141,7 @@ module _ (o : Options) where
       IsOpen (directive_item r (role_of j) d) → IsOpen (directive_item s (role_of k) e)
   open_by r s d e both_if f g = f refl refl refl g
   open_by r s d e both_elif f g = f refl refl refl g
-  open_by r s d e both_else f g = tt
-  open_by r s d e both_endif f g = tt
+  open_by r s d e _ f g = tt
 
   open_left : (r s : Reading) → Simplified r s → IsOpen (item_of o r) → IsOpen (item_of o s)
   open_left r s h g = grind (arith, reading_stays, reading_edited, open_by, still_unknown)
