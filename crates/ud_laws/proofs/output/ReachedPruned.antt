@@ -33,14 +33,11 @@ module _ {L : Type 0} (w : World L) (P : L → Type 0) (Q : Edited L → Type 0)
   group_reached : (s : Option (List L)) (left : KeptGroups L) (part : Part) (o : Opener L) (c : Cond) (ps : Nodes (Edited L)) → Chosen w s left → LeftReached left →
       (s ≡ None → AgreesWith w c o.line) → (s ≡ None → Is o × (w o.line ≡ true → Reached ps)) → LeftReached (with_group left part o c ps)
   group_reached s none_kept part o Yes ps h r a n = (n h).1 (a h)
-  group_reached s none_kept part o No ps h r a n = tt
   group_reached s none_kept part o Unknown ps h r a n = (stays part o.line (n h).0, (n h).1)
-  group_reached s (replaced ms) part o c ps h r a n = r
   group_reached s (kept_groups es) part o Yes ps h r a n = (r, λ e. (n (none_before s es h e)).1 (a (none_before s es h e)))
-  group_reached s (kept_groups es) part o No ps h r a n = r
   group_reached s (kept_groups es) part o Unknown ps h r a n = (r, λ e. (stays an_if o.line (n (none_before s es h e)).0, (n (none_before s es h e)).1))
   group_reached s (ended es l ms None) part o c ps h r a n = r
-  group_reached s (ended es l ms (Some k)) part o c ps h r a n = r
+  group_reached s left part o c ps h r a n = r
 
   else_reached : (s : Option (List L)) (left : KeptGroups L) (l : L) (ps : Nodes (Edited L)) → Chosen w s left →
       LeftReached left → (s ≡ None → Reached ps) → LeftReached (with_else left l ps)

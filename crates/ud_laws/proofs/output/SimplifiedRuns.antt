@@ -223,9 +223,6 @@ module _ (o : Options) (p : IsPlainC o) (input : List ℕ) {r : Outcome} (d : Ha
     calm_now : ends_in_comment i.items ≡ false → ends_in_comment j.items ≡ false
     calm_now h = ap ends_in_comment (sym zs) ∙ all_calm o both_read (ap ends_in_comment (sym ys) ∙ h)
 
-    low_now : height_of_nodes us ≤ MAX_DEPTH → height_of_nodes ss ≤ MAX_DEPTH
-    low_now h = subst (λ (m : ℕ). m ≤ MAX_DEPTH) (sym (height_left o like)) h
-
     undecided_now : IsUndecided us → IsUndecided ss
     undecided_now h =
         let before = subst (Each IsOpen) (read_lines i.read ∙ ys) (to_items Any IsUnknown us h) in
@@ -234,7 +231,7 @@ module _ (o : Options) (p : IsPlainC o) (input : List ℕ) {r : Outcome} (d : Ha
     copies_by : Each IsUncut i.items → Each IsFew i.items → height_of_nodes us ≤ MAX_DEPTH → ends_in_comment i.items ≡ false → IsUndecided us →
         HasOutcome o left_text (record { output = left_text; fault = None; differs = false })
     copies_by a b c e u = grind (arith, runs_again, sound_again, uncut_now, few_now, short_now,
-        low_now, undecided_stay, undecided_now, calm_now)
+        height_left, undecided_stay, undecided_now, calm_now)
 
   copies_with : (us : Nodes Reading) (i : IsTreeOf o r.output (closed us)) → Each IsUncut i.items → Each IsFew i.items →
       height_of_nodes us ≤ MAX_DEPTH → ends_in_comment i.items ≡ false → IsUndecided us →
