@@ -2,7 +2,7 @@
 use Rattle.std.proofs.Common.{◌≡◌, ℕ, List, refl, sym, subst, arith}
 use Rattle.ud_model.specs.conditions.Expressions.{Expression}
 use Rattle.ud_model.specs.laws.CValues.{Number, IsTruth, IsZero, Gives, GivesUnary, IsConstantValue}
-use Rattle.ud_laws.specs.conditions.Choices.{Choice, HasValue, of_constant, of_name, of_defined, of_unary, of_binary, of_and_left, of_and_both, of_or_left, of_or_both, of_parens}
+use Rattle.ud_laws.specs.conditions.Choices.{Choice, HasValue, of_constant, of_unary, of_binary, of_and_left, of_and_both, of_or_left, of_or_both, of_parens}
 use Rattle.ud_model.specs.declared.operator.Operator.TheVariants.{Or, And}
 
 one_truth : (Holds : Type 0) (c d : Number) → IsTruth Holds c → IsTruth Holds d → c ≡ d

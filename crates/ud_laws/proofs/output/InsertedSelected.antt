@@ -1,19 +1,17 @@
 -- The selected lines of nodes with inserted lines are the same, with inserted ones.
-use Rattle.std.proofs.Common.{◌≡◌, ℕ, suc, List, [], ◌∷◌, ◌++◌, length, map, Bool, Option, Some, None, refl, ap, subst, append-nil, length-append, arith}
+use Rattle.std.proofs.Common.{◌≡◌, ℕ, suc, List, [], ◌∷◌, ◌++◌, length, map, Bool, Option, Some, None, refl, ap, subst, append-nil, arith}
+use Rattle.std.proofs.lemmas.List.{map-append, length-map}
 use Rattle.ud_model.specs.text.Scans.{Reading}
 use Rattle.ud_model.specs.sections.Tree.{Nodes, Groups, Elifs}
 use Rattle.ud_model.specs.laws.Worlds.{World, selected, selected_groups, selected_elifs, or_else, lines_or, where_true, openers, openers_of_groups, openers_of_elifs}
 use Rattle.ud_laws.specs.output.InsertedNodes.{NodesWithInserted, no_nodes, same_text, inserted_text, same_section, GroupsWithInserted, all_conditional, last_otherwise, ElifsWithInserted, same_first, same_elif, LinesWithInserted, no_lines, same_line, inserted_line}
+use Rattle.ud_model.proofs.output.SameShape.{parts}
+use Rattle.ud_laws.proofs.output.CSelected.{many_both}
 
 -- The truths of as many openers as `xs`, part by part.
 apart : (v w : World Reading) (xs bs cs ds : List Reading) → length xs ≡ length cs → map v (xs ++ bs) ≡ map w (cs ++ ds) →
     (map v xs ≡ map w cs) × (map v bs ≡ map w ds)
-apart v w [] bs [] ds l e = (refl, e)
-apart v w (a ∷ xs) bs (c ∷ cs) ds l e = grind (arith, apart v w xs bs cs ds (omega arith) cc)
-apart v w xs bs cs ds l e = absurd (omega arith)
-
-long_both : (xs bs cs ds : List Reading) → length xs ≡ length cs → length bs ≡ length ds → length (xs ++ bs) ≡ length (cs ++ ds)
-long_both xs bs cs ds e f = let g = length-append xs bs in let h = length-append cs ds in omega arith
+apart v w xs bs cs ds l e = grind (arith, parts, map-append, length-map)
 
 module _ (IsPut : Reading → Type 0) where
   lines_both : {xs bs cs ds : List Reading} → LinesWithInserted IsPut xs bs → LinesWithInserted IsPut cs ds → LinesWithInserted IsPut (xs ++ cs) (bs ++ ds)
@@ -41,18 +39,18 @@ module _ (IsPut : Reading → Type 0) where
     long_nodes (same_text w k) = long_nodes w
     long_nodes (inserted_text w k) = long_nodes w
     long_nodes (same_section {ns = ns} {ms = ms} {gs = gs} {hs = hs} w g k) =
-        long_both (openers ms) (openers_of_groups hs) (openers ns) (openers_of_groups gs) (long_nodes w) (long_groups g)
+        many_both (openers ms) (openers_of_groups hs) (openers ns) (openers_of_groups gs) (long_nodes w) (long_groups g)
 
     long_groups : {gs hs : Groups Reading} → GroupsWithInserted IsPut gs hs → length (openers_of_groups hs) ≡ length (openers_of_groups gs)
     long_groups (all_conditional w) = long_elifs w
     long_groups (last_otherwise {es = es} {fs = fs} {ns = ns} {ms = ms} w k n) =
-        long_both (openers_of_elifs fs) (openers ms) (openers_of_elifs es) (openers ns) (long_elifs w) (long_nodes n)
+        many_both (openers_of_elifs fs) (openers ms) (openers_of_elifs es) (openers ns) (long_elifs w) (long_nodes n)
 
     long_elifs : {es fs : Elifs Reading} → ElifsWithInserted IsPut es fs → length (openers_of_elifs fs) ≡ length (openers_of_elifs es)
     long_elifs (same_first k w) = ap (λ (n : ℕ). suc n) (long_nodes w)
     long_elifs (same_elif {es = es} {fs = fs} {o = o} {p = p} {ns = ns} {ms = ms} e k w) =
-        long_both (openers_of_elifs fs ++ p.line ∷ []) (openers ms) (openers_of_elifs es ++ o.line ∷ []) (openers ns)
-        (long_both (openers_of_elifs fs) (p.line ∷ []) (openers_of_elifs es) (o.line ∷ []) (long_elifs e) refl) (long_nodes w)
+        many_both (openers_of_elifs fs ++ p.line ∷ []) (openers ms) (openers_of_elifs es ++ o.line ∷ []) (openers ns)
+        (many_both (openers_of_elifs fs) (p.line ∷ []) (openers_of_elifs es) (o.line ∷ []) (long_elifs e) refl) (long_nodes w)
 
   module _ (w v : World Reading) where
     mutual
@@ -80,7 +78,7 @@ module _ (IsPut : Reading → Type 0) where
           if_true (w o.line) (v p.line) (selected w ns) (selected v ms) a (inserted_in_selected n b)
       elifs_selected (same_elif {es = es} {fs = fs} {o = o} {p = p} {ns = ns} {ms = ms} e k n) t =
           let q = apart v w (openers_of_elifs fs ++ p.line ∷ []) (openers ms) (openers_of_elifs es ++ o.line ∷ []) (openers ns)
-          (long_both (openers_of_elifs fs) (p.line ∷ []) (openers_of_elifs es) (o.line ∷ []) (long_elifs e) refl) t in
+          (many_both (openers_of_elifs fs) (p.line ∷ []) (openers_of_elifs es) (o.line ∷ []) (long_elifs e) refl) t in
           let r = apart v w (openers_of_elifs fs) (p.line ∷ []) (openers_of_elifs es) (o.line ∷ []) (long_elifs e) q.0 in
           let l : v p.line ∷ [] ≡ w o.line ∷ [] = r.1 in
           let a : v p.line ≡ w o.line = cc in

@@ -1,5 +1,5 @@
 -- Inserted lines are text lines, so the tree stays as it is, with them.
-use Rattle.std.proofs.Common.{◌≡◌, ℕ, List, [], ◌∷◌, ◌++◌, map, inl, inr, refl, sym, ap, subst, append-nil, arith}
+use Rattle.std.proofs.Common.{◌≡◌, ℕ, List, [], ◌∷◌, ◌++◌, map, inl, inr, sym, ap, subst, append-nil, arith}
 use Rattle.std.proofs.lemmas.List.{map-append}
 use Rattle.ud_model.specs.text.Scans.{Reading}
 use Rattle.ud_model.specs.sections.Directives.{Content, text as text_content, content_of}
@@ -8,7 +8,7 @@ use Rattle.ud_model.specs.sections.Items.{Options, item_of, item_by}
 use Rattle.ud_model.specs.answer.Printing.{Judged}
 use Rattle.ud_laws.specs.output.InsertedLines.{IsPrinted, Counted, no_line, goes, blanked, counts_on, starts_anew}
 use Rattle.ud_laws.specs.output.InsertedNodes.{IsSame, IsSameOpener, IsInserted, NodesWithInserted, no_nodes, same_text, inserted_text, same_section, GroupsWithInserted, all_conditional, last_otherwise, ElifsWithInserted, same_first, same_elif}
-use Rattle.ud_model.proofs.output.WovenTrees.{Woven, TextGoes, EndifGoes, ElseGoes, IfGoes, ElifGoes, Strewn, none, same, put, strewn_both, weave_nodes}
+use Rattle.ud_model.proofs.output.WovenTrees.{Woven, Strewn, none, same, put, strewn_both, weave_nodes}
 
 -- 1. Items.
 
@@ -77,31 +77,16 @@ GroupsWithLines gs hs = GroupsWithInserted IsInserted gs hs
 abbrev ElifsWithLines : Elifs Reading → Elifs Reading → Type 0
 ElifsWithLines es fs = ElifsWithInserted IsInserted es fs
 
-text_goes : (r : Reading) (z : Item Reading) → ItemAlike (text_line r) z → TextGoes WithLines GroupsWithLines ElifsWithLines r z
-text_goes r _ (a_text {s = s} k) = (s, refl, λ ns us n. same_text n k)
-
-endif_goes : (r : Reading) (z : Item Reading) → ItemAlike (endif_line r) z → EndifGoes WithLines GroupsWithLines ElifsWithLines r z
-endif_goes r _ (an_endif {s = s} k) = (s, refl, λ ns us gs hs n g. same_section n g k)
-
-else_goes : (r : Reading) (z : Item Reading) → ItemAlike (else_line r) z → ElseGoes WithLines GroupsWithLines ElifsWithLines r z
-else_goes r _ (an_else {s = s} k) = (s, refl, λ es fs ns us e n. last_otherwise e k n)
-
-if_goes : (o : Opener Reading) (z : Item Reading) → ItemAlike (if_line o) z → IfGoes WithLines GroupsWithLines ElifsWithLines o z
-if_goes o _ (an_if {p = p} k) = (p, refl, λ ns us n. same_first k n)
-
-elif_goes : (o : Opener Reading) (z : Item Reading) → ItemAlike (elif_line o) z → ElifGoes WithLines GroupsWithLines ElifsWithLines o z
-elif_goes o _ (an_elif {p = p} k) = (p, refl, λ es fs ns us e n. same_elif e k n)
-
 -- So items with text lines inserted are nodes with text lines inserted.
 pub weave_inserted : (ns : Nodes Reading) (zs : List (Item Reading)) → Inserted (lines_of_nodes ns) zs → Woven WithLines ns zs
 weave_inserted ns zs s =
     weave_nodes ItemAlike IsInserted WithLines GroupsWithLines ElifsWithLines (record {
       nothing_goes = no_nodes;
       put_goes = λ ms us d k n. inserted_text n k;
-      text_goes = text_goes;
-      endif_goes = endif_goes;
+      text_goes = λ r z h. grind (arith, same_text);
+      endif_goes = λ r z h. grind (arith, same_section);
       groups_go = λ es fs e. all_conditional e;
-      else_goes = else_goes;
-      if_goes = if_goes;
-      elif_goes = elif_goes;
+      else_goes = λ r z h. grind (arith, last_otherwise);
+      if_goes = λ r z h. grind (arith, same_first);
+      elif_goes = λ r z h. grind (arith, same_elif);
     }) ns zs s

@@ -67,9 +67,12 @@ module _ (o : Options) (m : Mode) (ys zs : List (Item Reading)) (qs : List (List
   between_lines : LeavesOff ys in_text true false → LeavesOff zs in_text true false
   between_lines r = w.rests (w.first.joins_on ∙ sym r.joins_on)
 
+  -- Between lines in plain mode no line joins another one.
+  in_plain : (xs : List (Item Reading)) → m ≡ Plain → ReadIn o m xs → LeavesOff xs in_text true false
+  in_plain xs e r = nowhere xs (plain_run o xs (subst (λ (k : Mode). ReadIn o k xs) e r))
+
   lone_next : (n : Mode) → m ≡ n → (l : Line) → LeavesOff zs in_text true false → IsQuiet l → LeavesOff (with_line o m zs l) in_text true false
-  lone_next Plain e l a q = nowhere (with_line o m zs l)
-      (plain_run o (with_line o m zs l) (subst (λ (k : Mode). ReadIn o k (with_line o m zs l)) e (one_read zs w.read l)))
+  lone_next Plain e l a q = in_plain (with_line o m zs l) e (one_read zs w.read l)
   lone_next C e l a q =
       subst (λ (k : Mode). LeavesOff (with_line o k zs l) in_text true false) (sym e)
       (leaves_anew o zs l (ap (λ s. s.joins_after) (lone_scan zs C l a q)) (end_is_some l.ending q.end))
@@ -98,18 +101,13 @@ module _ (o : Options) (m : Mode) (ys zs : List (Item Reading)) (qs : List (List
 
   left_by : (k : Mode) → m ≡ k → ReadIn o m ys → (n : ℕ) (q : List ℕ) → ending_of q ≢ [] →
       Weave o m (with_line o m ys (line_at n q)) (with_line o m zs (line_after qs q)) (qs ++ q ∷ [])
-  left_by Plain e a n q h = let f : LeavesOff (with_line o m ys (line_at n q)) in_text true false =
-      nowhere (with_line o m ys (line_at n q))
-      (plain_run o (with_line o m ys (line_at n q)) (subst (λ (k : Mode). ReadIn o k (with_line o m ys (line_at n q))) e (one_read ys a (line_at n q)))) in
-      let g : LeavesOff (with_line o m zs (line_after qs q)) in_text true false =
-      nowhere (with_line o m zs (line_after qs q))
-      (plain_run o (with_line o m zs (line_after qs q))
-      (subst (λ (k : Mode). ReadIn o k (with_line o m zs (line_after qs q))) e (one_read zs w.read (line_after qs q)))) in
+  left_by Plain e a n q h =
+      let g = in_plain (with_line o m zs (line_after qs q)) e (one_read zs w.read (line_after qs q)) in
       record {
         place = in_text;
         white = true;
         on = false;
-        first = f;
+        first = in_plain (with_line o m ys (line_at n q)) e (one_read ys a (line_at n q));
         second = g;
         rests = λ e. g;
         read = one_read zs w.read (line_after qs q);

@@ -20,7 +20,7 @@ use Rattle.ud_model.proofs.output.PrintedPruned.{printed-pruned}
 use Rattle.ud_model.proofs.output.PrunedTree.{openers_lines}
 use Rattle.ud_model.proofs.output.SelectedPruned.{out_world, Fits, selected-pruned}
 use Rattle.ud_model.proofs.output.Undecided.{pruned_undecided}
-use Rattle.ud_laws.proofs.output.SelectedSomewhere.{Truths, text_lines_append, selected_somewhere, weaker, any_truths, one_truth, both_truths}
+use Rattle.ud_laws.proofs.output.SelectedSomewhere.{none_there, Truths, text_lines_append, selected_somewhere, weaker, any_truths, one_truth, both_truths}
 use Rattle.ud_model.proofs.output.WorldsExist.{Rise, rise_from, world_by}
 use Rattle.ud_model.specs.declared.cond.Cond.{Cond}
 use Rattle.ud_model.specs.declared.cond.Cond.TheVariants.{Yes, Unknown}
@@ -155,9 +155,6 @@ module _ {L : Type 0} where
   given h g bs k = grind (arith, weaker, any_truths)
 
 -- 4. Lists.
-
-none_there : {A : Type 0} (x : A) → Contains [] x → ⊥
-none_there x h = omega (arith, h.1)
 
 -- The first element, and the others.
 is_first : {A : Type 0} (x : A) (xs : List A) → Contains (x ∷ xs) x

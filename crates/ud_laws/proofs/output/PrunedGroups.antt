@@ -5,7 +5,7 @@ use Rattle.std.proofs.lemmas.Bool.{both_ways}
 use Rattle.ud_model.specs.declared.cond.Cond.{Cond}
 use Rattle.ud_model.specs.declared.cond.Cond.TheVariants.{Yes, No, Unknown}
 use Rattle.ud_model.specs.declared.verdict.Verdict.{Verdict}
-use Rattle.ud_model.specs.declared.verdict.Verdict.TheVariants.{Keep, Remove, ToElse, ToEndif}
+use Rattle.ud_model.specs.declared.verdict.Verdict.TheVariants.{Keep, Remove, ToElse}
 use Rattle.ud_model.specs.sections.Tree.{Item, Opener, Nodes, Groups, Elifs, text_line, if_line, elif_line, else_line, endif_line, nothing, text, section, conditional, otherwise, first, elif, lines_of_nodes, lines_of_groups, lines_of_elifs}
 use Rattle.ud_model.specs.sections.Pruning.{Part, an_if, an_elif, an_else, is_kept, gives_way, opener_verdict, first_kept_verdict, endif_verdict, conds_of_elifs, conds_of_groups}
 use Rattle.ud_model.specs.laws.Pruned.{Edited, edited, edited_opener, kept_line, IsPruned, Group, group, groups_of_elifs, groups_of, is_kept_group, left_of, others_left, IsEndif, ArePruned, no_nodes, text_stays, gives_way_to, section_stays, AreOfFirst, no_group, of_later, of_this, AreKept, no_groups, without, with_this}

@@ -1,7 +1,7 @@
 -- An opener of the pruned nodes is reached only if the opener from which it comes is.
-use Rattle.std.proofs.Common.{◌≡◌, List, true, Option, Some, None, refl, arith}
+use Rattle.std.proofs.Common.{◌≡◌, List, true, Option, None, refl, arith}
 use Rattle.ud_model.specs.declared.cond.Cond.{Cond}
-use Rattle.ud_model.specs.declared.cond.Cond.TheVariants.{Yes, No, Unknown}
+use Rattle.ud_model.specs.declared.cond.Cond.TheVariants.{Yes, Unknown}
 use Rattle.ud_model.specs.sections.Tree.{Opener, Nodes, Groups, Elifs, nothing, text, section, conditional, otherwise, first, elif}
 use Rattle.ud_model.specs.sections.Pruning.{Part, an_if, an_elif, first_kept_verdict}
 use Rattle.ud_model.specs.laws.Worlds.{World, selected_elifs, EachReached, GroupsReached, ElifsReached, AgreesWith}

@@ -10,6 +10,9 @@ use Rattle.ud_model.specs.laws.Worlds.{World, or_else, lines_or, where_true, sel
 use Rattle.ud_laws.specs.output.LiveLines.{text_line_of, text_lines_in}
 use Rattle.ud_model.proofs.output.SameShape.{parts}
 
+pub none_there : {A : Type 0} (x : A) → Contains [] x → ⊥
+none_there x h = omega (arith, h.1)
+
 module _ {L : Type 0} where
   pub text_lines_append : (xs ys : List (Item L)) → text_lines_in (xs ++ ys) ≡ text_lines_in xs ++ text_lines_in ys
   text_lines_append [] ys = refl
@@ -42,9 +45,6 @@ module _ {L : Type 0} where
         let r = parts (map w os) s.truths (map w qs) t.truths (length-map os w ∙ sym s.long) (sym (map-append w os qs) ∙ e) in
         (s.so w r.0, t.so w r.1);
   }
-
-  none_there : (l : L) → Contains [] l → ⊥
-  none_there l h = omega (arith, h.1)
 
   -- No group is processed in a world in which each condition is false.
   none_processed : (es : Elifs L) → Truths (openers_of_elifs es) (λ w. selected_elifs w es ≡ None)

@@ -2,7 +2,7 @@
 -- stay.
 use Rattle.std.proofs.Common.{◌≡◌, ℕ, List, [], ◌∷◌, ◌++◌, length, map, take, drop, Bool, false, Some, None, if◌then◌else◌, refl, sym, ◌∙◌, ap, ap₂, subst, ◌⊎◌, inl, inr, arith, ◌≤◌, true, not, Option, length-append, ◌&&◌}
 use Rattle.std.proofs.lemmas.List.{take-append-drop, length-map}
-use Rattle.std.proofs.lemmas.Bool.{or_parts, cases_Bool, and_from, not_from_false, and_parts, not-true}
+use Rattle.std.proofs.lemmas.Bool.{or_parts, cases_Bool, and_from, and_parts, not-true}
 use Rattle.ud_model.specs.aids.SpacedBytes.{spaced}
 use Rattle.ud_model.specs.text.Bytes.{space, is_white, are_white}
 use Rattle.ud_model.specs.text.Lines.{Line, text_of}

@@ -16,7 +16,7 @@ use Rattle.ud_model.proofs.output.Heeding.{ReadIn, the_mode, are_read}
 use Rattle.ud_laws.proofs.output.InsertedTree.{items}
 use Rattle.ud_laws.proofs.output.InsertedText.{read_items, lines_back, items_are}
 use Rattle.ud_model.proofs.output.Each.{Pairs, no_pair, pair}
-use Rattle.ud_model.proofs.output.WovenTrees.{Woven, TextGoes, EndifGoes, ElseGoes, IfGoes, ElifGoes, strewn_pairs, weave_nodes}
+use Rattle.ud_model.proofs.output.WovenTrees.{Woven, IfGoes, ElifGoes, strewn_pairs, weave_nodes}
 use Rattle.ud_simplified.proofs.SimplifiedReadings.{left_lines, readings_simplified, ReadingSimplified, reading_stays, reading_edited}
 use Rattle.ud_laws.proofs.output.SimplifiedConditions.{LineSimplified, condition_stays, line_simplified}
 use Rattle.ud_model.specs.sections.Directives.{Content, directive, Directive, content_of, role_of}
@@ -88,15 +88,6 @@ module _ (o : Options) where
   abbrev pub ElifsLike : Elifs Reading → Elifs Reading → Type 0
   ElifsLike es fs = ElifsAlike IsSame OpenerLeft es fs
 
-  text_goes : (r : Reading) (z : Item Reading) → ItemSimplified o (text_line r) z → TextGoes Like GroupsLike ElifsLike r z
-  text_goes r _ a_text = (r, refl, λ ns us n. text_alike n refl)
-
-  endif_goes : (r : Reading) (z : Item Reading) → ItemSimplified o (endif_line r) z → EndifGoes Like GroupsLike ElifsLike r z
-  endif_goes r _ (an_endif {s = s}) = (s, refl, λ ns us gs hs n g. section_alike n g)
-
-  else_goes : (r : Reading) (z : Item Reading) → ItemSimplified o (else_line r) z → ElseGoes Like GroupsLike ElifsLike r z
-  else_goes r _ (an_else {s = s}) = (s, refl, λ es fs ns us e n. otherwise_alike e n)
-
   if_goes : (p : Opener Reading) (z : Item Reading) → ItemSimplified o (if_line p) z → IfGoes Like GroupsLike ElifsLike p z
   if_goes p _ (an_if {q = q} k) = (q, refl, λ ns us n. first_alike k n)
 
@@ -108,10 +99,10 @@ module _ (o : Options) where
       weave_nodes (ItemSimplified o) (λ r. ⊥) Like GroupsLike ElifsLike (record {
         nothing_goes = nothing_alike;
         put_goes = λ ns us d k n. absurd k;
-        text_goes = text_goes;
-        endif_goes = endif_goes;
+        text_goes = λ r z h. grind (arith, text_alike);
+        endif_goes = λ r z h. grind (arith, section_alike);
         groups_go = λ es fs e. conditional_alike e;
-        else_goes = else_goes;
+        else_goes = λ r z h. grind (arith, otherwise_alike);
         if_goes = if_goes;
         elif_goes = elif_goes;
       }) ns zs (strewn_pairs (ItemSimplified o) (λ r. ⊥) s)
