@@ -1,6 +1,6 @@
 -- The logical lines of a text without long directives have the nodes of its lines, and are processed
 -- as these are.
-use Rattle.std.proofs.Common.{◌&&◌, if◌then◌else◌, ◌≡◌, ℕ, List, [], ◌∷◌, ◌++◌, map, Bool, true, false, refl, sym, ◌∙◌, ap, ap₂, subst, append-nil, arith}
+use Rattle.std.proofs.Common.{rules, ◌&&◌, if◌then◌else◌, ◌≡◌, ℕ, List, [], ◌∷◌, ◌++◌, map, Bool, true, false, refl, sym, ◌∙◌, ap, ap₂, subst, append-nil, arith}
 use Rattle.std.proofs.lemmas.Bool.{or_parts}
 use Rattle.std.proofs.lemmas.List.{map-append}
 use Rattle.std.specs.List.{flat_map, list_any}
@@ -140,11 +140,8 @@ groups_items (g ∷ gs) a n = let m = each_parts NotLong g (flat_map (λ (g : Li
 
 -- The logical lines of a text without long directives are its lines.
 text_lines : (bytes : List ℕ) → HasNoLong bytes → flat_map line_items (c_lines bytes) ≡ map c_item (read_as C bytes)
-text_lines bytes h =
-    ap (λ (gs : List (List Reading)). flat_map line_items (map c_line gs)) (logical_unnumbered (read_as C bytes))
-    ∙ groups_items (logical_lines (read_as C bytes)) (text_logical bytes)
-    (none_long (read_as C bytes) (flat_map (λ (g : List Reading). g) (logical_lines (read_as C bytes))) (ap (map unnumbered) (sym (all_there bytes))) h)
-    ∙ ap (map c_item) (all_there bytes)
+text_lines bytes h = search (rules, logical_unnumbered, groups_items, text_logical, none_long,
+    all_there)
 
 -- 3. Nodes.
 

@@ -1,5 +1,5 @@
 -- A simplified text is processed as the text, if numbers for the uses of names decide conditions.
-use Rattle.std.proofs.Common.{◌≡◌, ℕ, List, map, Bool, Option, Some, None, refl, sym, subst}
+use Rattle.std.proofs.Common.{rules, ◌≡◌, ℕ, List, map, Bool, Option, Some, None, refl, sym, subst}
 use Rattle.ud_model.specs.text.Lexemes.{Cell, shown}
 use Rattle.ud_model.specs.text.Scans.{Scan, Reading}
 use Rattle.ud_model.specs.sections.Tree.{Opener, Nodes, closed}
@@ -52,8 +52,7 @@ module _ (o : Options) {S F : Type 0} (takes : S → List ℕ → Scan → S →
           (n.left b k.value k.has (truth_kept b n.value k.value k.same.0 k.same.1 n.truth))
 
   opener_decided : (q k : Opener Reading) → OpenerLeft o q k → OpenerAlike p p q k
-  opener_decided q k (condition_stays e) s b t d = subst (λ (c : Condition). decides s c b t) (sym e) d
-  opener_decided q k (operands_go cells e f) s b t d = subst (λ (c : Condition). decides s c b t) (sym f) (left_decided s t cells b (subst (λ (c : Condition). decides s c b t) e d))
+  opener_decided q k h s b t d = search (rules, condition_stays, operands_go, left_decided)
 
   text_done : (l m : Reading) → l ≡ m → TextAlike p p l m
   text_done l m e = subst (λ (r : Reading). TextAlike p p l r) e (same_text p l)

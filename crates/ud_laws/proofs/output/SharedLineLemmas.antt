@@ -19,7 +19,6 @@ use Rattle.ud_laws.specs.output.SharedLines.{stays, goes}
 use Rattle.ud_model.specs.declared.settings.Settings.{Settings}
 use Rattle.ud_model.specs.declared.settings.Listing.TheVariants.{Off}
 use Rattle.ud_model.specs.declared.verdict.Verdict.{Verdict}
-use Rattle.ud_model.specs.declared.verdict.Verdict.TheVariants.{Remove}
 use Rattle.ud_laws.proofs.conditions.NamedAlike.{Alike}
 use Rattle.ud_model.proofs.output.Each.{Each}
 use Rattle.ud_model.proofs.output.Changed.{lone, pieces_lone}
@@ -52,12 +51,7 @@ reads_too o p plain rules table a = read_alike o p plain rules (λ n. subst (λ 
 -- The case of one more line, by whether it is removed.
 share_one : (v : Verdict) (j : Judged) (js : List Judged) (a b : List ℕ) → j.verdict ≡ v → ShareLines js a b →
     ShareLines (j ∷ js) (piece_alone false false j ++ a) (piece_alone false false (complemented j) ++ b)
-share_one Remove j js a b h s =
-    let q : (u : Verdict) → Judged = λ u. record { line = j.line; verdict = u; keyword = j.keyword } in
-    subst (λ (u : Verdict). ShareLines (q u ∷ js) (piece_alone false false (q u) ++ a) (piece_alone false false (complemented (q u)) ++ b)) (sym h) (goes refl s)
-share_one _ j js a b h s =
-    let q : (u : Verdict) → Judged = λ u. record { line = j.line; verdict = u; keyword = j.keyword } in
-    subst (λ (u : Verdict). ShareLines (q u ∷ js) (piece_alone false false (q u) ++ a) (piece_alone false false (complemented (q u)) ++ b)) (sym h) (stays refl s)
+share_one v j js a b h s = search (rules, goes, stays)
 
 share_all : (js : List Judged) → ShareLines js (concat (map (lone false false false) js)) (concat (map (lone false false true) js))
 share_all [] = no_line
@@ -67,9 +61,7 @@ share_all (j ∷ js) = share_one j.verdict j js (concat (map (lone false false f
 pub printed_lone : (o : Options) {input : List ℕ} {xs : List (Item Reading)} {t : Tree Reading} {f : Option Fault} {r : Outcome} (c : Bool) → o.settings.listing ≡ Off →
     o.settings.blank ≡ false → o.settings.renumber ≡ false → o.settings.unpadded ≡ false → o.settings.complement ≡ c → ReadsAs o input xs t f → HasOutcome o input r →
     r.output ≡ concat (map (lone false false c) (judged_lines xs (marks t)))
-printed_lone o {xs = xs} {t = t} c off b n u k a run =
-    let js : List Judged = judged_lines xs (marks t) in
-    cc (one_run run (ran_as a), off, pieces_lone o.settings.unpadded o.settings.blank o.settings.complement o.settings.renumber [] js n, b, k, u)
+printed_lone o c off b n u k a run = search (rules, one_run, pieces_lone, ran_as)
 
 pub shared : (o : Options) (input : List ℕ) {xs : List (Item Reading)} {t : Tree Reading} {f : Option Fault} {r s : Outcome} → OnlyDecides o →
     ReadsAs o input xs t f → HasOutcome o input r → HasOutcome (with_complement o) input s →
@@ -91,10 +83,7 @@ pub record RunsWithComplement (o : Options) (input : List ℕ) (r s : Outcome) :
 
 -- The run with `-c` has the same fault.
 pub same_fault : (o : Options) (input : List ℕ) {r s : Outcome} → RunsWithComplement o input r s → s.fault ≡ r.fault
-same_fault o input {r} {s} k = by_reading k.runs
-  where
-    by_reading : {q : Outcome} → HasOutcome o input q → s.fault ≡ q.fault
-    by_reading (ran_as reads) = (shared o input k.decides reads (ran_as reads) k.complement).0
+same_fault o input k = search (rules, shared, ran_as)
 
 -- The runs share the lines of the text.
 pub shared_lines : (o : Options) (input : List ℕ) {js : List Judged} {r s : Outcome} → RunsWithComplement o input r s → JudgedAs o input js →
