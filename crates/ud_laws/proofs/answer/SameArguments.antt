@@ -26,8 +26,9 @@ letters_same n m (c ∷ cs) = grind (arith, letters_same n m cs)
 
 next_same : (o : Option ℕ) (n m : ℕ) (ws : List (List ℕ)) → map placeless (given_next o n ws) ≡ map placeless (given_next o m ws)
 next_same (Some c) n m (w ∷ ws) = grind (arith, next_same None (suc n) (suc m) ws)
-next_same None n m (w ∷ ws) = grind (arith, letters_same, operands_same, map-append,
-    next_same (letters_give (suc n) (option_letters w)).waits (suc n) (suc m) ws)
+next_same None n m (w ∷ ws) =
+    let k = next_same (letters_give (suc n) (option_letters w)).waits (suc n) (suc m) ws in
+    grind (arith, letters_same, operands_same, map-append, k)
 next_same o n m ws = grind arith
 
 pub given_same : (n m : ℕ) (ws : List (List ℕ)) → Same (parsed_from n ws) (parsed_from m ws)

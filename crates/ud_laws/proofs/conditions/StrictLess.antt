@@ -11,8 +11,8 @@ use Rattle.ud_laws.proofs.conditions.Refining.{Stays, stays_refines, unary_refin
 module _ (table : List Argument) where
   number_stays : (u : Bool) (e : Expression) → Stays (number_of table true u e) (number_of table false u e)
   number_stays u (unary o a) = grind (arith, unary_refines, stays_refines, number_stays u a)
-  number_stays u (binary o a b) = grind (arith, binary_refines, stays_refines, number_stays u a,
-      number_stays u b)
+  number_stays u (binary o a b) =
+      grind (arith, binary_refines, stays_refines, number_stays u a, number_stays u b)
   number_stays u (parens a) = number_stays u a
   number_stays _ _ = inr refl
 

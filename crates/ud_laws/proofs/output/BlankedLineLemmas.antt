@@ -171,8 +171,8 @@ same_endings (lost_line j e b) h = absurd (h.0 e)
 
 all_ended : (n : ℕ) (ts : List (List ℕ)) (js : List Judged) → AreWhole ts → map (λ (j : Judged). j.line) js ≡ numbered_from n ts → Each Ended js
 all_ended n [] (j ∷ js) w e = cc
-all_ended n (t ∷ ts) (j ∷ js) w e = grind (arith, end_is_some, whole_ending, all_ended (suc n) ts js
-    w.1 cc)
+all_ended n (t ∷ ts) (j ∷ js) w e =
+    grind (arith, end_is_some, whole_ending, all_ended (suc n) ts js w.1 cc)
 all_ended n _ [] _ _ = tt
 
 endings_of : (js : List Judged) → map (λ (j : Judged). j.line.ending) js ≡ map (λ (l : Line). l.ending) (map (λ (j : Judged). j.line) js)
@@ -182,5 +182,6 @@ endings_of (j ∷ js) = ap (λ (es : List (List ℕ)). j.line.ending ∷ es) (en
 -- An input whose last line has an ending has an output with as many lines.
 pub as_many : (o : Options) (input : List ℕ) {r : Outcome} → o.settings.blank ≡ true → o.settings.listing ≡ Off → o.settings.unpadded ≡ false → partial_line input ≡ [] → HasOutcome o input r → r.fault ≡ None →
     map (λ (k : Line). k.ending) (lines_of r.output) ≡ map (λ (l : Line). l.ending) (lines_of input)
-as_many o input b off u e h k = grind (arith, judged_read, append-nil, same_endings, blanked_places,
-    all_ended, are_whole, endings_of)
+as_many o input b off u e h k =
+    let w = are_whole input in
+    grind (arith, judged_read, append-nil, same_endings, blanked_places, all_ended, w, endings_of)

@@ -302,7 +302,7 @@ module _ (o : Options) (m : Mode) (b n : Bool) (some : (b || n) ≡ true) (padde
     counted_here h r = grind (arith, readings_last, printed_here)
 
     items_left : IsLeft v → stepped.0 ≡ with_line o m s.ys (line_after (bytes_of s.ys) p)
-    items_left h = grind (arith, one_more_item, stepped, k, with_line, line_after, bytes_of)
+    items_left h = grind (arith, one_more_item, stepped, k)
 
     items_gone : v ≡ Remove → stepped.0 ≡ s.ys
     items_gone f = same_items o m xs x t u s.ys stepped.0 k.grown.mark k.more k.long s.between.again stepped.1 f
@@ -388,8 +388,7 @@ module _ (o : Options) (m : Mode) (b n : Bool) (some : (b || n) ≡ true) (padde
             has_end h = grind arith
 
         by_style : (c : Bool) → b ≡ c → State (xs ++ x ∷ []) u
-        by_style c g = grind (arith, put_blank, btw, same_gone, piece_of, number_by, counted_gone,
-            not_blank)
+        by_style c g = grind (arith, put_blank, btw, same_gone, counted_gone, not_blank)
 
     gone_done : l.ending ≡ [] → v ≡ Remove → Done (xs ++ x ∷ []) u
     gone_done none f = record {

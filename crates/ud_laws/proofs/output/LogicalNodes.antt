@@ -140,8 +140,8 @@ groups_items (g ∷ gs) a n = let m = each_parts NotLong g (flat_map (λ (g : Li
 
 -- The logical lines of a text without long directives are its lines.
 text_lines : (bytes : List ℕ) → HasNoLong bytes → flat_map line_items (c_lines bytes) ≡ map c_item (read_as C bytes)
-text_lines bytes h = search (rules, logical_unnumbered, groups_items, text_logical, none_long,
-    all_there)
+text_lines bytes h =
+    search (rules, logical_unnumbered, groups_items, text_logical, none_long, all_there)
 
 -- 3. Nodes.
 

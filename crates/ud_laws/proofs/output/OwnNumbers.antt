@@ -49,5 +49,5 @@ own_by (push {xs = ls} d p) h i = let q = none_last ls d h in
 -- Each line has its own number.
 pub own_numbers : (mode : Mode) (text : List ℕ) → HaveNoLineDirective (read_as mode text) → (ps : List Presumed) (sure : Bool) (n : ℕ) →
     Presumes (read_as mode text) ps sure n → HaveOwnNumbers ps
-own_numbers mode text h ps sure n p = grind (arith, own_by, by_push, lines_read_as,
-    numbered_in_order)
+own_numbers mode text h ps sure n p =
+    grind (arith, own_by, by_push, lines_read_as, numbered_in_order)

@@ -135,8 +135,7 @@ module _ {L : Type 0} where
       (cs : List Cond) (gs : List (Group L)) → stage cs ≡ leading → Leaves gs none_kept → (c : Cond) (ns : Nodes L) (ps : Nodes (Edited L)) → ArePruned ns ps →
       Leaves (gs ++ group part cs c x ns ∷ []) (with_group none_kept part o c ps)
   start_leaves part x o e cs gs s h Yes ns ps p = none_then gs (group part cs Yes x ns ∷ []) ps h.0 (of_this (kept_on cs Yes leading s) p)
-  start_leaves part x o e cs gs s h No ns ps p = grind (arith, each_both, kept_on, leading,
-      others_then, other_gone, false_verdict)
+  start_leaves part x o e cs gs s h No ns ps p = grind (arith, each_both, others_then, false_verdict)
   start_leaves part x o e cs gs s h Unknown ns ps p =
       λ all stays. one_kept all cs leading stays s part Unknown x ns refl refl
       (group an_if [] o.cond (if_line (edited_opener (first_kept_verdict part) o)) ps) e p

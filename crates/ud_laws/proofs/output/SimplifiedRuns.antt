@@ -230,8 +230,11 @@ module _ (o : Options) (p : IsPlainC o) (input : List ℕ) {r : Outcome} (d : Ha
 
     copies_by : Each IsUncut i.items → Each IsFew i.items → height_of_nodes us ≤ MAX_DEPTH → ends_in_comment i.items ≡ false → IsUndecided us →
         HasOutcome o left_text (record { output = left_text; fault = None; differs = false })
-    copies_by a b c e u = grind (arith, runs_again, sound_again, uncut_now, few_now, short_now,
-        height_left, undecided_stay, undecided_now, calm_now)
+    copies_by a b c e u =
+        let n = undecided_now u in
+        let s = undecided_stay ss n in
+        let m = calm_now e in
+        grind (arith, runs_again, sound_again, uncut_now, few_now, short_now, height_left, s, n, m)
 
   copies_with : (us : Nodes Reading) (i : IsTreeOf o r.output (closed us)) → Each IsUncut i.items → Each IsFew i.items →
       height_of_nodes us ≤ MAX_DEPTH → ends_in_comment i.items ≡ false → IsUndecided us →
