@@ -81,7 +81,8 @@ entry_texts _ _ (number {text = text} p) = (text, inr p, refl)
 
 module _ (t u : List Argument) (h : ChoosesNumbers t u) where
   texts_at : (n : List ℕ) (o : Option (List ℕ)) → defined_text t n ≡ o → Texts o (defined_text u n)
-  texts_at n o e = subst (λ x. Texts x (defined_text u n)) e (entry_texts (entry_in t n) (entry_in u n) (h n))
+  texts_at n o e =
+      subst (λ x. Texts x (defined_text u n)) e (entry_texts (entry_in t n) (entry_in u n) (h n))
 
   turns_name : (v w : List ℕ) → Turns v w → is_identifier v ≡ true → v ≡ w
   turns_name v w h i = grind (arith, common_steps, least_no_name)
@@ -142,7 +143,8 @@ module _ (t u : List Argument) (h : ChoosesNumbers t u) where
 
   -- Both entries say the same but for the value.
   entry_alike : (e f : Option Entry) → Chooses e f →
-      (defined_value_by f ≡ defined_value_by e) × (is_some f ≡ is_some e) × (undefined_by f ≡ undefined_by e) × (ifdef_by f ≡ ifdef_by e)
+      (defined_value_by f ≡ defined_value_by e) × (is_some f ≡ is_some e)
+      × (undefined_by f ≡ undefined_by e) × (ifdef_by f ≡ ifdef_by e)
   entry_alike e _ same = (refl, refl, refl, refl)
   entry_alike _ _ (number p) = (refl, refl, refl, refl)
 
@@ -161,7 +163,8 @@ module _ (t u : List Argument) (h : ChoosesNumbers t u) where
   number_refines s b e = grind (arith, refines_itself, name_refines, defined_alike, constant)
 
   value_refines : (s : Bool) (e : Expression) → Refines (value_of t s e) (value_of u s e)
-  value_refines s e = subst (λ (b : Bool). Refines (value_of t s e) (number_of u s b e)) (sym (grind (arith, name_sign))) (number_refines s (has_unsigned t e) e)
+  value_refines s e = subst (λ (b : Bool). Refines (value_of t s e) (number_of u s b e))
+      (sym (grind (arith, name_sign))) (number_refines s (has_unsigned t e) e)
 
   -- A known value is the same for each number.
   pub value_alike : (s : Bool) (e : Expression) (n : ℤ) → value_of t s e ≡ Exactly n → value_of u s e ≡ Exactly n

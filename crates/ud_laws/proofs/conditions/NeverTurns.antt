@@ -46,7 +46,8 @@ unfolding apply_binary_known
 right_back s b o x y z e = grind arith
 
 -- Two operands that decide give the same value.
-two_decide : (s : Bool) (o : Operator) (x y : ℤ) → After (short_circuits s o x) (short_circuits s o y)
+two_decide : (s : Bool) (o : Operator) (x y : ℤ) →
+    After (short_circuits s o x) (short_circuits s o y)
 two_decide s o x y z e = grind arith
 
 -- 2. Expressions.

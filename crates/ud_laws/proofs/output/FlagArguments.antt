@@ -45,7 +45,9 @@ first_k args = refl
 
 -- the options of arguments with a flag before them
 flagged : (args gs : List (List ℕ)) (c : ℕ) → parsed_args gs ≡ flag c ∷ parsed_from 1 args → options_of gs ≡ options_in (flag c ∷ parsed_args args)
-flagged args gs c e = ap options_in e ∙ options_same (flag c ∷ parsed_from 1 args) (flag c ∷ parsed_args args) (record { alike = ap (λ (hs : List ParsedArg). flag c ∷ hs) (after_flag args).alike })
+flagged args gs c e =
+    ap options_in e ∙ options_same (flag c ∷ parsed_from 1 args) (flag c ∷ parsed_args args)
+    (record { alike = ap (λ (hs : List ParsedArg). flag c ∷ hs) (after_flag args).alike })
 
 -- `-s`, unless `-S` is given too
 pub lists_names : (args : List (List ℕ)) → has_flag (codes "S") (parsed_args args) ≡ false → options_of (codes "-s" ∷ args) ≡ with_listing (options_of args)

@@ -68,7 +68,8 @@ module _ (o : Options) (m : Mode) (ys zs : List (Item Reading)) (qs : List (List
   between_lines r = w.rests (w.first.joins_on ∙ sym r.joins_on)
 
   -- Between lines in plain mode no line joins another one.
-  in_plain : (xs : List (Item Reading)) → m ≡ Plain → ReadIn o m xs → LeavesOff xs in_text true false
+  in_plain : (xs : List (Item Reading)) → m ≡ Plain → ReadIn o m xs →
+      LeavesOff xs in_text true false
   in_plain xs e r = nowhere xs (plain_run o xs (subst (λ (k : Mode). ReadIn o k xs) e r))
 
   lone_next : (n : Mode) → m ≡ n → (l : Line) → LeavesOff zs in_text true false → IsQuiet l → LeavesOff (with_line o m zs l) in_text true false

@@ -35,11 +35,13 @@ way_by_stage cs = grind (arith, inside_way)
 verdict_on : (all cs : List Cond) (s : Stage) → gives_way all ≡ false → stage cs ≡ s → (part : Part) (c : Cond) →
     way_at (next_stage s c) ≡ false → opener_verdict all cs part c ≡ verdict_at s part c
 verdict_on all cs s g e part c w =
-    let n : gives_way (cs ++ c ∷ []) ≡ false = way_by_stage (cs ++ c ∷ []) ∙ ap way_at (stage_next cs c ∙ ap (λ (t : Stage). next_stage t c) e) ∙ w in
+    let n : gives_way (cs ++ c ∷ []) ≡ false = way_by_stage (cs ++ c ∷ [])
+    ∙ ap way_at (stage_next cs c ∙ ap (λ (t : Stage). next_stage t c) e) ∙ w in
     grind (arith, n, verdict_by_stage cs part c)
 
 -- A false group before all kept ones has an opener that is removed.
-false_verdict : (all cs : List Cond) → gives_way all ≡ false → stage cs ≡ leading → (part : Part) → opener_verdict all cs part No ≡ Remove
+false_verdict : (all cs : List Cond) → gives_way all ≡ false → stage cs ≡ leading → (part : Part) →
+    opener_verdict all cs part No ≡ Remove
 false_verdict all cs g e part = grind (arith, kept_by_stage cs Yes)
 
 kept_on : (cs : List Cond) (c : Cond) (s : Stage) → stage cs ≡ s → is_kept cs c ≡ kept_at s c

@@ -223,7 +223,8 @@ module _ (table : List Argument) (rules : Rules) where
         by_text g u true false a b = inl (line_misread b)
         by_text g u true true a b = inr (e, p, reduced g u a b)
 
-        by_cond : (k u q : Bool) → is_unknown (tree_cond e table rules) ≡ k → is_undecided table rules (residual table rules e) ≡ u →
+        by_cond : (k u q : Bool) → is_unknown (tree_cond e table rules) ≡ k →
+            is_undecided table rules (residual table rules e) ≡ u →
             list_any is_literal cells ≡ q → Reason
         by_cond false u q a b c = inl (decided e p a)
         by_cond true false q a b c = inl (rest_decided e p b)
