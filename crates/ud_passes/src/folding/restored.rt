@@ -95,21 +95,6 @@ fn step(walk: &mut Walk<'_>, masked: &mut LineStore, out: &mut Vec<u8>) -> Resul
     Ok(())
 }
 
-/// Appends a restored text, as `restore` does.
-///
-/// # Errors
-/// Fails if memory runs out.
-fn append_restored(text: &[u8], out: &mut Vec<u8>) -> Result<(), AllocError>
-    ensures { OnOk result (out.new.items ≡ out.old.items ++ restored_text text.now) }
-{
-    let mut masked = LineStore::new(*out.allocator())?;
-    let mut walk = Walk::new(text);
-    'lines: while !walk.is_at_end() {
-        step(&mut walk, &mut masked, out)?;
-    }
-    Ok(())
-}
-
 /// Returns a folded text with newlines in place of its vertical tabs.
 ///
 /// `text` may have any length and any bytes. A vertical tab outside comments becomes a splice: a
@@ -122,6 +107,10 @@ pub fn restore(alloc: Global, text: &[u8]) -> Result<Vec<u8>, AllocError>
     ensures { IfOk result (λ restored. restored.items ≡ restored_text text.now) }
 {
     let mut out = Vec::new(alloc);
-    append_restored(text, &mut out)?;
+    let mut masked = LineStore::new(alloc)?;
+    let mut walk = Walk::new(text);
+    while !walk.is_at_end() {
+        step(&mut walk, &mut masked, &mut out)?;
+    }
     Ok(out)
 }

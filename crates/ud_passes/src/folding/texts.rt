@@ -58,26 +58,6 @@ fn step<'t>(
     }
 }
 
-/// Appends a text without a vertical tab folded, as `fold` does.
-///
-/// # Errors
-/// Fails if memory runs out.
-fn append_lines(text: &[u8], out: &mut Vec<u8>) -> Result<(), AllocError>
-    ensures { OnOk result
-        (out.new.items ≡ out.old.items ++ folded_lines (read_as C text.now)) }
-{
-    let alloc = *out.allocator();
-    let mut masked = LineStore::new(alloc)?;
-    let mut walk = Walk::new(text);
-    let mut logical = LogicalLine::new(alloc);
-    let mut begun = None;
-    'lines: while !walk.is_at_end() {
-        begun = step(&mut walk, &mut masked, &mut logical, begun, out)?;
-    }
-    logical.end_text(begun, out)?;
-    Ok(())
-}
-
 /// Returns a text with each conditional directive on one line.
 ///
 /// `text` may have any length and any bytes. A vertical tab replaces each newline that continues a
@@ -94,8 +74,15 @@ pub fn fold(alloc: Global, text: &[u8]) -> Result<Vec<u8>, AllocError>
     let mut out = Vec::new(alloc);
     if has_tab(text) {
         out.extend_from_slice(text)?;
-    } else {
-        append_lines(text, &mut out)?;
+        return Ok(out);
     }
+    let mut masked = LineStore::new(alloc)?;
+    let mut walk = Walk::new(text);
+    let mut logical = LogicalLine::new(alloc);
+    let mut begun = None;
+    while !walk.is_at_end() {
+        begun = step(&mut walk, &mut masked, &mut logical, begun, &mut out)?;
+    }
+    logical.end_text(begun, &mut out)?;
     Ok(out)
 }

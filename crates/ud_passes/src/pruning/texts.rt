@@ -72,13 +72,6 @@ fn append_line(
     Ok(edited)
 }
 
-/// Returns 1 if a line was edited, else 0.
-fn one_if(edited: bool) -> usize
-    ensures { result ≡ (if edited then 1 else 0) }
-{
-    if edited { 1 } else { 0 }
-}
-
 /// Takes the next lines, and appends the rest of them. Returns how many lines were edited so far;
 /// `count` is the number before these lines.
 ///
@@ -112,43 +105,9 @@ fn step(
         }
         Stretch::Fitting(line, scan) => {
             let edited = append_line(editor, &line, &scan, symbols, rules, out)?;
-            Ok(count + one_if(edited))
+            Ok(count + usize::from(edited))
         }
     }
-}
-
-/// Appends the pruned text.
-///
-/// # Errors
-/// Fails if memory runs out.
-fn append_pruned(
-    text: &[u8],
-    symbols: &Symbols,
-    rules: Rules,
-    out: &mut Vec<u8>,
-) -> Result<usize, AllocError>
-    ensures { IfOk result (λ count. (calls : List Argument) →
-        TableRepresents symbols.now calls →
-        (out.new.items ≡ out.old.items ++ pruned_text calls (as_rules rules) text.now) ×
-        (count ≡ edited_count calls (as_rules rules) text.now)) }
-{
-    let alloc = *out.allocator();
-    let mut masked = LineStore::new(alloc)?;
-    let mut walk = Walk::new(text);
-    let mut editor = LineEditor::new(alloc);
-    let mut count = 0;
-    while !walk.is_at_end() {
-        count = step(
-            &mut walk,
-            &mut masked,
-            &mut editor,
-            symbols,
-            rules,
-            count,
-            out,
-        )?;
-    }
-    Ok(count)
 }
 
 /// Returns a text without the operands of its conditions that the symbols decide.
@@ -172,6 +131,20 @@ pub fn prune(
         (p.edited ≡ edited_count calls (as_rules rules) text.now)) }
 {
     let mut left = Vec::new(alloc);
-    let edited = append_pruned(text, symbols, rules, &mut left)?;
+    let mut masked = LineStore::new(alloc)?;
+    let mut walk = Walk::new(text);
+    let mut editor = LineEditor::new(alloc);
+    let mut edited = 0;
+    while !walk.is_at_end() {
+        edited = step(
+            &mut walk,
+            &mut masked,
+            &mut editor,
+            symbols,
+            rules,
+            edited,
+            &mut left,
+        )?;
+    }
     Ok(Pruned { text: left, edited })
 }

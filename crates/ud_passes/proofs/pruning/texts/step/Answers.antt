@@ -1,5 +1,5 @@
 -- Text lines, or one line.
-use Rattle.std.proofs.Common.{◌+◌, ℕ, ap}
+use Rattle.std.proofs.Common.{arith}
 use Rattle.ud_model.specs.aids.LineViews.{as_line}
 use Rattle.ud_cond.specs.CondViews.{as_rules}
 use Rattle.ud_passes.proofs.PassLemmas.{texts_more, long_more, line_pruned}
@@ -18,4 +18,4 @@ returns-in_ok-append_either-in-TooLong-clause-pruned c = λ calls h text start l
 pub returns-in_ok-edited-in-Fitting-clause-pruned : goal.returns-in_ok-edited-in-Fitting-clause-pruned
 returns-in_ok-edited-in-Fitting-clause-pruned c = λ calls h text start l.
     let n = c.in-Fitting.ensures.next text l.read l.walked in
-    line_pruned calls (as_rules c.args.rules) text start c.args.count c.args.walk.now c.args.out.now.items l c.next.new.self _ (as_line c.in-Fitting.line) n.1 _ _ (ap (λ (x : ℕ). c.args.count + x) c.one_if.ensures) _ n.0 (c.in_ok-edited-in-Fitting.ensures calls h)
+    line_pruned calls (as_rules c.args.rules) text start c.args.count c.args.walk.now c.args.out.now.items l c.next.new.self _ (as_line c.in-Fitting.line) n.1 _ _ (grind (arith, c.from.ensures)) _ n.0 (c.in_ok-edited-in-Fitting.ensures calls h)
