@@ -19,8 +19,7 @@ pub(crate) fn append_place(list: &mut Vec<u8>, name: &[u8], number: usize) -> Re
     list.extend_from_slice(name)?;
     list.push(b':')?;
     list.extend_from_slice(digits.format(number).as_bytes())?;
-    list.extend_from_slice(b": ")?;
-    Ok(())
+    list.extend_from_slice(b": ")
 }
 
 /// Appends a line's body and a newline.

@@ -30,30 +30,21 @@ impl DiffLine<'_> {
     pub(crate) fn is_old(&self) -> bool
         ensures { result ≡ is_old self.now.sign }
     {
-        match self.sign {
-            Sign::Kept | Sign::Removed => true,
-            Sign::Added => false,
-        }
+        matches!(self.sign, Sign::Kept | Sign::Removed)
     }
 
     /// Returns whether the line is in the new text.
     pub(crate) fn is_new(&self) -> bool
         ensures { result ≡ is_new self.now.sign }
     {
-        match self.sign {
-            Sign::Kept | Sign::Added => true,
-            Sign::Removed => false,
-        }
+        matches!(self.sign, Sign::Kept | Sign::Added)
     }
 
     /// Returns whether the line is in only one of the texts.
     pub(crate) fn is_change(&self) -> bool
         ensures { result ≡ is_change self.now.sign }
     {
-        match self.sign {
-            Sign::Removed | Sign::Added => true,
-            Sign::Kept => false,
-        }
+        matches!(self.sign, Sign::Removed | Sign::Added)
     }
 }
 

@@ -17,8 +17,7 @@ fn append_number(out: &mut Vec<u8>, number: usize) -> Result<(), AllocError>
     ensures { OnOk result (out.new.items ≡ out.old.items ++ decimal number) }
 {
     let mut digits = Buffer::new();
-    out.extend_from_slice(digits.format(number).as_bytes())?;
-    Ok(())
+    out.extend_from_slice(digits.format(number).as_bytes())
 }
 
 /// Appends where some lines begin, and their number. `before` lines come before them.
@@ -53,8 +52,7 @@ pub(crate) fn append_ranges(
     append_range(out, old_before, old_count)?;
     out.extend_from_slice(b" +")?;
     append_range(out, new_before, new_count)?;
-    out.extend_from_slice(b" @@\n")?;
-    Ok(())
+    out.extend_from_slice(b" @@\n")
 }
 
 /// Returns the byte that shows a sign.
@@ -85,8 +83,7 @@ pub(crate) fn append_line(out: &mut Vec<u8>, line: &DiffLine<'_>) -> Result<(), 
     ensures { OnOk result (out.new.items ≡ out.old.items ++ signed_text (signed line.now)) }
 {
     out.push(sign_byte(line.sign))?;
-    append_ended(out, line.bytes)?;
-    Ok(())
+    append_ended(out, line.bytes)
 }
 
 /// Returns whether a byte before `rest` is a slash, or a dot before a slash.
@@ -221,6 +218,5 @@ pub(crate) fn append_names(out: &mut Vec<u8>, path: &[u8]) -> Result<(), AllocEr
 {
     let name = without_dots(path);
     append_name(out, b"--- ", name)?;
-    append_name(out, b"+++ ", name)?;
-    Ok(())
+    append_name(out, b"+++ ", name)
 }

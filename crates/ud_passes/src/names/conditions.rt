@@ -103,7 +103,6 @@ pub(crate) fn has_unlisted(alloc: Global, scan: &Scan<'_>) -> bool
 {
     match directive(scan) {
         Ok(Some(found)) => is_unlisted(alloc, &found),
-        Ok(None) => false,
-        Err(_) => false,
+        Ok(None) | Err(_) => false,
     }
 }

@@ -132,8 +132,7 @@ fn append_row(row: &Row<'_>, out: &mut Vec<u8>) -> Result<(), AllocError>
     out.extend_from_slice(digits)?;
     out.extend_from_slice(b" ")?;
     out.extend_from_slice(row.name)?;
-    out.extend_from_slice(b"\n")?;
-    Ok(())
+    out.extend_from_slice(b"\n")
 }
 
 /// Appends the lines of rows.

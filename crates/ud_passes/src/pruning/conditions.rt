@@ -59,10 +59,7 @@ fn is_read(text: &[u8], flags: &[bool], left: &[u8]) -> bool
         AreKept table rules e text.now flags.now → map shown cells ≡ left.now →
         result ≡ spec.is_read table rules e cells }
 {
-    if begins_word(left) {
-        return false;
-    }
-    has_tokens(text, flags, left)
+    !begins_word(left) && has_tokens(text, flags, left)
 }
 
 /// Returns whether the rest of a text has the tokens with a true flag, and is unknown.
@@ -72,10 +69,7 @@ fn may_stand(text: &[u8], flags: &[bool], left: &[u8], symbols: &Symbols, rules:
         TableRepresents symbols.now calls → AreKept calls (as_rules rules) e text.now flags.now →
         map shown cells ≡ left.now → result ≡ stands calls (as_rules rules) e cells }
 {
-    if !is_read(text, flags, left) {
-        return false;
-    }
-    is_unknown(left, symbols, rules)
+    is_read(text, flags, left) && is_unknown(left, symbols, rules)
 }
 
 impl LeftCondition {

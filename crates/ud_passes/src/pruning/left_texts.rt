@@ -33,14 +33,7 @@ struct Place<'a> {
 fn ends_operand(token: Token<'_>) -> bool
     ensures { result ≡ spec.ends_operand (as_token token.entry) }
 {
-    match token {
-        Token::Number(_) => true,
-        Token::Name(_, _) => true,
-        Token::Closing => true,
-        Token::Defined => false,
-        Token::Operator(_) => false,
-        Token::Opening => false,
-    }
+    matches!(token, Token::Number(_) | Token::Name(_, _) | Token::Closing)
 }
 
 /// Returns whether white space before a token stays. `flag`: the token stays.
