@@ -1,5 +1,5 @@
 -- Comments: where the text of a comment ends, and how it is masked.
-use Rattle.std.proofs.Common.{◌≡◌, ℕ, suc, ◌+◌, ◌<◌, List, [], ◌∷◌, ◌++◌, length, take, drop, map, get_or, Bool, true, false, if◌then◌else◌, sym, ◌∙◌, ap}
+use Rattle.std.proofs.Common.{◌≡◌, ℕ, suc, ◌+◌, ◌<◌, List, [], ◌∷◌, ◌++◌, length, take, drop, map, get_or, Bool, true, false, if◌then◌else◌, sym, ◌∙◌, ap, arith}
 use Rattle.std.specs.Prelude.{codes, nat_eq}
 use Rattle.std.specs.List.{starts_with}
 use Rattle.std.proofs.lemmas.List.{drop_more, map-append, length-map}
@@ -20,10 +20,7 @@ close_later bytes n lt e = let b : ℕ = get_or bytes n 0 in
 
 -- It ends here.
 pub close_here : (bytes : List ℕ) (n : ℕ) → n < length bytes → starts_with nat_eq (drop n bytes) (codes "*/") ≡ true → close_at (drop n bytes) ≡ 0
-close_here bytes n lt e = let b : ℕ = get_or bytes n 0 in
-    let rest : List ℕ = drop (n + 1) bytes in
-    let d : drop n bytes ≡ b ∷ rest = drop_more bytes n 0 lt in
-    ap close_at d ∙ ap (λ (x : Bool). if x then 0 else suc (close_at rest)) (ap (λ (x : List ℕ). starts_with nat_eq x (codes "*/")) (sym d) ∙ e)
+close_here bytes n lt e = grind (arith, drop_more)
 
 -- The masked text between bytes that are as in a comment.
 module _ (n m : ℕ) (bytes : List ℕ) (s : Scan) (read : s ≡ scan_after [] C (text_line (take m (drop n bytes)))) where

@@ -41,10 +41,7 @@ skip_white-ends (b ∷ bs) e h = by (is_white b) (skip_white-ends bs e h)
 skip_word-ends : (t e : List ℕ) → Ends e → skip_word (t ++ e) ≡ skip_word t ++ e
 skip_word-ends [] _ (feed m) = refl
 skip_word-ends [] _ (return_feed m) = refl
-skip_word-ends (b ∷ bs) e h = by (is_word_byte b) (skip_word-ends bs e h)
-  where
-    by : (w : Bool) → skip_word (bs ++ e) ≡ skip_word bs ++ e → (if w then skip_word (bs ++ e) else b ∷ (bs ++ e)) ≡ (if w then skip_word bs else b ∷ bs) ++ e
-    by w more = grind arith
+skip_word-ends (b ∷ bs) e h = grind (arith, skip_word-ends bs e h)
 
 -- The word after the white space of a text.
 word-ends : (t e : List ℕ) → Ends e → leading_word (skip_white (t ++ e)) ≡ leading_word (skip_white t)
@@ -104,13 +101,8 @@ module _ (table : List Argument) where
   line_clear : (t e : List ℕ) (n : ℕ) → Ends e → length t ≤ n → IsClear table n (t ++ e) → defines table t ≡ false
   line_clear [] e n h long c = refl
   line_clear (b ∷ bs) e zero h long c = absurd (omega arith)
-  line_clear (b ∷ bs) e (suc n) h long c = by (is_white b) (line_clear bs e n h (omega arith) c.1)
-    where
-      by_sign : (s : Bool) → (s && defines_after table (bs ++ e)) ≡ false → defines_if table (if s then Some bs else None) ≡ false
-      by_sign s p = grind (arith, defines_after-ends)
-
-      by : (w : Bool) → defines table bs ≡ false → defines_if table (skip_hash (if w then skip_white bs else b ∷ bs)) ≡ false
-      by w more = grind (arith, by_sign)
+  line_clear (b ∷ bs) e (suc n) h long c =
+      grind (arith, defines_after-ends, line_clear bs e n h (omega arith) c.1)
 
   ends_on : (e more : List ℕ) → IsFeed e → Ends (e ++ more)
   ends_on _ more one = feed more

@@ -132,14 +132,7 @@ module _ (r : Reading) (old : List ℕ) (l : LogicalLine) where
   takes_line new e n = grind (arith, takes_none, rest_after, false≢true, rest_first, not_foldable, rest_alone)
 
   pub takes_begun : (b : Last) → IsLogical l b (r ∷ []) → r.scan.joins_before ≡ false → r.scan.joins_after ≡ true → FoldsReading r [] old l (Some b) old
-  takes_begun b i j a = record {
-    more = [];
-    appended = sym (append-nil old);
-    next = r ∷ [];
-    is_group = i;
-    goes_on = a;
-    rest = λ rs f. grind arith;
-  }
+  takes_begun b i j a = grind (arith, common_steps, append-nil)
 
   -- The line continues a group.
   module _ (group : List Reading) (begins : begins_directive group ≡ true) (j : r.scan.joins_before ≡ true) where
@@ -182,22 +175,19 @@ logical_begins l b r i d p o m = record {
 pub logical_more : (l m : LogicalLine) (b c : Last) (group : List Reading) (r : Reading) (part break : List ℕ) → IsLogical l b group → IsLast c r → r.line.ending ≡ b.line.ending.now →
     ((q : Reading) → IsLast b q → part ++ vertical_tab ∷ [] ≡ continued_part q) → ((q : Reading) → IsLast b q → break ≡ shown_break q.scan) →
     m.plain.items ≡ l.plain.items ++ text_of r.line → m.body.items ≡ (l.body.items ++ part) ++ vertical_tab ∷ [] → m.shown.items ≡ (l.shown.items ++ break) ++ r.scan.masked → IsLogical m c (group ++ r ∷ [])
-logical_more l m b c group r part break i j e p k pl bo sh = let q : Reading = i.last in
-    let body : m.body.items ≡ l.body.items ++ continued_part q = bo ∙ append_assoc l.body.items part (vertical_tab ∷ []) ∙ ap (λ (x : List ℕ). l.body.items ++ x) (p q i.is_last) in
-    record {
-      front = group;
-      last = r;
-      is = refl;
-      is_last = j;
-      begins = begins_more group r i.begins;
-      alike = grind (arith, list_all-append, bytes_eq-Decides, i.alike, e ∙ i.is_last.ending_is);
-      plain_is = pl ∙ ap (λ (x : List ℕ). x ++ text_of r.line) i.plain_is ∙ sym (grind (arith, flat_map-append, append-nil));
-      body_is = body ∙ ap (λ (x : List ℕ). x ++ continued_part q) i.body_is ∙ ap (λ (x : List ℕ). flat_map continued_part i.front ++ x) (sym (append-nil (continued_part q)))
-          ∙ sym (flat_map-append continued_part i.front (q ∷ [])) ∙ ap (λ (x : List Reading). flat_map continued_part x) (sym i.is);
-      shown_is = sh ∙ append_assoc l.shown.items break r.scan.masked ∙ ap₂ (λ (x y : List ℕ). x ++ (y ++ r.scan.masked)) (i.shown_is ∙ ap shown_lines i.is) (k q i.is_last)
-          ∙ sym (shown_lines_more i.front q r) ∙ ap (λ (x : List Reading). shown_lines (x ++ r ∷ [])) (sym i.is);
-      one_line = subst NoNewline (sym body) (no_newline-append l.body.items (continued_part q) i.one_line (grind (arith, no_newline-append, no_newline-take, i.is_last.one_line)));
-    }
+logical_more l m b c group r part break i j e p k pl bo sh =
+    grind (
+      arith,
+      append_assoc,
+      begins_more,
+      list_all-append,
+      bytes_eq-Decides,
+      flat_map-append,
+      append-nil,
+      shown_lines_more,
+      no_newline-append,
+      no_newline-take,
+    )
 
 -- The lines that have ended.
 pub folded_as : (l : LogicalLine) (b : Last) (group : List Reading) (bytes : List ℕ) (shown : Bool) → IsLogical l b group → bytes ≡ (l.body.items ++ b.line.body.now) ++ b.line.ending.now →

@@ -70,11 +70,7 @@ as_it_is single b = inl refl
 cells_fade : (cells : List Cell) (rest : List ℕ) →
     Fades (map (λ (c : Cell). c.byte) cells ++ rest) (map shown cells)
 cells_fade [] rest = tt
-cells_fade (c ∷ cells) rest = (by (as_it_is c.kind c.byte), cells_fade cells rest)
-  where
-    by : (shown c ≡ c.byte) ⊎ (shown c ≡ space) → is_word_byte (shown c) ≡ true → shown c ≡ c.byte
-    by (inl same) e = same
-    by (inr blank) e = absurd (true≢false (sym e ∙ ap is_word_byte blank))
+cells_fade (c ∷ cells) rest = grind (arith, as_it_is, cells_fade cells rest)
 
 all_fade : (bs : List ℕ) → Fades bs bs
 all_fade [] = tt
@@ -139,13 +135,11 @@ module _ (table : List Argument) where
 
   white_lacks : (t : List ℕ) → LacksNames table t → LacksNames table (skip_white t)
   white_lacks [] h = h
-  white_lacks (b ∷ bs) h = either (is_white b) (b ∷ bs) (skip_white bs)
-      (white_lacks bs (rest_lacks b bs h)) h
+  white_lacks (b ∷ bs) h = grind (arith, rest_lacks, white_lacks bs (rest_lacks b bs h))
 
   word_lacks : (t : List ℕ) → LacksNames table t → LacksNames table (skip_word t)
   word_lacks [] h = h
-  word_lacks (b ∷ bs) h = either (is_word_byte b) (b ∷ bs) (skip_word bs)
-      (word_lacks bs (rest_lacks b bs h)) h
+  word_lacks (b ∷ bs) h = grind (arith, rest_lacks, word_lacks bs (rest_lacks b bs h))
 
   first_unlisted : (t : List ℕ) → LacksNames table t → is_listed table (leading_word t) ≡ false
   first_unlisted t h = let kept = word_kept t t (all_fade t) in unlisted (leading_word t)
@@ -186,11 +180,7 @@ cells_end : (in_word : Bool) (cells : List Cell) →
     ends_in_word in_word (map (λ (c : Cell). c.byte) cells) ≡ false →
     ends_in_word in_word (map shown cells) ≡ false
 cells_end in_word [] e = e
-cells_end in_word (c ∷ []) e = by (as_it_is c.kind c.byte)
-  where
-    by : (shown c ≡ c.byte) ⊎ (shown c ≡ space) → is_word_byte (shown c) ≡ false
-    by (inl same) = ap is_word_byte same ∙ e
-    by (inr blank) = ap is_word_byte blank
+cells_end in_word (c ∷ []) e = grind (arith, as_it_is)
 cells_end in_word (c ∷ d ∷ cells) e = cells_end in_word (d ∷ cells) e
 
 -- Bytes that end in a block comment end in a space.
@@ -215,10 +205,7 @@ unsplit_before : (in_word : Bool) (p s : List ℕ) →
     ends_in_word in_word p ≡ false
 unsplit_before true [] s e b = grind (arith, e, b)
 unsplit_before false [] s e b = refl
-unsplit_before in_word (c ∷ p) s e b =
-    unsplit_before (is_word_byte c) p s (or_parts
-    (in_word && (c == backslash) && begins_ending (p ++ backslash ∷ s))
-    (splits_word (is_word_byte c) (p ++ backslash ∷ s)) e).1 b
+unsplit_before in_word (c ∷ p) s e b = grind (arith, or_parts, unsplit_before (is_word_byte c) p s)
 
 -- 4. Readings whose lines lack names.
 
@@ -280,16 +267,7 @@ module _ (table : List Argument) where
   -- The ending of a line begins so, whatever comes after it.
   begins : (l after : List ℕ) → not (is_empty (ending_of l)) ≡ true →
       begins_ending (ending_of l ++ after) ≡ true
-  begins l after = by (ends_with nat_eq l (carriage_return ∷ newline ∷ []))
-      (ends_with nat_eq l (newline ∷ []))
-    where
-      e : Bool → Bool → List ℕ
-      e x y = if x then carriage_return ∷ newline ∷ [] else if y then newline ∷ [] else []
-
-      by : (x y : Bool) → not (is_empty (e x y)) ≡ true → begins_ending (e x y ++ after) ≡ true
-      by true y some = refl
-      by false true some = refl
-      by false false some = cc
+  begins l after = grind arith
 
   -- A splice in an unsplit text follows no word.
   unspliced : (l : Line) (before after t : List ℕ) → t ≡ before ++ ((l.body ++ l.ending) ++ after) →
@@ -341,17 +319,15 @@ module _ (table : List Argument) where
   condition_unnamed kind xs false rs h e ended = rw (append-nil xs) e
   condition_unnamed kind xs true [] h e ended = rw (append-nil xs) e
   condition_unnamed kind xs true (r ∷ rs) h e ended =
-      by (fits r.line) (condition_unnamed kind r.scan.masked r.scan.joins_after rs h.1
-      (faded table false r.line.body r.scan.masked h.0.fades h.0.lacks) h.0.ended)
-    where
-      by : (f : Bool) → has_listed table false
-          (r.scan.masked ++ joined_text (Condition kind) r.scan.joins_after rs) ≡ false →
-          has_listed table false (xs ++ ((if f then r.scan.masked else []) ++ joined_text
-          (Condition kind) (f && r.scan.joins_after) rs)) ≡ false
-      by true more = has_word-seam (is_listed table) false xs
-          (r.scan.masked ++ joined_text (Condition kind) r.scan.joins_after rs) (ended refl) ∙
-          or_from (has_listed table false xs) _ e more
-      by false more = rw (append-nil xs) e
+      grind (
+        arith,
+        faded,
+        has_word-seam,
+        append-nil,
+        condition_unnamed kind r.scan.masked
+            r.scan.joins_after rs h.1 (faded table false r.line.body r.scan.masked h.0.fades h.0.lacks)
+            h.0.ended,
+      )
 
   closing_unnamed : (xs : List ℕ) (goes_on : Bool) (rs : List Reading) → AreLacking table rs →
       has_listed table false xs ≡ false →
@@ -359,17 +335,15 @@ module _ (table : List Argument) where
   closing_unnamed xs false rs h e = rw (append-nil xs) e
   closing_unnamed xs true [] h e = rw (append-nil xs) e
   closing_unnamed xs true (r ∷ rs) h e =
-      by (fits r.line) (closing_unnamed r.line.body r.scan.joins_after rs h.1
-      (faded table false r.line.body r.line.body (all_fade r.line.body) h.0.lacks))
-    where
-      by : (f : Bool) → has_listed table false
-          (r.line.body ++ joined_text Closing r.scan.joins_after rs) ≡ false →
-          has_listed table false (xs ++ ((if f then space ∷ r.line.body else []) ++ joined_text
-          Closing (f && r.scan.joins_after) rs)) ≡ false
-      by true more = has_word-other (is_listed table) false xs
-          (r.line.body ++ joined_text Closing r.scan.joins_after rs) space refl ∙ or_from
-          (has_listed table false xs) _ e more
-      by false more = rw (append-nil xs) e
+      grind (
+        arith,
+        all_fade,
+        has_word-other,
+        append-nil,
+        closing_unnamed r.line.body
+            r.scan.joins_after rs h.1 (faded table false r.line.body r.line.body (all_fade r.line.body)
+            h.0.lacks),
+      )
 
   -- `AreUnnamed ms`: none of the mentions `ms` names a symbol.
   abbrev AreUnnamed : List Mention → Type 0
@@ -446,25 +420,22 @@ module _ (table : List Argument) where
   are_unnamed true [] h = tt
   are_unnamed false [] h = tt
   are_unnamed true (r ∷ rs) h = are_unnamed (joins_next r) rs h.1
-  are_unnamed false (r ∷ rs) h = by (mention_on table r) (line_unnamed r rs h.0 h.1)
-      (are_unnamed (joins_next r) rs h.1) (are_unnamed false rs h.1)
-    where
-      by : (p : Option Mention) → IsUnnamed r rs p →
-          AreUnnamed (mentions_in table (joins_next r) rs) →
-          AreUnnamed (mentions_in table false rs) →
-          AreUnnamed (begun p (joins_next r) rs (mentions_in table (joins_next r) rs)
-          (mentions_in table false rs))
-      by None u inside others = others
-      by (Some m) u inside others = (u, inside)
+  are_unnamed false (r ∷ rs) h =
+      grind (arith, line_unnamed, are_unnamed (joins_next r) rs h.1, are_unnamed false rs h.1)
 
 -- 6. What is appended: nothing.
 unnamed_append : (rows table : List Argument) (name : List ℕ) (ms : List Mention)
     (now : Search) → AreUnnamed table ms → Appends rows table name ms now now
 unnamed_append rows table name [] now u = appends_none rows table name now
 unnamed_append rows table name (m ∷ ms) now u =
-    appends_more rows table name (m ∷ []) ms now now now
-    (grind (arith, u.0, append-nil, and_right, common_steps))
-    (unnamed_append rows table name ms now u.1)
+    grind (
+      arith,
+      common_steps,
+      appends_more,
+      append-nil,
+      and_right,
+      unnamed_append rows table name ms now u.1,
+    )
 
 -- So nothing is appended for such a text.
 pub appends_nothing : (rows table : List Argument) (mode : Mode) (name t : List ℕ)

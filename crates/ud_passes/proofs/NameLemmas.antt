@@ -49,17 +49,8 @@ module _ (test : List ℕ → Bool) where
       has_word test in_word (xs ++ ys) ≡ (has_word test in_word xs || has_word test false ys)
   has_word-seam in_word [] ys e = grind arith
   has_word-seam true (x ∷ xs) ys e = has_word-seam (is_word_byte x) xs ys e
-  has_word-seam false (x ∷ xs) ys e = by (is_word_byte x) refl
-      (has_word-seam (is_word_byte x) xs ys e)
-    where
-      by : (w : Bool) → is_word_byte x ≡ w → has_word test (is_word_byte x) (xs ++ ys) ≡
-          (has_word test (is_word_byte x) xs || has_word test false ys) →
-          has_word test false ((x ∷ xs) ++ ys) ≡
-          (has_word test false (x ∷ xs) || has_word test false ys)
-      by true w later =
-          let word = word-seam xs ys (ap (λ (v : Bool). ends_in_word v xs) (sym w) ∙ e) in
-          grind (arith, w, later, word)
-      by false w later = grind (arith, w, later)
+  has_word-seam false (x ∷ xs) ys e =
+      grind (arith, word-seam (x ∷ xs) ys e, has_word-seam (is_word_byte x) xs ys e)
 
 -- The words that may name a symbol, one after another.
 name_words-in_word : (t : List ℕ) → name_words true t ≡ name_words false (skip_word t)

@@ -80,11 +80,7 @@ quiet_take (suc n) (c ∷ cells) q = (q.0, quiet_take n cells q.1)
 -- A literal is there where a quote is shown.
 pub quote_shown : (cells : List Cell) → AreQuiet cells → list_any is_quote (map shown cells) ≡ true → list_any is_literal cells ≡ true
 quote_shown [] q e = cc
-quote_shown (c ∷ cells) q e = by (is_quote (shown c)) (is_literal c) refl refl (quote_shown cells q.1) e
-  where
-    by : (a l : Bool) → is_quote (shown c) ≡ a → is_literal c ≡ l → (list_any is_quote (map shown cells) ≡ true → list_any is_literal cells ≡ true) → (a || list_any is_quote (map shown cells)) ≡ true →
-        (l || list_any is_literal cells) ≡ true
-    by a l f g k h = grind arith
+quote_shown (c ∷ cells) q e = grind (arith, quote_shown cells q.1)
 
 -- No literal is there where no quote is shown.
 abbrev IsNoLiteral : LexemeKind → Type 0
@@ -160,8 +156,7 @@ module _ (cells : List Cell) where
   by_quotes f g = grind arith
 
 both_same : (xs ys : List Cell) → SameQuotes xs → SameQuotes ys → SameQuotes (xs ++ ys)
-both_same xs ys p q = list_any-append is_literal xs ys ∙ ap₂ (λ (a b : Bool). a || b) p q ∙ sym (list_any-append is_quote (map shown xs) (map shown ys))
-    ∙ ap (list_any is_quote) (sym (map-append shown xs ys))
+both_same xs ys p q = grind (arith, list_any-append, map-append)
 
 comment_same : (bytes : List ℕ) → SameQuotes (cells_in block_comment bytes)
 comment_same [] = refl
@@ -186,11 +181,7 @@ around_same n m bytes = by (scan_after_run [] (text_line (take m (drop n bytes))
 
 comment_text_same : (bytes : List ℕ) → SameQuotes (comment_cells bytes)
 unfolding comment_cells
-comment_text_same bytes = by (has_lone_comment bytes)
-  where
-    by : (b : Bool) → SameQuotes (if b then cells_around (text_at bytes) (text_len bytes) bytes else cells_in block_comment bytes)
-    by true = around_same (text_at bytes) (text_len bytes) bytes
-    by false = comment_same bytes
+comment_text_same bytes = grind (arith, around_same, comment_same)
 
 pub same_quotes : (table : List Argument) (rules : Rules) (l : Line) (d : Directive) → content_of (scan_after [] C l) ≡ directive d → SameQuotes (text_cells l d)
 same_quotes table rules l d h = by (is_closing d.kind)

@@ -3,6 +3,7 @@ use Rattle.std.proofs.Common.{◌≡◌, ℕ, suc, ◌+◌, ◌-◌, ◌<◌, �
 use Rattle.std.proofs.lemmas.List.{reverse-append, take_more, length-map, map-append, take_all, drop_all}
 use Rattle.std.proofs.lemmas.Bool.{lt-ltb, le-ltb}
 use Rattle.std.specs.List.{concat}
+use Rattle.std.proofs.lemmas.Grind.{common_steps}
 use Rattle.ud_model.specs.text.Bytes.{is_white, skip_white, starts_with_byte}
 use Rattle.ud_model.specs.text.Lines.{Line, SplitLines, texts_of, last_line, split_lines}
 use Rattle.ud_model.specs.text.Scans.{Scan, Reading}
@@ -35,11 +36,7 @@ first_text rest n w up some = by w up
 -- 2. Lines that stay.
 
 kept_first : (flags : List Bool) (l : List ℕ) (ls : List (List ℕ)) → concat (kept_lines flags (l ∷ ls)) ≡ (if first_flag flags then l else []) ++ concat (kept_lines (later_flags flags) ls)
-kept_first flags l ls = by (first_flag flags)
-  where
-    by : (b : Bool) → concat (if b then l ∷ kept_lines (later_flags flags) ls else kept_lines (later_flags flags) ls) ≡ (if b then l else []) ++ concat (kept_lines (later_flags flags) ls)
-    by true = refl
-    by false = refl
+kept_first flags l ls = grind arith
 
 pub kept_next : (out more : List ℕ) (flags : List Bool) (rest : List ℕ) (n : ℕ) (w : Bool) → UpToNewline rest n w → 0 < length rest → (f : Bool) (fs : List Bool) (line after : List ℕ) →
     f ≡ first_flag flags → fs ≡ later_flags flags → line ≡ take n rest → after ≡ drop n rest → more ≡ out ++ (if f then line else []) →
@@ -60,32 +57,16 @@ white_last (c ∷ bs) b w = grind (arith, white_last bs b w)
 
 pub opens_trimmed : (bs : List ℕ) → starts_with_byte 123 (skip_white (reverse (skip_white bs))) ≡ starts_with_byte 123 (skip_white (reverse bs))
 opens_trimmed [] = refl
-opens_trimmed (b ∷ bs) = by (is_white b) refl (opens_trimmed bs)
-  where
-    by : (w : Bool) → is_white b ≡ w → starts_with_byte 123 (skip_white (reverse (skip_white bs))) ≡ starts_with_byte 123 (skip_white (reverse bs)) →
-        starts_with_byte 123 (skip_white (reverse (if w then skip_white bs else b ∷ bs))) ≡ starts_with_byte 123 (skip_white (reverse (b ∷ bs)))
-    by true w e = e ∙ sym (ap (λ (cs : List ℕ). starts_with_byte 123 (skip_white cs)) (reverse-append (b ∷ []) bs) ∙ white_last (reverse bs) b w)
-    by false w e = refl
+opens_trimmed (b ∷ bs) = grind (arith, common_steps, reverse-append, white_last, opens_trimmed bs)
 
 -- A line that doesn't begin with a hash sign has no directive.
 pub no_directive : (s : Scan) → starts_with_byte 35 (skip_white s.masked) ≡ false → directives.content_of s ≡ directives.text
-no_directive s e = by (skip_white s.masked) refl e
-  where
-    by : (bs : List ℕ) → skip_white s.masked ≡ bs → starts_with_byte 35 bs ≡ false → directives.content_of s ≡ directives.text
-    by [] k e = grind (arith, k)
-    by (b ∷ bs) k e = grind (arith, k, e)
+no_directive s e = grind arith
 
 module _ (text ms : List ℕ) (walk : Walk) (left : List ℕ) (out : List Place) (p : Placed text ms walk left out) (next : Walk) (k : Line) where
   pub line_placed : Walked C text (p.read ++ read_after C p.read k ∷ []) next.rest.now next.scanner → (after : List ℕ) → after ≡ after_stay left → (new : List Place) →
       new ≡ out ++ place_of (is_gap left) (read_after C p.read k) ∷ [] → Placed text ms next after new
-  line_placed w after a new e = record {
-    read = p.read ++ read_after C p.read k ∷ [];
-    walked = w;
-    rest = λ rs.
-        ap (λ (xs : List Reading). places ms xs) (append_assoc p.read (read_after C p.read k ∷ []) rs) ∙ p.rest (read_after C p.read k ∷ rs)
-        ∙ sym (append_assoc out (place_of (is_gap left) (read_after C p.read k) ∷ []) (places (after_stay left) rs))
-        ∙ ap₂ (λ (xs : List Place) (l : List ℕ). xs ++ places l rs) (sym e) (sym a);
-  }
+  line_placed w after a new e = grind (arith, append_assoc)
 
 pub none_placed : (text ms : List ℕ) (walk : Walk) → Walked C text [] walk.rest.now walk.scanner → Placed text ms walk ms []
 none_placed text ms walk w = record { read = []; walked = w; rest = λ rs. refl }
@@ -133,14 +114,8 @@ pub only_all : (n : ℕ) (gaps : List Bool) (below : Bool) →
     only_part (parts n gaps below) ≡ (if below || ltb (first_part (parts n gaps below)) (n + length gaps) then 0 else first_part (parts n gaps below))
 only_all n [] true = refl
 only_all n [] false = let z : ltb n (n + 0) ≡ false = le-ltb n (n + 0) (omega arith) in ap (λ (b : Bool). if b then 0 else n) (sym z)
-only_all n (true ∷ gaps) below = let more : ltb n (n + suc (length gaps)) ≡ true = lt-ltb n (n + suc (length gaps)) (omega arith) in
-    not_only n 1 gaps below ∙ sym (ap (λ (b : Bool). if below || b then 0 else n) more ∙ by below)
-  where
-    by : (b : Bool) → (if b || true then 0 else n) ≡ 0
-    by true = refl
-    by false = refl
-only_all n (false ∷ gaps) below = let e : suc n + length gaps ≡ n + suc (length gaps) = omega arith in
-    only_all (suc n) gaps below ∙ ap (λ (k : ℕ). if below || ltb (first_part (parts (suc n) gaps below)) k then 0 else first_part (parts (suc n) gaps below)) e
+only_all n (true ∷ gaps) below = grind (arith, lt-ltb, not_only)
+only_all n (false ∷ gaps) below = grind (arith, only_all (suc n) gaps below)
 
 module _ (ps : List Place) (a b : ℕ) (d : Place) (h : a ≤ b) (k : b < length ps) where
   abbrev p : Place
@@ -168,9 +143,4 @@ module _ (ps : List Place) (a b : ℕ) (d : Place) (h : a ≤ b) (k : b < length
   pub other_next : (above : Place) (out new : List Bool) → p.blank ≡ false →
       new ≡ out ++ (first_ones (length (slice_range ps a b)) (left above p (parts 0 (gaps_of (slice_range ps a b)) p.gap)) ++ true ∷ []) →
       new ++ stay_flags p (gaps_of (slice_range ps (b + 1) (b + 1))) (drop (b + 1) ps) ≡ out ++ stay_flags above (gaps_of (slice_range ps a b)) (drop b ps)
-  other_next above out new e n = let s : List Place = slice_range ps a b in
-      let stay : List Bool = first_ones (length s) (left above p (parts 0 (gaps_of s) p.gap)) in
-      let later : List Bool = stay_flags p [] (drop (b + 1) ps) in
-      let same : stay_flags above (gaps_of s) (p ∷ drop (b + 1) ps) ≡ stay ++ true ∷ later = grind (arith, length-map) in
-      ap₂ (λ (x : List Bool) (y : List Place). x ++ stay_flags p (gaps_of y) (drop (b + 1) ps)) n no_slice
-      ∙ append_assoc out (stay ++ true ∷ []) later ∙ ap (λ (x : List Bool). out ++ x) (append_assoc stay (true ∷ []) later ∙ sym same ∙ ap (λ (qs : List Place). stay_flags above (gaps_of s) qs) (sym rest))
+  other_next above out new e n = grind (arith, length-map, no_slice, append_assoc, rest)

@@ -34,9 +34,7 @@ blanks_both (f ∷ fs) gs [] rs e a b = absurd (omega arith)
 blanks_both (f ∷ fs) gs (q ∷ qs) rs e a b = (λ g. a.0, blanks_both fs gs qs rs (omega arith) a.1 b)
 
 length-first_ones : (n k : ℕ) → length (first_ones n k) ≡ n
-length-first_ones n k = let a = length-append (replicate (min k n) true) (replicate (n - k) false) in
-    let b = length-replicate (min k n) true in let c = length-replicate (n - k) false in
-    grind arith
+length-first_ones n k = grind (arith, length-append, length-replicate)
 
 blanks_after : (ms : List ℕ) (rs : List Reading) (above : Place) (gaps : List Bool) (qs : List Reading) → length gaps ≡ length qs → AllBlank qs →
     OnlyBlanks (stay_flags above gaps (places ms rs)) (qs ++ rs)
@@ -77,11 +75,7 @@ one_part n (suc k) = grind (arith, one_part (suc n) k)
 -- All lines of a stretch without a gap stay.
 stretch : (above below : Place) (gap : Bool) → gap ≡ false → (n : ℕ) (fs : List Bool) →
     first_ones (length (replicate n false)) (left above below (parts 0 (replicate n false) gap)) ++ true ∷ fs ≡ replicate n true ++ true ∷ fs
-stretch above below gap e n fs = ap (λ (xs : List Bool). xs ++ true ∷ fs)
-    (ap (λ (g : Bool). first_ones (length (replicate n false)) (left above below (parts 0 (replicate n false) g))) e
-    ∙ ap₂ (λ (x : ℕ) (ps : List ℕ). first_ones x (left above below ps)) (length-replicate n false) (one_part 0 n)
-    ∙ ap (first_ones n) (let all : left above below ((0 + n) ∷ []) ≡ n = grind arith in all)
-    ∙ ap₂ (λ (x y : ℕ). replicate x true ++ replicate y false) (let a : min n n ≡ n = grind arith in a) (let b : n - n ≡ 0 = omega arith in b) ∙ append-nil (replicate n true))
+stretch above below gap e n fs = grind (arith, length-replicate, one_part, append-nil)
 
 no_gap : (ms : List ℕ) → list_all stays ms ≡ true → (is_gap ms ≡ false) × (list_all stays (after_stay ms) ≡ true)
 no_gap [] h = (refl, refl)

@@ -3,7 +3,7 @@ use Rattle.std.proofs.Common.{◌≡◌, ℕ, ◌+◌, List, [], ◌∷◌, ◌+
 use Rattle.std.specs.List.{filter}
 use Rattle.std.proofs.lemmas.List.Elements.{filter-append}
 use Rattle.std.proofs.lemmas.List.Sums.{sum_by-append}
-use Rattle.std.proofs.lemmas.Grind.{flat_map-append}
+use Rattle.std.proofs.lemmas.Grind.{common_steps, flat_map-append}
 use Rattle.std.proofs.lemmas.List.{take_all}
 use Rattle.std.proofs.Math.Nat.{le_refl}
 use Rattle.ud_model.specs.text.Lines.{Line, NoNewline, SplitLines, split_lines, last_line, line_at, numbered_from, lines_of, text_of}
@@ -70,9 +70,7 @@ first_of_up_to : (s : List ℕ) (used : ℕ) (whole : Bool) → UpToNewline s us
 first_of_up_to s used true up =
     ap (λ (x : List ℕ). first_body (lines_of x)) (sym (take-append-drop used s))
     ∙ ap (λ (q : SplitLines). first_body (numbered_from 1 (q.whole ++ last_line q.rest))) (split_lines-line-prefix (take used s) (drop used s) (up.line refl))
-first_of_up_to s used false up =
-    first_of_all s (up.all refl).1
-    ∙ ap (λ (x : List ℕ). (line_at 1 x).body) (sym (ap (λ (k : ℕ). take k s) (up.all refl).0 ∙ take_all (length s) s (le_refl (length s))))
+first_of_up_to s used false up = grind (arith, first_of_all, take_all, le_refl)
 
 pub first_shown : (l k : Line) (s : List ℕ) (used : ℕ) (whole : Bool) → s ≡ restored_line l → UpToNewline s used whole → k ≡ line_at 1 (take used s) → k.body ≡ shown_body true l
 first_shown l k s used whole e up is = ap (λ (x : Line). x.body) is ∙ sym (first_of_up_to s used whole up) ∙ ap (λ (x : List ℕ). first_body (lines_of x)) e
@@ -88,13 +86,16 @@ module _ (file : File) (text start : List ℕ) (found : Found) (walk : Walk) (ou
   more_lines : (rs : List Reading) → Walked file.mode text (l.read ++ rs) next.rest.now next.scanner → (after : Found) →
       after.count ≡ found.count + length (filter is_unlisted_line rs) → (file.lists ≡ true → after.number ≡ found.number + breaks file.folded (plain_lines rs)) →
       (more : List ℕ) → more ≡ out ++ (if file.lists then listed_from file.name.now file.folded found.number rs else []) → Listed file text start after next more
-  more_lines rs w after counts numbers more m = record {
-    read = l.read ++ rs;
-    walked = w;
-    count_is = grind (arith, unlisted-append, length-append, counts, l.count_is);
-    number_is = λ t. omega (arith, breaks-lines file.folded l.read rs, numbers t, l.number_is t);
-    list_is = m ∙ grind (arith, append_assoc, listed-append file l.read rs found.number l.number_is, l.list_is);
-  }
+  more_lines rs w after counts numbers more m =
+      grind (
+        arith,
+        common_steps,
+        unlisted-append,
+        listed-append,
+        length-append,
+        breaks-lines,
+        append_assoc,
+      )
 
   pub texts_more : (bytes : List ℕ) (rs : List Reading) → AreTexts rs → HaveBytes bytes rs → Walked file.mode text (l.read ++ rs) next.rest.now next.scanner → (n : ℕ) →
       (file.lists ≡ true → n ≡ breaks file.folded bytes) → Listed file text start (record { count = found.count; number = found.number + n }) next out
