@@ -80,13 +80,9 @@ module _ (table : List Argument) where
   pub clear_hashless : (n : ℕ) (t : List ℕ) → Nowhere (Passes (is_byte 35) t) 0 n → IsClear table n t
   clear_hashless zero t none = tt
   clear_hashless (suc n) [] none = tt
-  clear_hashless (suc n) (b ∷ bs) none = (
-    by_test (b == 35) refl,
-    clear_hashless n bs (λ k low high. none (suc k) (omega arith) (omega arith)),
-  )
-    where
-      by_test : (t : Bool) → (b == 35) ≡ t → ((b == 35) && defines_after table bs) ≡ false
-      by_test t e = grind arith
+  clear_hashless (suc n) (b ∷ bs) none = let here = none 0 (omega arith) (omega arith) in
+      grind (arith, here, clear_hashless n bs (λ k low high. none (suc k) (omega arith) (omega
+          arith)))
 
   -- A byte more that has no definition after it.
   pub clear_one : (n : ℕ) (t : List ℕ) → IsClear table n t → defines_after table (drop (n + 1) t) ≡ false → IsClear table (n + 1) t
@@ -102,7 +98,7 @@ module _ (table : List Argument) where
   line_clear [] e n h long c = refl
   line_clear (b ∷ bs) e zero h long c = absurd (omega arith)
   line_clear (b ∷ bs) e (suc n) h long c =
-      grind (arith, defines_after-ends, line_clear bs e n h (omega arith) c.1)
+      grind (arith, defines_after-ends bs e h, line_clear bs e n h (omega arith) c.1)
 
   ends_on : (e more : List ℕ) → IsFeed e → Ends (e ++ more)
   ends_on _ more one = feed more
@@ -116,12 +112,12 @@ module _ (table : List Argument) where
   -- The first line of clear bytes.
   first_clear : (l after : List ℕ) (first n : ℕ) → IsWhole l → length l ≤ n → IsClear table n (l ++ after) → (r : Reading) → r.line ≡ line_at first l → is_definition table r ≡ false
   first_clear l after first n whole long c r e = let k : Line = line_at first l in
-      let parts : l ++ after ≡ k.body ++ (k.ending ++ after) = ap (λ (x : List ℕ). x ++ after) (sym (body-ending l)) ∙ append_assoc k.body k.ending after in
-      let size = length-append k.body k.ending in
-      let same_size = ap (λ (x : List ℕ). length x) (body-ending l) in
-      let none : defines table k.body ≡ false = line_clear k.body (k.ending ++ after) n (ends_on k.ending after (whole_ending l whole)) (omega (arith, size, same_size, long)) (subst (IsClear table n) parts c) in
-      and_right r.scan.fresh (defines table r.scan.masked && defines table r.line.body)
-      (and_right (defines table r.scan.masked) (defines table r.line.body) (ap (λ (x : Line). defines table x.body) e ∙ none))
+      let parts : l ++ after ≡ k.body ++ (k.ending ++ after) = grind (arith, body-ending l,
+          append_assoc) in
+      let none : defines table k.body ≡ false = grind (arith, c, body-ending l, parts, whole_ending
+          l whole, length-append, long, line_clear k.body (k.ending ++ after) n (ends_on k.ending
+          after (whole_ending l whole))) in
+      grind (arith, none, e)
 
   -- The lines of clear bytes define nothing.
   pub lines_clear : (ls : List (List ℕ)) (first n : ℕ) (more : List ℕ) → AreWhole ls → length (concat ls) ≤ n → IsClear table n (concat ls ++ more) →

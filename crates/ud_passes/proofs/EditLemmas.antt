@@ -33,6 +33,28 @@ same_cut b a c q = sym (cut_there b c) ∙ ap (λ (x : List ℕ). take (length x
 same_line : (a b : Line) → a.body ≡ b.body → a.ending ≡ b.ending → a.number ≡ b.number → a ≡ b
 same_line a b p q r = grind arith
 
+-- The line `e` that is read of the bytes of a whole line `k`.
+module _ (k : Line) (no : NoNewline k.body) (end : IsEnd k.ending) (bytes : List ℕ)
+    (bytes_are : bytes ≡ text_of k) (n : ℕ) (e : Line) (w : Bool)
+    (to : UpToNewline bytes (length (text_of e)) w)
+    (is : e ≡ line_at n (take (length (text_of e)) bytes)) where
+  whole : IsWhole bytes
+  whole = subst IsWhole (sym bytes_are) (ended k.body k.ending no end)
+
+  line_read : e ≡ line_at n bytes
+  line_read =
+      let all : UpToNewline bytes (length bytes) true = grind (arith, whole, take_all) in
+      let once = up_to_newline-once bytes (length (text_of e)) (length bytes) w true to all in
+      grind (arith, take_all, once)
+
+  pub ending_read : e.ending ≡ ending_of (text_of k)
+  ending_read = grind (arith, line_read)
+
+  -- With the same ending, it has the same body.
+  pub body_read : e.ending ≡ k.ending → e.body ≡ k.body
+  body_read same = same_cut e.body k.body k.ending (ap (λ (x : List ℕ). e.body ++ x) (sym same)
+      ∙ ap text_of line_read ∙ text_of-line_at n bytes ∙ bytes_are)
+
 -- 2. Other directives.
 
 other_kind : (j k : Kind) → same_kind j j ≡ false → same_kind j k ≡ false
@@ -82,24 +104,10 @@ module _ (table : List Argument) (rules : Rules) (l : Line) (d : Directive) (i :
     no_newline : NoNewline k.body
     no_newline = edited_body table rules l d no
 
-    whole : IsWhole bytes
-    whole = subst IsWhole (sym bytes_are) (ended k.body l.ending no_newline end)
-
-    up_to_end : UpToNewline bytes (length bytes) true
-    up_to_end = grind (arith, whole, take_all)
-
     -- The line that is read of these bytes.
     module _ (e : Line) (w : Bool) (to : UpToNewline bytes (length (text_of e)) w) (is : e ≡ line_at l.number (take (length (text_of e)) bytes)) where
-      read_is : e ≡ line_at l.number bytes
-      read_is =
-          let once = up_to_newline-once bytes (length (text_of e)) (length bytes) w true to up_to_end in
-          is ∙ ap (λ (n : ℕ). line_at l.number (take n bytes)) once.1 ∙ ap (λ (x : List ℕ). line_at l.number x) (take_all (length bytes) bytes (omega arith))
-
-      read_text : text_of e ≡ bytes
-      read_text = ap text_of read_is ∙ text_of-line_at l.number bytes
-
       read_ending : e.ending ≡ ending_of (text_of k)
-      read_ending = grind (arith, read_is)
+      read_ending = ending_read k no_newline end bytes bytes_are l.number e w to is
 
       -- Another ending.
       pub other_ending : bytes_eq e.ending l.ending ≡ false → text_of (line_if_read table rules l d) ≡ text_of l
@@ -110,7 +118,7 @@ module _ (table : List Argument) (rules : Rules) (l : Line) (d : Directive) (i :
         keeps = grind (arith, bytes_eq-Decides, read_ending)
 
         body_same : e.body ≡ k.body
-        body_same = grind (arith, same_cut, read_text)
+        body_same = body_read k no_newline end bytes bytes_are l.number e w to is same
 
         number_is : e.number ≡ l.number
         number_is = grind arith
@@ -124,7 +132,8 @@ module _ (table : List Argument) (rules : Rules) (l : Line) (d : Directive) (i :
 
         -- Other bytes, if they are read so.
         pub edited_if : bytes_eq e.body l.body ≡ false → (b : Bool) → b ≡ is_meant d (map shown (left_cells_of table rules l d)) e (scan_after_run [] e) → IsEditedAt table rules l d b bytes
-        edited_if f b m = grind (arith, e_is, keeps, same_cut, read_text, bytes_eq-Decides)
+        edited_if f b m =
+            grind (arith, e_is, keeps, same_cut, ap text_of e_is ∙ sym bytes_are, bytes_eq-Decides)
 
 -- 4. A line that joins no other one.
 

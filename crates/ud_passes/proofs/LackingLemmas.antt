@@ -111,13 +111,9 @@ module _ (table : List Argument) where
   faded in_word bs [] f h = refl
   faded in_word [] (x ∷ xs) f h = absurd f
   faded true (b ∷ bs) (x ∷ xs) f h = faded (is_word_byte x) bs xs f.1 (rest_lacks b bs h)
-  faded false (b ∷ bs) (x ∷ xs) f h =
-      let more = faded (is_word_byte x) bs xs f.1 (rest_lacks b bs h) in
-      let kept = word_kept (b ∷ bs) (x ∷ xs) f in
+  faded false (b ∷ bs) (x ∷ xs) f h = let kept = word_kept (b ∷ bs) (x ∷ xs) f in
       let none = unlisted (leading_word (x ∷ xs)) (h [] (leading_word (x ∷ xs)) kept.0 kept.1) in
-      or_from (is_word_byte x && is_listed table (leading_word (x ∷ xs)))
-      (has_listed table (is_word_byte x) xs)
-      (and_right (is_word_byte x) (is_listed table (leading_word (x ∷ xs))) none) more
+      grind (arith, none, faded (is_word_byte x) bs xs f.1 (rest_lacks b bs h))
 
   -- Nor one of their last bytes.
   rest_faded : (bs p xs : List ℕ) → Fades bs (p ++ xs) → LacksNames table bs →
@@ -146,21 +142,18 @@ module _ (table : List Argument) where
       (h [] (leading_word t) kept.0 kept.1)
 
   definer_lacks : (t : List ℕ) → LacksNames table t → defines_by table t ≡ false
-  definer_lacks t h = let name = skip_white (skip_word t) in
-      and_right (is_definer (leading_word t)) (is_listed table (leading_word name))
-      (first_unlisted name (white_lacks (skip_word t) (word_lacks t h)))
+  definer_lacks t h =
+      grind (arith, first_unlisted (skip_white (skip_word t)) (white_lacks (skip_word t) (word_lacks
+          t h)))
 
   defines_nothing : (t : List ℕ) → LacksNames table t → defines table t ≡ false
   defines_nothing t h = by (skip_white t) (white_lacks t h)
     where
-      by_sign : (sign : Bool) (bs : List ℕ) → LacksNames table bs →
-          defines_if table (if sign then Some bs else None) ≡ false
-      by_sign true bs k = definer_lacks (skip_white bs) (white_lacks bs k)
-      by_sign false bs k = refl
-
       by : (s : List ℕ) → LacksNames table s → defines_if table (skip_hash s) ≡ false
       by [] k = refl
-      by (b ∷ bs) k = by_sign (b == 35) bs (rest_lacks b bs k)
+      by (b ∷ bs) k =
+          let more = definer_lacks (skip_white bs) (white_lacks bs (rest_lacks b bs k)) in grind
+          (arith, more)
 
 -- 3. Where words end.
 
@@ -190,14 +183,7 @@ open_blank : (bytes : List ℕ) (w : LexState) (masked : List ℕ) →
     ends_in_word false (masked_after w masked bytes) ≡ false
 open_blank [] w masked e h = h e
 open_blank (b ∷ bytes) w masked e h =
-    open_blank bytes (next_state w b) ((if opens_comment w b then blank_last masked else masked) ++
-    masked_byte w b ∷ []) e
-    (λ inside. ends_last false (if opens_comment w b then blank_last masked else masked)
-    (masked_byte w b) ∙ blank w b inside)
-  where
-    blank : (w : LexState) (b : ℕ) → is_block (kind_in_state (next_state w b)) ≡ true →
-        is_word_byte (masked_byte w b) ≡ false
-    blank w b inside = let none : is_word_byte space ≡ false = refl in grind (arith, inside, none)
+    open_blank bytes (next_state w b) _ e (λ inside. grind (arith, ends_last, inside))
 
 -- A backslash that splits no word follows none.
 unsplit_before : (in_word : Bool) (p s : List ℕ) →
@@ -235,17 +221,9 @@ code_ended run l unsplit e = by (is_spliced l) refl
     from = scan_after_run-from run l w (white_after in_text true (spliced_text run)) (joins run)
         (LexesTo-all (spliced_text run)) refl
 
-    close : (stays : Bool) (v : LexState) → is_block (kind_in_state (state_after_line stays v)) ≡
-        true → is_block (kind_in_state v) ≡ true
-    close true v k = k
-    close false v k = grind (arith, k)
-
     by : (s : Bool) → is_spliced l ≡ s → ends_in_word false (scan_after_run run l).masked ≡ false
-    by true s = cells_end false (content_cells run l)
-        (ap (ends_in_word false) (bytes-content_cells run l) ∙ unsplit s)
-    by false s = ap (λ (x : Scan). ends_in_word false x.masked) from
-        ∙ open_blank (content l) w [] (close (stays_open l) (place_after w (content l))
-        (grind (arith, s, ap (λ (x : Scan). x.joins_after) from, e))) (λ k. refl)
+    by true s = grind (arith, cells_end, bytes-content_cells, unsplit s)
+    by false s = grind (arith, from, s, open_blank (content l) w [])
 
 module _ (table : List Argument) where
   read_lacking : (before : List Reading) (m : Mode) (l : Line) → LacksNames table l.body →
@@ -257,10 +235,8 @@ module _ (table : List Argument) where
       let front = content-prefix l in
       record {
         lacks = h;
-        fades = subst (λ (x : List ℕ). Fades l.body x) (sym (masked-content_cells before l))
-            (subst (λ (x : List ℕ). Fades x (map shown cells))
-            (ap (λ (x : List ℕ). x ++ front.0) (bytes-content_cells (c_run_of before) l) ∙ sym
-            front.1) (cells_fade cells front.0));
+        fades = grind (arith, masked-content_cells, bytes-content_cells, front.1, cells_fade cells
+            front.0);
         ended = code_ended (c_run_of before) l u;
       }
 
@@ -275,17 +251,11 @@ module _ (table : List Argument) where
       splits_word false t ≡ false → is_spliced l ≡ true → ends_in_word false (content l) ≡ false
   unspliced l before after t e b u s =
       let c = take (length l.body - 1) l.body in
-      let parts = and_parts (ends_with nat_eq l.body (backslash ∷ [])) (not (is_empty l.ending)) s
-      in
-      let body : l.body ≡ c ++ backslash ∷ [] =
-      (ends_is Decides-eqb l.body (backslash ∷ []) (ends_with nat_eq l.body (backslash ∷ []))
-      refl).0 parts.0 in
-      let is : t ≡ (before ++ c) ++ backslash ∷ (l.ending ++ after) = e ∙ ap
-      (λ (x : List ℕ). before ++ ((x ++ l.ending) ++ after)) body ∙ grind (arith, append_assoc)
-      in
-      ap (λ (x : Bool). ends_in_word false (if x then c else l.body)) s
-      ∙ ends_rest false before c (unsplit_before false (before ++ c) (l.ending ++ after)
-      (ap (splits_word false) (sym is) ∙ u) (b parts.1))
+      let body : l.body ≡ c ++ backslash ∷ [] = grind (arith, s, ends_is Decides-eqb l.body
+          (backslash ∷ []) (ends_with nat_eq l.body (backslash ∷ [])) refl) in
+      let is : t ≡ (before ++ c) ++ backslash ∷ (l.ending ++ after) = rw e (rw body (grind (arith,
+          append_assoc))) in
+      grind (arith, s, is, u, ends_rest, unsplit_before)
 
   one_more : (rs : List Reading) (r : Reading) → AreLacking table rs → IsLacking table r →
       AreLacking table (rs ++ r ∷ [])
@@ -368,26 +338,20 @@ module _ (table : List Argument) where
       before = (f.white ++ 35 ∷ f.gap) ++ f.word
 
       is : r.scan.masked ≡ before ++ d.after
-      is = f.masked_is ∙ sym (append_assoc (f.white ++ 35 ∷ f.gap) f.word d.after)
+      is = grind (arith, f, append_assoc)
 
       condition : (kind : Kind) → has_listed table false
           (d.after ++ joined_text (Condition kind) (joins_next r) rs) ≡ false
-      condition kind = condition_unnamed kind d.after (joins_next r) rs k
-          (rest_faded table r.line.body before d.after
-          (subst (λ (x : List ℕ). Fades r.line.body x) is h.fades) h.lacks)
-          (λ g. ends_rest false before d.after
-          (ap (ends_in_word false) (sym is) ∙ h.ended
-          (and_parts (fits r.line) r.scan.joins_after g).1))
+      condition kind = grind (arith, h, k, is, condition_unnamed, rest_faded, ends_rest)
 
       n : ℕ
       n = length r.scan.masked - length d.after
 
       closing : has_listed table false (drop n r.line.body ++ joined_text Closing (joins_next r) rs)
           ≡ false
-      closing = closing_unnamed (drop n r.line.body) (joins_next r) rs k
-          (rest_faded table r.line.body (take n r.line.body) (drop n r.line.body)
-          (subst (λ (x : List ℕ). Fades r.line.body x) (sym (take-append-drop n r.line.body))
-          (all_fade r.line.body)) h.lacks)
+      closing =
+          grind (arith, h, k, closing_unnamed, rest_faded table r.line.body (take n r.line.body)
+          (drop n r.line.body), take-append-drop, all_fade)
 
       by : (kind : Kind) → IsUnnamed r rs (Some
           (mention_at r (class_of kind) (shown_after r d (class_of kind))))

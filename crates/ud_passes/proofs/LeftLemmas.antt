@@ -44,19 +44,21 @@ module _ (table : List Argument) (rules : Rules) where
 
   -- A condition that is decided stays.
   pub known_stays : (cells : List Cell) → is_unknown (expression_cond (map shown cells) table rules) ≡ false → simplified_cells table rules cells ≡ cells
-  known_stays cells h = by_option cells (simplified_cells table rules cells ≡ cells) (untouched table rules cells) (λ e p.
-      stays cells e p (and_left (is_unknown (tree_cond e table rules) && is_undecided table rules (residual table rules e)) (not (list_any is_literal cells)) (and_left (is_unknown (tree_cond e table rules)) (is_undecided table rules (residual table rules e)) (ap is_unknown (sym (cond_of (map shown cells) e p)) ∙ h))))
+  known_stays cells h =
+      by_option cells (simplified_cells table rules cells ≡ cells) (untouched table rules cells) (λ
+      e p. stays cells e p (grind (arith, cond_of, h, p)))
 
   -- A condition whose residual is decided stays.
   pub settled_stays : (cells : List Cell) → ((e : Expression) → expression_of (map shown cells) ≡ Some e → is_unknown (residual table rules e).cond ≡ false) → simplified_cells table rules cells ≡ cells
-  settled_stays cells h = by_option cells (simplified_cells table rules cells ≡ cells) (untouched table rules cells) (λ e p.
-      stays cells e p (and_left (is_unknown (tree_cond e table rules) && is_undecided table rules (residual table rules e)) (not (list_any is_literal cells))
-      (and_right (is_unknown (tree_cond e table rules)) (is_undecided table rules (residual table rules e)) (and_left (is_unknown (residual table rules e).cond) (is_unknown (tree_cond (residual table rules e).tree table rules)) (h e p)))))
+  settled_stays cells h =
+      by_option cells (simplified_cells table rules cells ≡ cells) (untouched table rules cells) (λ
+      e p. stays cells e p (grind (arith, h e p)))
 
   -- A text with a quote stays.
   pub quote_stays : (cells : List Cell) → list_any is_literal cells ≡ true → simplified_cells table rules cells ≡ cells
-  quote_stays cells h = by_option cells (simplified_cells table rules cells ≡ cells) (untouched table rules cells) (λ e p.
-      stays cells e p (and_right (is_unknown (tree_cond e table rules) && is_undecided table rules (residual table rules e)) (not (list_any is_literal cells)) (ap not h)))
+  quote_stays cells h =
+      by_option cells (simplified_cells table rules cells ≡ cells) (untouched table rules cells) (λ
+      e p. stays cells e p (grind (arith, h)))
 
   -- The rest takes the text's place exactly if it is read so, and unknown.
   module _ (cells : List Cell) (e : Expression) (p : expression_of (map shown cells) ≡ Some e) (unknown : is_unknown (expression_cond (map shown cells) table rules) ≡ true)
@@ -69,23 +71,14 @@ module _ (table : List Argument) (rules : Rules) where
 
     goes : is_read table rules e left ≡ true → is_unknown (expression_cond (map shown left) table rules) ≡ true → simplified_cells table rules cells ≡ left
     goes q r =
-        by_tree cells e p ∙ if_true (may_go table rules e cells) (is_read table rules e left) left cells
-        (both (is_unknown (tree_cond e table rules)) (is_undecided table rules (residual table rules e)) (not (list_any is_literal cells))
-        (ap is_unknown (sym (cond_of (map shown cells) e p)) ∙ unknown)
-        (both_of (is_unknown (residual table rules e).cond) (is_unknown (tree_cond (residual table rules e).tree table rules)) left_unknown (ap is_unknown (sym (rest_cond q)) ∙ r))
-        (ap not no_quote)) q
-      where
-        both_of : (a b : Bool) → a ≡ true → b ≡ true → (a && b) ≡ true
-        both_of a b x y = grind arith
+        let a = cond_of (map shown cells) e p in let b = rest_cond q in let c = by_tree cells e p in
+        grind (arith, a, b, c)
 
     misread : is_read table rules e left ≡ false → simplified_cells table rules cells ≡ cells
     misread q = by_tree cells e p ∙ if_false₂ (may_go table rules e cells) (is_read table rules e left) left cells q
 
     decided : is_read table rules e left ≡ true → is_unknown (expression_cond (map shown left) table rules) ≡ false → simplified_cells table rules cells ≡ cells
-    decided q r =
-        stays cells e p (and_left (is_unknown (tree_cond e table rules) && is_undecided table rules (residual table rules e)) (not (list_any is_literal cells))
-        (and_right (is_unknown (tree_cond e table rules)) (is_undecided table rules (residual table rules e))
-        (and_right (is_unknown (residual table rules e).cond) (is_unknown (tree_cond (residual table rules e).tree table rules)) (ap is_unknown (sym (rest_cond q)) ∙ r))))
+    decided q r = let b = rest_cond q in stays cells e p (grind (arith, b))
 
     -- The bytes of what is left.
     pub found_or_stays : (b : Bool) (text : LeftText) → AreCells left text.bytes.items text.shown.items → b ≡ stands table rules e left → IsFound table rules cells b text

@@ -82,13 +82,6 @@ pub splits_word-pass : (in_word : Bool) (t : List ℕ) (n : ℕ) → n ≤ lengt
 splits_word-pass in_word t zero fits none = refl
 splits_word-pass in_word [] (suc n) fits none = absurd (omega (arith, fits))
 splits_word-pass in_word (b ∷ bs) (suc n) fits none =
-    let later = splits_word-pass (is_word_byte b) bs n (omega (arith, fits))
-    (λ k low high. none (suc k) (omega arith) (omega arith)) in
-    by (b == 92) refl later
-  where
-    by : (t : Bool) → (b == 92) ≡ t → splits_word (is_word_byte b) bs ≡ splits_word
-        (ends_in_word (is_word_byte b) (take n bs)) (drop n bs) →
-        splits_word in_word (b ∷ bs) ≡ splits_word (ends_in_word (is_word_byte b) (take n bs))
-        (drop n bs)
-    by true e later = absurd (none 0 (omega arith) (omega arith) e)
-    by false e later = grind (arith, e, later)
+    let here = none 0 (omega arith) (omega arith) in
+    grind (arith, here, splits_word-pass (is_word_byte b) bs n (omega (arith, fits)) (λ k low high.
+        none (suc k) (omega arith) (omega arith)))

@@ -24,9 +24,7 @@ use Rattle.ud_simplified.proofs.SimplifiedLines.{after_is}
 -- 1. Bytes.
 
 pub any_append : (p : ℕ → Bool) (xs ys : List ℕ) → list_any p xs ≡ false → list_any p ys ≡ false → list_any p (xs ++ ys) ≡ false
-any_append p [] ys e f = f
-any_append p (x ∷ xs) ys e f = let h = or_parts (p x) (list_any p xs) e in
-    ap (λ (b : Bool). b || list_any p (xs ++ ys)) h.0 ∙ any_append p xs ys h.1 f
+any_append p xs ys e f = grind (arith, list_any-append)
 
 -- 2. Cells.
 
@@ -100,13 +98,10 @@ none_from : (k : LexemeKind) (n m : ℕ) (text : List ℕ) → IsNoLiteral k →
 unfolding lex_from
 none_from k n zero text l e = refl
 none_from k n (suc m) [] l e = refl
-none_from k zero (suc m) (a ∷ rest) l e = let x = lexeme_at a rest in
-    let p = or_parts (is_quote (shown_as x.kind a)) (list_any is_quote (map shown (take m (lex_from x.kind x.more rest)))) e in
-    let n : IsNoLiteral x.kind = none_at a rest p.0 in
-    ap (λ (b : Bool). b || list_any is_literal (take m (lex_from x.kind x.more rest))) (no_literal_cell x.kind a n) ∙ none_from x.kind x.more m rest n p.1
-none_from k (suc n) (suc m) (a ∷ rest) l e =
-    let p = or_parts (is_quote (shown_as k a)) (list_any is_quote (map shown (take m (lex_from k n rest)))) e in
-    ap (λ (b : Bool). b || list_any is_literal (take m (lex_from k n rest))) (no_literal_cell k a l) ∙ none_from k n m rest l p.1
+none_from k zero (suc m) (a ∷ rest) l e =
+    grind (arith, none_at, no_literal_cell, none_from (lexeme_at a rest).kind (lexeme_at a
+    rest).more m rest)
+none_from k (suc n) (suc m) (a ∷ rest) l e = grind (arith, no_literal_cell, none_from k n m rest l)
 
 none_lex : (m : ℕ) (text : List ℕ) → list_any is_quote (map shown (take m (lex text))) ≡ false → list_any is_literal (take m (lex text)) ≡ false
 unfolding lex
@@ -117,7 +112,7 @@ none_lex m text e = none_from single 0 m text tt e
 none_after : (n : ℕ) (cells : List Cell) → list_any is_literal cells ≡ false → list_any is_literal (drop n cells) ≡ false
 none_after zero cells e = e
 none_after (suc n) [] e = e
-none_after (suc n) (c ∷ cells) e = none_after n cells (or_parts (is_literal c) (list_any is_literal cells) e).1
+none_after (suc n) (c ∷ cells) e = grind (arith, none_after n cells)
 
 white_no_quote : (b : ℕ) → is_white b ≡ true → is_quote b ≡ false
 white_no_quote b e = grind arith
@@ -127,13 +122,11 @@ word_no_quote b e = grind arith
 
 whites : (bytes : List ℕ) → are_white bytes ≡ true → list_any is_quote bytes ≡ false
 whites [] e = refl
-whites (b ∷ bytes) e = let p = and_parts (is_white b) (are_white bytes) e in
-    ap (λ (q : Bool). q || list_any is_quote bytes) (white_no_quote b p.0) ∙ whites bytes p.1
+whites (b ∷ bytes) e = grind (arith, white_no_quote, whites bytes)
 
 words : (bytes : List ℕ) → are_word_bytes bytes ≡ true → list_any is_quote bytes ≡ false
 words [] e = refl
-words (b ∷ bytes) e = let p = and_parts (is_word_byte b) (are_word_bytes bytes) e in
-    ap (λ (q : Bool). q || list_any is_quote bytes) (word_no_quote b p.0) ∙ words bytes p.1
+words (b ∷ bytes) e = grind (arith, word_no_quote, words bytes)
 
 module _ (table : List Argument) (rules : Rules) (l : Line) (scan : Scan) (d : Directive) (s : scan ≡ scan_after [] C l) (h : content_of scan ≡ directive d) where
   -- A line without a quote after the keyword has no literal there.

@@ -17,7 +17,7 @@ use Rattle.ud_model.proofs.text.ScanBytes.{scan_after-same}
 use Rattle.ud_model.proofs.output.Formed.{IsEnd, ended}
 use Rattle.ud_text.specs.lines.LinesState.{UpToNewline}
 use Rattle.ud_text.proofs.lemmas.lines.NewlineLemmas.{up_to_newline-once}
-use Rattle.ud_passes.proofs.EditLemmas.{same_cut}
+use Rattle.ud_passes.proofs.EditLemmas.{ending_read, body_read}
 use Rattle.ud_passes.specs.folding.LogicalLines.{is_line_shown}
 
 -- 0. Tests.
@@ -46,24 +46,10 @@ found_tab s r h = grind (arith, none_there, list_any_at)
 -- 2. The line that bytes are.
 
 module _ (k : Line) (no : NoNewline k.body) (end : IsEnd k.ending) (bytes : List ℕ) (bytes_are : bytes ≡ text_of k) where
-  whole : IsWhole bytes
-  whole = subst IsWhole (sym bytes_are) (ended k.body k.ending no end)
-
-  up_to_end : UpToNewline bytes (length bytes) true
-  up_to_end = grind (arith, whole, take_all)
-
   -- The line that is read of these bytes.
   module _ (e : Line) (w : Bool) (to : UpToNewline bytes (length (text_of e)) w) (is : e ≡ line_at 1 (take (length (text_of e)) bytes)) where
-    read_is : e ≡ line_at 1 bytes
-    read_is =
-        let once = up_to_newline-once bytes (length (text_of e)) (length bytes) w true to up_to_end in
-        is ∙ ap (λ (n : ℕ). line_at 1 (take n bytes)) once.1 ∙ ap (λ (x : List ℕ). line_at 1 x) (take_all (length bytes) bytes (omega arith))
-
-    ending_is : e.ending ≡ ending_of (text_of k)
-    ending_is = grind (arith, read_is)
-
     keeps : keeps_ending k ≡ bytes_eq e.ending k.ending
-    keeps = grind (arith, ending_is)
+    keeps = grind (arith, ending_read k no end bytes bytes_are 1 e w to is)
 
     module _ (shown : List ℕ) where
       pub other_ending : bytes_eq e.ending k.ending ≡ false → is_line_shown k shown ≡ false
@@ -71,8 +57,7 @@ module _ (k : Line) (no : NoNewline k.body) (end : IsEnd k.ending) (bytes : List
 
       pub shown_by : e.ending ≡ k.ending → is_empty k.ending ≡ false → fits k ≡ true → is_shown_as (scan_after_run [] e) shown ≡ is_line_shown k shown
       shown_by s some f =
-          let text : e.body ++ k.ending ≡ k.body ++ k.ending = ap (λ (x : List ℕ). e.body ++ x) (sym s) ∙ ap text_of read_is ∙ text_of-line_at 1 bytes ∙ bytes_are in
-          let body : e.body ≡ k.body = same_cut e.body k.body k.ending text in
+          let body = body_read k no end bytes bytes_are 1 e w to is s in
           let scan : scan_after_run [] e ≡ scan_after_run [] k = scan_after-same [] [] C e k refl body s in
           ap (λ (x : Scan). is_shown_as x shown) scan
           ∙ sym (grind (arith, ap not some, f, keeps ∙ (bytes_eq-Decides e.ending k.ending).1 s))

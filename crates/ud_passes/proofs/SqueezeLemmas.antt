@@ -27,11 +27,10 @@ unfolding split_lines
 first_text rest n w up some = by w up
   where
     by : (w : Bool) → UpToNewline rest n w → texts_of rest ≡ take n rest ∷ texts_of (drop n rest)
-    by true up = ap texts_of (sym (take-append-drop n rest))
-        ∙ ap (λ (p : SplitLines). p.whole ++ last_line p.rest) (split_lines-line-prefix (take n rest) (drop n rest) (up.line refl))
-    by false up = let all : n ≡ length rest = (up.all refl).0 in
-        ap texts_of (sym (take_all n rest (omega arith))) ∙ one_text rest n false up some
-        ∙ ap (λ (t : List ℕ). take n rest ∷ texts_of t) (sym (drop_all n rest (omega arith)))
+    by true up =
+        grind (arith, take-append-drop, split_lines-line-prefix (take n rest) (drop n rest) (up.line
+        refl))
+    by false up = grind (arith, take_all, drop_all, (up.all refl).0, one_text rest n false up some)
 
 -- 2. Lines that stay.
 
@@ -42,11 +41,7 @@ pub kept_next : (out more : List ℕ) (flags : List Bool) (rest : List ℕ) (n :
     f ≡ first_flag flags → fs ≡ later_flags flags → line ≡ take n rest → after ≡ drop n rest → more ≡ out ++ (if f then line else []) →
     more ++ concat (kept_lines fs (texts_of after)) ≡ out ++ concat (kept_lines flags (texts_of rest))
 kept_next out more flags rest n w up some f fs line after a b c d e =
-    ap₂ (λ (x : List ℕ) (t : List ℕ). x ++ concat (kept_lines fs (texts_of t))) e d
-    ∙ append_assoc out (if f then line else []) (concat (kept_lines fs (texts_of (drop n rest))))
-    ∙ ap (λ (x : List ℕ). out ++ x)
-    (ap₂ (λ (x : List ℕ) (y : List Bool). x ++ concat (kept_lines y (texts_of (drop n rest)))) (ap₂ (λ (g : Bool) (l : List ℕ). if g then l else []) a c) b
-    ∙ sym (ap (λ (ls : List (List ℕ)). concat (kept_lines flags ls)) (first_text rest n w up some) ∙ kept_first flags (take n rest) (texts_of (drop n rest))))
+    let first = first_text rest n w up some in grind (arith, append_assoc, first, kept_first)
 
 -- 3. Places.
 
@@ -74,8 +69,8 @@ none_placed text ms walk w = record { read = []; walked = w; rest = λ rs. refl 
 pub all_placed : (text ms : List ℕ) (walk : Walk) (left : List ℕ) (out : List Place) → Placed text ms walk left out → walk.rest.now ≡ [] → (gap : Bool) → gap ≡ is_gap left →
     (place : Place) → place ≡ bare_place gap true → (new : List Place) → new ≡ out ++ place ∷ [] → new ≡ places ms (read_as C text)
 all_placed text ms walk left out p e gap g place l new n =
-    n ∙ ap (λ (x : Place). out ++ x ∷ []) (l ∙ ap (λ (b : Bool). bare_place b true) g) ∙ sym (p.rest [])
-    ∙ ap (λ (rs : List Reading). places ms rs) (append-nil p.read ∙ walk_ends C text p.read walk.rest.now walk.scanner p.walked e)
+    grind (arith, append-nil, p.rest [], walk_ends C text p.read walk.rest.now walk.scanner p.walked
+        e)
 
 -- 4. Stretches.
 
@@ -113,7 +108,7 @@ not_only n m (false ∷ gaps) below = not_only n (suc m) gaps below
 pub only_all : (n : ℕ) (gaps : List Bool) (below : Bool) →
     only_part (parts n gaps below) ≡ (if below || ltb (first_part (parts n gaps below)) (n + length gaps) then 0 else first_part (parts n gaps below))
 only_all n [] true = refl
-only_all n [] false = let z : ltb n (n + 0) ≡ false = le-ltb n (n + 0) (omega arith) in ap (λ (b : Bool). if b then 0 else n) (sym z)
+only_all n [] false = grind (arith, le-ltb)
 only_all n (true ∷ gaps) below = grind (arith, lt-ltb, not_only)
 only_all n (false ∷ gaps) below = grind (arith, only_all (suc n) gaps below)
 

@@ -103,9 +103,10 @@ all_stay ms (r ∷ rs) h above n = by (place_of (is_gap ms) r).blank (all_stay (
 
 all_kept : (n : ℕ) (ls : List (List ℕ)) → kept_lines (replicate n true) ls ≡ ls
 all_kept n [] = refl
-all_kept zero (l ∷ ls) = ap (λ (x : List (List ℕ)). l ∷ x) (all_kept zero ls)
-all_kept (suc n) (l ∷ ls) = ap (λ (x : List (List ℕ)). l ∷ x) (all_kept n ls)
+all_kept zero (l ∷ ls) = grind (arith, all_kept zero ls)
+all_kept (suc n) (l ∷ ls) = grind (arith, all_kept n ls)
 
 pub stays_same : (ms output : List ℕ) → list_all stays ms ≡ true → squeezed_text ms output ≡ output
-stays_same ms output h = ap (λ (fs : List Bool). concat (kept_lines fs (texts_of output))) (all_stay ms (read_as C output) h (bare_place false true) 0)
-    ∙ ap concat (all_kept (0 + suc (length (read_as C output))) (texts_of output)) ∙ sym (lines_exist output).joined
+stays_same ms output h =
+    grind (arith, all_stay ms (read_as C output) h (bare_place false true) 0, all_kept, (lines_exist
+    output).joined)
