@@ -13,10 +13,7 @@ use Rattle.ud_simplified.proofs.SimplifiedLines.{byte_of, bytes-comment_cells}
 
 -- Another byte comes before the end of the comment.
 pub close_later : (bytes : List ℕ) (n : ℕ) → n < length bytes → starts_with nat_eq (drop n bytes) (codes "*/") ≡ false → close_at (drop n bytes) ≡ suc (close_at (drop (n + 1) bytes))
-close_later bytes n lt e = let b : ℕ = get_or bytes n 0 in
-    let rest : List ℕ = drop (n + 1) bytes in
-    let d : drop n bytes ≡ b ∷ rest = drop_more bytes n 0 lt in
-    ap close_at d ∙ ap (λ (x : Bool). if x then 0 else suc (close_at rest)) (ap (λ (x : List ℕ). starts_with nat_eq x (codes "*/")) (sym d) ∙ e)
+close_later bytes n lt e = let d = drop_more bytes n 0 lt in grind (arith, d)
 
 -- It ends here.
 pub close_here : (bytes : List ℕ) (n : ℕ) → n < length bytes → starts_with nat_eq (drop n bytes) (codes "*/") ≡ true → close_at (drop n bytes) ≡ 0

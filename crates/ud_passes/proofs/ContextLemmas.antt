@@ -29,28 +29,19 @@ length-between ls i j h within = grind (arith, between_few, length-map)
 -- Lines that are kept at each position are kept.
 pub kept_range : (ls : List DiffLine) (i j : ℕ) → KeptAt ls i j → AreKept (between i j ls)
 kept_range ls i j h = All-map IsKept signed (take (j - i) (drop i ls))
-    (λ k d within. let few : length (take (j - i) (drop i ls)) ≡ min (j - i) (length ls - i) = between_few ls i (j - i) in
-    subst (λ (l : DiffLine). is_change l.sign ≡ false) (sym (between_at ls i (j - i) k d (omega arith))) (h (i + k) d (omega arith) (omega arith) (omega arith)))
+    (λ k d within. let here = h (i + k) d in grind (arith, here, between_few, between_at))
 
 -- Lines that are kept are kept at each position.
 pub kept_at : (ls : List DiffLine) (i j : ℕ) → AreKept (between i j ls) → KeptAt ls i j
 kept_at ls i j h k d low high within =
-    let few : length (take (j - i) (drop i ls)) ≡ min (j - i) (length ls - i) = between_few ls i (j - i) in
-    let all : length (between i j ls) ≡ length (take (j - i) (drop i ls)) = length-map (take (j - i) (drop i ls)) signed in
-    let so_far : i + (k - i) ≡ k = omega arith in
-    let is : get_or (between i j ls) (k - i) (signed d) ≡ signed (get_or ls k d) =
-    get_or-map signed (take (j - i) (drop i ls)) (k - i) d
-    ∙ ap signed (between_at ls i (j - i) (k - i) d (omega arith) ∙ ap (λ (n : ℕ). get_or ls n d) so_far) in
-    subst IsKept is (h (k - i) (signed d) (omega arith))
+    let is = get_or-map signed (take (j - i) (drop i ls)) (k - i) d in
+    let here = h (k - i) (signed d) in
+    grind (arith, is, here, between_few, between_at, length-map)
 
 -- The lines between two positions, parted at a third.
 pub between_parts : (ls : List DiffLine) (i j k : ℕ) → i ≤ j → j ≤ k → between i k ls ≡ between i j ls ++ between j k ls
 between_parts ls i j k low high = let so_many : k - i ≡ (j - i) + (k - j) = omega arith in
-    let so_far : i + (j - i) ≡ j = omega arith in
-    ap signed_lines (ap (λ (n : ℕ). take n (drop i ls)) so_many ∙ take-add (j - i) (k - j) (drop i ls)
-    ∙ ap (λ (xs : List DiffLine). take (j - i) (drop i ls) ++ take (k - j) xs)
-    (drop-drop (j - i) i ls ∙ ap (λ (n : ℕ). drop n ls) so_far))
-    ∙ map-append signed (take (j - i) (drop i ls)) (take (k - j) (drop j ls))
+    grind (arith, so_many, take-add, drop-drop, map-append)
 
 -- The line at a position.
 pub between_one : (ls : List DiffLine) (i : ℕ) (d : DiffLine) → i < length ls → between i (i + 1) ls ≡ signed (get_or ls i d) ∷ []
@@ -82,11 +73,8 @@ changes_begin_at ls i j h =
 pub change_far : (ls : List DiffLine) (i j first : ℕ) → KeptAt ls i j → i ≤ first → first < length ls →
     ((d : DiffLine) → is_change (get_or ls first d).sign ≡ true) → j ≤ first
 change_far [] i j first kept low within is = absurd (omega arith)
-change_far (l ∷ ls) i j first kept low within is = by_order (cases_lt first j)
-  where
-    by_order : (first < j) ⊎ (j ≤ first) → j ≤ first
-    by_order (inl near) = absurd (false≢true (sym (kept first l low near within) ∙ is l))
-    by_order (inr far) = far
+change_far (l ∷ ls) i j first kept low within is =
+    let there = kept first l low in grind (arith, there, is l, cases_lt first j)
 
 -- Of the lines up to the position `at`, the changes end at `last`, and few kept lines come since.
 pub record ChangesUpto (ls : List DiffLine) (at last : ℕ) : Type 0 where

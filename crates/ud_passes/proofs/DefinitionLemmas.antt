@@ -45,8 +45,8 @@ skip_word-ends (b ∷ bs) e h = grind (arith, skip_word-ends bs e h)
 
 -- The word after the white space of a text.
 word-ends : (t e : List ℕ) → Ends e → leading_word (skip_white (t ++ e)) ≡ leading_word (skip_white t)
-word-ends t e h = let w = skip_white-ends t e h in
-    ap leading_word w.2 ∙ leading_word-ends (skip_white t) w.0 w.1
+word-ends t e h =
+    let w = skip_white-ends t e h in grind (arith, w.2, leading_word-ends (skip_white t) w.0 w.1)
 
 module _ (table : List Argument) where
   defines_by-ends : (t e : List ℕ) → Ends e → defines_by table (t ++ e) ≡ defines_by table t
@@ -80,17 +80,17 @@ module _ (table : List Argument) where
   pub clear_hashless : (n : ℕ) (t : List ℕ) → Nowhere (Passes (is_byte 35) t) 0 n → IsClear table n t
   clear_hashless zero t none = tt
   clear_hashless (suc n) [] none = tt
-  clear_hashless (suc n) (b ∷ bs) none = let here = none 0 (omega arith) (omega arith) in
-      grind (arith, here, clear_hashless n bs (λ k low high. none (suc k) (omega arith) (omega
-          arith)))
+  clear_hashless (suc n) (b ∷ bs) none =
+      let here = none 0 (omega arith) (omega arith) in
+      let rest = clear_hashless n bs (λ k low high. none (suc k) (omega arith) (omega arith)) in
+      grind (arith, here, rest)
 
   -- A byte more that has no definition after it.
   pub clear_one : (n : ℕ) (t : List ℕ) → IsClear table n t → defines_after table (drop (n + 1) t) ≡ false → IsClear table (n + 1) t
   clear_one zero [] h none = tt
-  clear_one zero (b ∷ bs) h none = (and_right (b == 35) (defines_after table bs) none, tt)
+  clear_one zero (b ∷ bs) h none = grind (arith, and_right, none)
   clear_one (suc n) [] h none = none_left (suc n + 1)
-  clear_one (suc n) (b ∷ bs) h none = let next : suc n + 1 ≡ suc (n + 1) = omega arith in
-      same (suc (n + 1)) (suc n + 1) (b ∷ bs) (sym next) (h.0, clear_one n bs h.1 (ap (λ (k : ℕ). defines_after table (drop k (b ∷ bs))) (sym next) ∙ none))
+  clear_one (suc n) (b ∷ bs) h none = grind (arith, same, clear_one n bs h.1)
 
   -- 3. Lines.
 
@@ -112,11 +112,12 @@ module _ (table : List Argument) where
   -- The first line of clear bytes.
   first_clear : (l after : List ℕ) (first n : ℕ) → IsWhole l → length l ≤ n → IsClear table n (l ++ after) → (r : Reading) → r.line ≡ line_at first l → is_definition table r ≡ false
   first_clear l after first n whole long c r e = let k : Line = line_at first l in
-      let parts : l ++ after ≡ k.body ++ (k.ending ++ after) = grind (arith, body-ending l,
-          append_assoc) in
-      let none : defines table k.body ≡ false = grind (arith, c, body-ending l, parts, whole_ending
-          l whole, length-append, long, line_clear k.body (k.ending ++ after) n (ends_on k.ending
-          after (whole_ending l whole))) in
+      let parts : l ++ after ≡ k.body ++ (k.ending ++ after) =
+      grind (arith, body-ending l, append_assoc) in
+      let ends = ends_on k.ending after (whole_ending l whole) in
+      let clear = line_clear k.body (k.ending ++ after) n ends in
+      let none : defines table k.body ≡ false =
+      grind (arith, c, body-ending l, parts, length-append, long, clear) in
       grind (arith, none, e)
 
   -- The lines of clear bytes define nothing.

@@ -61,9 +61,7 @@ other_kind : (j k : Kind) → same_kind j j ≡ false → same_kind j k ≡ fals
 other_kind j k e = grind arith
 
 no_directive : (d : Directive) (bytes : List ℕ) (k : Line) (c : Content) → same_kind d.kind d.kind ≡ false → has_directive d bytes k c ≡ false
-no_directive d bytes k cut_keyword e = refl
-no_directive d bytes k text e = refl
-no_directive d bytes k (directive f) e = ap (λ (b : Bool). b && has_text bytes k d f) (other_kind d.kind f.kind e)
+no_directive d bytes k c e = grind (arith, other_kind)
 
 module _ (table : List Argument) (rules : Rules) (l : Line) where
   -- A directive of another kind stays.

@@ -73,14 +73,8 @@ neither group h =
 
 pub long_stays : (xs : List Reading) (r : Reading) (more : List Reading) → fits r.line ≡ false → is_foldable (xs ++ r ∷ more) ≡ false
 long_stays xs r more f = neither (xs ++ r ∷ more) (λ a s.
-    let e : List ℕ = last_ending (xs ++ r ∷ more) in
-    let same : length r.line.ending ≡ length e = ap (λ (x : List ℕ). length x) (alike_there xs r more e a) in
-    let b = body_length xs r more in
-    let all = length-append (folded_body (xs ++ r ∷ more)) e in
-    let one = length-append r.line.body r.line.ending in
-    let most = leb-true (length (text_of (folded_line (xs ++ r ∷ more)))) MAX_LINE_BYTES s in
-    let least = leb-false (length (text_of r.line)) MAX_LINE_BYTES f in
-    omega arith)
+    let same = alike_there xs r more (last_ending (xs ++ r ∷ more)) a in
+    grind (arith, s, same, body_length xs r more, length-append, leb-true, leb-false))
 
 pub other_stays : (front : List Reading) (q r : Reading) (more : List Reading) → bytes_eq r.line.ending q.line.ending ≡ false → is_foldable ((front ++ q ∷ []) ++ r ∷ more) ≡ false
 other_stays front q r more n = neither ((front ++ q ∷ []) ++ r ∷ more) (λ a s.
@@ -166,10 +160,10 @@ logical_begins l b r i d p o m = record {
   is_last = i;
   begins = d;
   alike = grind (arith, bytes_eq-Decides);
-  plain_is = p ∙ sym (append-nil (text_of r.line));
+  plain_is = grind (arith, append-nil);
   body_is = o;
   shown_is = m;
-  one_line = subst NoNewline (sym o) tt;
+  one_line = grind (arith, o);
 }
 
 pub logical_more : (l m : LogicalLine) (b c : Last) (group : List Reading) (r : Reading) (part break : List ℕ) → IsLogical l b group → IsLast c r → r.line.ending ≡ b.line.ending.now →
@@ -235,7 +229,7 @@ follows done read (r ∷ rs) more e f = ap (λ (s : Scan). s.joins_before) (plac
 
 pub plain_bytes : (rs : List Reading) → plain_lines rs ≡ concat (map (λ (r : Reading). text_of r.line) rs)
 plain_bytes [] = refl
-plain_bytes (r ∷ rs) = ap (λ (x : List ℕ). text_of r.line ++ x) (plain_bytes rs)
+plain_bytes (r ∷ rs) = grind (arith, plain_bytes rs)
 
 -- Text lines stay.
 texts_rest : (rs : List Reading) → AreTexts rs → (more : List Reading) → rest_from [] (rs ++ more) ≡ plain_lines rs ++ rest_from [] more

@@ -143,8 +143,7 @@ module _ (table : List Argument) where
 
   definer_lacks : (t : List ℕ) → LacksNames table t → defines_by table t ≡ false
   definer_lacks t h =
-      grind (arith, first_unlisted (skip_white (skip_word t)) (white_lacks (skip_word t) (word_lacks
-          t h)))
+      let none = first_unlisted _ (white_lacks (skip_word t) (word_lacks t h)) in grind (arith, none)
 
   defines_nothing : (t : List ℕ) → LacksNames table t → defines table t ≡ false
   defines_nothing t h = by (skip_white t) (white_lacks t h)
@@ -231,12 +230,11 @@ module _ (table : List Argument) where
       IsLacking table (next_reading before m l)
   read_lacking before Plain l h u = record { lacks = h; fades = all_fade l.body; ended = λ e. cc }
   read_lacking before C l h u =
-      let cells = content_cells (c_run_of before) l in
       let front = content-prefix l in
+      let fade = cells_fade (content_cells (c_run_of before) l) front.0 in
       record {
         lacks = h;
-        fades = grind (arith, masked-content_cells, bytes-content_cells, front.1, cells_fade cells
-            front.0);
+        fades = grind (arith, masked-content_cells, bytes-content_cells, front.1, fade);
         ended = code_ended (c_run_of before) l u;
       }
 
@@ -251,10 +249,11 @@ module _ (table : List Argument) where
       splits_word false t ≡ false → is_spliced l ≡ true → ends_in_word false (content l) ≡ false
   unspliced l before after t e b u s =
       let c = take (length l.body - 1) l.body in
-      let body : l.body ≡ c ++ backslash ∷ [] = grind (arith, s, ends_is Decides-eqb l.body
-          (backslash ∷ []) (ends_with nat_eq l.body (backslash ∷ [])) refl) in
-      let is : t ≡ (before ++ c) ++ backslash ∷ (l.ending ++ after) = rw e (rw body (grind (arith,
-          append_assoc))) in
+      let ends = ends_is Decides-eqb l.body (backslash ∷ [])
+      (ends_with nat_eq l.body (backslash ∷ [])) refl in
+      let body : l.body ≡ c ++ backslash ∷ [] = grind (arith, s, ends) in
+      let is : t ≡ (before ++ c) ++ backslash ∷ (l.ending ++ after) =
+      rw (e, body) (grind (arith, append_assoc)) in
       grind (arith, s, is, u, ends_rest, unsplit_before)
 
   one_more : (rs : List Reading) (r : Reading) → AreLacking table rs → IsLacking table r →
@@ -269,15 +268,14 @@ module _ (table : List Argument) where
   all_lacking t h u m rs n before [] k e = k
   all_lacking t h u m rs n before (l ∷ ls) k e =
       let line : Line = line_at n l in
-      let is : t ≡ before ++ ((line.body ++ line.ending) ++ concat ls) = e ∙ ap
-      (λ (x : List ℕ). before ++ (x ++ concat ls)) (sym (text_of-line_at n l)) in
+      let is : t ≡ before ++ ((line.body ++ line.ending) ++ concat ls) =
+      grind (arith, e, text_of-line_at n l) in
       let lacks = part_lacks table before line.body (line.ending ++ concat ls) t
-      (is ∙ ap (λ (x : List ℕ). before ++ x) (append_assoc line.body line.ending (concat ls))) h
-      in
+      (grind (arith, is, append_assoc)) h in
       all_lacking t h u m (rs ++ next_reading rs m line ∷ []) (suc n) (before ++ l) ls
-      (one_more rs (next_reading rs m line) k (read_lacking rs m line lacks
+      (one_more rs _ k (read_lacking rs m line lacks
       (unspliced line before (concat ls) t is (begins l (concat ls)) u)))
-      (e ∙ sym (append_assoc before l (concat ls)))
+      (grind (arith, e, append_assoc))
 
   -- 5. Mentions.
 
@@ -289,15 +287,9 @@ module _ (table : List Argument) where
   condition_unnamed kind xs false rs h e ended = rw (append-nil xs) e
   condition_unnamed kind xs true [] h e ended = rw (append-nil xs) e
   condition_unnamed kind xs true (r ∷ rs) h e ended =
-      grind (
-        arith,
-        faded,
-        has_word-seam,
-        append-nil,
-        condition_unnamed kind r.scan.masked
-            r.scan.joins_after rs h.1 (faded table false r.line.body r.scan.masked h.0.fades h.0.lacks)
-            h.0.ended,
-      )
+      let none = faded table false r.line.body r.scan.masked h.0.fades h.0.lacks in
+      let more = condition_unnamed kind r.scan.masked r.scan.joins_after rs h.1 none h.0.ended in
+      grind (arith, has_word-seam, append-nil, more)
 
   closing_unnamed : (xs : List ℕ) (goes_on : Bool) (rs : List Reading) → AreLacking table rs →
       has_listed table false xs ≡ false →
@@ -305,15 +297,9 @@ module _ (table : List Argument) where
   closing_unnamed xs false rs h e = rw (append-nil xs) e
   closing_unnamed xs true [] h e = rw (append-nil xs) e
   closing_unnamed xs true (r ∷ rs) h e =
-      grind (
-        arith,
-        all_fade,
-        has_word-other,
-        append-nil,
-        closing_unnamed r.line.body
-            r.scan.joins_after rs h.1 (faded table false r.line.body r.line.body (all_fade r.line.body)
-            h.0.lacks),
-      )
+      let none = faded table false r.line.body r.line.body (all_fade r.line.body) h.0.lacks in
+      let more = closing_unnamed r.line.body r.scan.joins_after rs h.1 none in
+      grind (arith, has_word-other, append-nil, more)
 
   -- `AreUnnamed ms`: none of the mentions `ms` names a symbol.
   abbrev AreUnnamed : List Mention → Type 0
@@ -349,9 +335,8 @@ module _ (table : List Argument) where
 
       closing : has_listed table false (drop n r.line.body ++ joined_text Closing (joins_next r) rs)
           ≡ false
-      closing =
-          grind (arith, h, k, closing_unnamed, rest_faded table r.line.body (take n r.line.body)
-          (drop n r.line.body), take-append-drop, all_fade)
+      closing = let rest = rest_faded table r.line.body (take n r.line.body) (drop n r.line.body) in
+          grind (arith, h, k, closing_unnamed, rest, take-append-drop, all_fade)
 
       by : (kind : Kind) → IsUnnamed r rs (Some
           (mention_at r (class_of kind) (shown_after r d (class_of kind))))
@@ -364,14 +349,11 @@ module _ (table : List Argument) where
   line_unnamed r rs h k = by_fit (fits r.line)
     where
       none : is_definition table r ≡ false
-      none = and_right r.scan.fresh (defines table r.scan.masked && defines table r.line.body)
-          (and_right (defines table r.scan.masked) (defines table r.line.body)
-          (defines_nothing table r.line.body h.lacks))
+      none = grind (arith, and_right, defines_nothing)
 
       by : (c : Content) → content_of r.scan ≡ c → IsUnnamed r rs (mention_by table r c)
       by cut_keyword e = tt
-      by text e = subst (λ (x : Bool). IsUnnamed r rs
-          (if x then Some (mention_at r Definition []) else None)) (sym none) tt
+      by text e = grind (arith, none)
       by (directive d) e = directive_unnamed r rs d h k e
 
       by_fit : (f : Bool) → IsUnnamed r rs (if f then mention_by table r (content_of r.scan) else
@@ -392,14 +374,8 @@ unnamed_append : (rows table : List Argument) (name : List ℕ) (ms : List Menti
     (now : Search) → AreUnnamed table ms → Appends rows table name ms now now
 unnamed_append rows table name [] now u = appends_none rows table name now
 unnamed_append rows table name (m ∷ ms) now u =
-    grind (
-      arith,
-      common_steps,
-      appends_more,
-      append-nil,
-      and_right,
-      unnamed_append rows table name ms now u.1,
-    )
+    let more = unnamed_append rows table name ms now u.1 in
+    grind (arith, common_steps, appends_more, append-nil, and_right, more)
 
 -- So nothing is appended for such a text.
 pub appends_nothing : (rows table : List Argument) (mode : Mode) (name t : List ℕ)

@@ -83,5 +83,6 @@ splits_word-pass in_word t zero fits none = refl
 splits_word-pass in_word [] (suc n) fits none = absurd (omega (arith, fits))
 splits_word-pass in_word (b ∷ bs) (suc n) fits none =
     let here = none 0 (omega arith) (omega arith) in
-    grind (arith, here, splits_word-pass (is_word_byte b) bs n (omega (arith, fits)) (λ k low high.
-        none (suc k) (omega arith) (omega arith)))
+    let later = splits_word-pass (is_word_byte b) bs n (omega (arith, fits))
+    (λ k low high. none (suc k) (omega arith) (omega arith)) in
+    grind (arith, here, later)

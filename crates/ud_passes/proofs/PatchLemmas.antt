@@ -26,31 +26,25 @@ turns_after : (a b : ℕ) (hunks : List Hunk) (o w : List (List ℕ)) → TurnsF
     a ≡ m + length ls → b ≡ n + length ls → TurnsFrom m n hunks (ls ++ o) (ls ++ w)
 turns_after _ _ _ _ _ (done a b ls0) m n ls e f = done m n (ls ++ ls0)
 turns_after _ _ _ _ _ (next a b h hunks ls0 old new p q r) m n ls e f =
-    let both : length (ls ++ ls0) ≡ length ls + length ls0 = length-append ls ls0 in
-    turns_cast (append_assoc ls ls0 (old_lines h.lines ++ old)) (append_assoc ls ls0 (new_lines h.lines ++ new))
-    (next m n h hunks (ls ++ ls0) old new (omega arith) (omega arith) r)
+    let all = length-append ls ls0 in
+    let on = next m n h hunks (ls ++ ls0) old new (omega arith) (omega arith) r in
+    grind (arith, on, append_assoc)
 
 -- Hunks that turn all lines so far, and then others.
 turns_then : (hunks : List Hunk) (old new : List (List ℕ)) → Turns hunks old new → (ks : List Hunk) (o w : List (List ℕ)) →
     TurnsFrom (length old) (length new) ks o w → TurnsFrom 0 0 (hunks ++ ks) (old ++ o) (new ++ w)
 turns_then _ _ _ nothing ks o w r = r
 turns_then _ _ _ (stay hunks old new ls t) ks o w r =
-    turns_cast (sym (append_assoc old ls o)) (sym (append_assoc new ls w))
-    (turns_then hunks old new t ks (ls ++ o) (ls ++ w)
-    (turns_after (length (old ++ ls)) (length (new ++ ls)) ks o w r (length old) (length new) ls (length-append old ls) (length-append new ls)))
+    let more = turns_then hunks old new t ks (ls ++ o) (ls ++ w) in
+    let after = turns_after (length (old ++ ls)) (length (new ++ ls)) ks o w r (length old)
+    (length new) ls in
+    grind (arith, append_assoc, length-append, more, after)
 turns_then _ _ _ (change hunks old new h t a b) ks o w r =
-    let more_old : length (old ++ old_lines h.lines) ≡ h.old_before + length (old_lines h.lines) =
-    length-append old (old_lines h.lines) ∙ ap (λ (k : ℕ). k + length (old_lines h.lines)) (sym a) in
-    let more_new : length (new ++ new_lines h.lines) ≡ h.new_before + length (new_lines h.lines) =
-    length-append new (new_lines h.lines) ∙ ap (λ (k : ℕ). k + length (new_lines h.lines)) (sym b) in
-    let later : TurnsFrom (h.old_before + length (old_lines h.lines)) (h.new_before + length (new_lines h.lines)) ks o w =
-    subst (λ (k : ℕ). TurnsFrom (h.old_before + length (old_lines h.lines)) k ks o w) more_new
-    (subst (λ (k : ℕ). TurnsFrom k (length (new ++ new_lines h.lines)) ks o w) more_old r) in
-    let here : TurnsFrom (length old) (length new) (h ∷ ks) (old_lines h.lines ++ o) (new_lines h.lines ++ w) =
-    next (length old) (length new) h ks [] o w (omega arith) (omega arith) later in
-    subst (λ (hs : List Hunk). TurnsFrom 0 0 hs ((old ++ old_lines h.lines) ++ o) ((new ++ new_lines h.lines) ++ w)) (sym (append_assoc hunks (h ∷ []) ks))
-    (turns_cast (sym (append_assoc old (old_lines h.lines) o)) (sym (append_assoc new (new_lines h.lines) w))
-    (turns_then hunks old new t (h ∷ ks) (old_lines h.lines ++ o) (new_lines h.lines ++ w) here))
+    let here = next (length old) (length new) h ks [] o w (omega arith) (omega arith)
+    (grind (arith, length-append, r)) in
+    let more = turns_then hunks old new t (h ∷ ks) (old_lines h.lines ++ o)
+    (new_lines h.lines ++ w) here in
+    grind (arith, append_assoc, more)
 
 -- Lines that begin with the wanted ones have these others after them.
 rest_after_at : (ws rest : List (List ℕ)) → rest_after ws (ws ++ rest) ≡ Some rest
@@ -72,9 +66,9 @@ makes _ _ _ _ _ (next m n h hunks ls old new a b r) =
 
 -- Hunks that turn a text into another one make that of it.
 turns_makes : (hunks : List Hunk) (old new : List (List ℕ)) → Turns hunks old new → patched hunks old ≡ Some new
-turns_makes hunks old new t = makes 0 0 hunks old new
-    (subst (λ (hs : List Hunk). TurnsFrom 0 0 hs old new) (append-nil hunks)
-    (turns_cast (append-nil old) (append-nil new) (turns_then hunks old new t [] [] [] (done (length old) (length new) []))))
+turns_makes hunks old new t =
+    let turn = turns_then hunks old new t [] [] [] (done (length old) (length new) []) in
+    grind (arith, append-nil, makes, turn)
 
 -- The lines of one text in a turned hunk are those of the other one.
 turned_old : (ls : List SignedLine) → old_lines (map turned_line ls) ≡ new_lines ls
@@ -88,14 +82,11 @@ turned_new (l ∷ ls) = grind (arith, turned_new ls)
 -- Turned hunks turn the new text into the old one.
 turns_back : (hunks : List Hunk) (old new : List (List ℕ)) → Turns hunks old new → Turns (map turned hunks) new old
 turns_back _ _ _ nothing = nothing
-turns_back _ _ _ (stay hunks old new ls t) = stay (map turned hunks) new old ls (turns_back hunks old new t)
+turns_back _ _ _ (stay hunks old new ls t) =
+    stay (map turned hunks) new old ls (turns_back hunks old new t)
 turns_back _ _ _ (change hunks old new h t a b) =
-    let back : Turns (map turned hunks ++ turned h ∷ []) (new ++ old_lines (turned h).lines) (old ++ new_lines (turned h).lines) =
-    change (map turned hunks) new old (turned h) (turns_back hunks old new t) b a in
-    subst (λ (hs : List Hunk). Turns hs (new ++ new_lines h.lines) (old ++ old_lines h.lines)) (sym (map-append turned hunks (h ∷ [])))
-    (subst (λ (x : List (List ℕ)). Turns (map turned hunks ++ turned h ∷ []) x (old ++ old_lines h.lines)) (ap (λ (x : List (List ℕ)). new ++ x) (turned_old h.lines))
-    (subst (λ (x : List (List ℕ)). Turns (map turned hunks ++ turned h ∷ []) (new ++ old_lines (turned h).lines) x)
-    (ap (λ (x : List (List ℕ)). old ++ x) (turned_new h.lines)) back))
+    let back = change (map turned hunks) new old (turned h) (turns_back hunks old new t) b a in
+    grind (arith, back, map-append, turned_old, turned_new)
 
 -- The names and the hunks of a script of two texts are a diff of them.
 pub diff_is : (path old new bytes : List ℕ) (lines : List SignedLine) → IsScript old new lines → AppendsHunks lines (names_text path) bytes → IsDiff path old new bytes

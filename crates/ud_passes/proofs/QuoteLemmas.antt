@@ -98,9 +98,8 @@ none_from : (k : LexemeKind) (n m : ℕ) (text : List ℕ) → IsNoLiteral k →
 unfolding lex_from
 none_from k n zero text l e = refl
 none_from k n (suc m) [] l e = refl
-none_from k zero (suc m) (a ∷ rest) l e =
-    grind (arith, none_at, no_literal_cell, none_from (lexeme_at a rest).kind (lexeme_at a
-    rest).more m rest)
+none_from k zero (suc m) (a ∷ rest) l e = let x = lexeme_at a rest in
+    grind (arith, none_at, no_literal_cell, none_from x.kind x.more m rest)
 none_from k (suc n) (suc m) (a ∷ rest) l e = grind (arith, no_literal_cell, none_from k n m rest l)
 
 none_lex : (m : ℕ) (text : List ℕ) → list_any is_quote (map shown (take m (lex text))) ≡ false → list_any is_literal (take m (lex text)) ≡ false

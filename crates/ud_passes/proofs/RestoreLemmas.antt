@@ -45,8 +45,8 @@ line_more text start walk out s next more k w e = grind (arith, renumbered, appe
 
 pub lines_read : (acc : List Reading) (ls : List Line) → map (λ (r : Reading). r.line) (readings_after acc (map (in_mode C) ls)) ≡ map (λ (r : Reading). r.line) acc ++ ls
 lines_read acc [] = sym (append-nil (map (λ (r : Reading). r.line) acc))
-lines_read acc (l ∷ ls) = let q : Reading = next_reading acc C l in
-    lines_read (acc ++ q ∷ []) ls ∙ ap (λ (x : List Line). x ++ ls) (map-append (λ (r : Reading). r.line) acc (q ∷ [])) ∙ append_assoc (map (λ (r : Reading). r.line) acc) (l ∷ []) ls
+lines_read acc (l ∷ ls) =
+    grind (arith, map-append, append_assoc, lines_read (acc ++ next_reading acc C l ∷ []) ls)
 
 pub all_restored : (text start : List ℕ) (walk : Walk) (out : List ℕ) → Restored text start walk out → walk.rest.now ≡ [] → out ≡ start ++ restored_text text
 all_restored text start walk out s e =

@@ -27,10 +27,10 @@ unfolding split_lines
 first_text rest n w up some = by w up
   where
     by : (w : Bool) → UpToNewline rest n w → texts_of rest ≡ take n rest ∷ texts_of (drop n rest)
-    by true up =
-        grind (arith, take-append-drop, split_lines-line-prefix (take n rest) (drop n rest) (up.line
-        refl))
-    by false up = grind (arith, take_all, drop_all, (up.all refl).0, one_text rest n false up some)
+    by true up = let first = split_lines-line-prefix (take n rest) (drop n rest) (up.line refl) in
+        grind (arith, take-append-drop, first)
+    by false up = let one = one_text rest n false up some in
+        grind (arith, take_all, drop_all, (up.all refl).0, one)
 
 -- 2. Lines that stay.
 
@@ -69,8 +69,8 @@ none_placed text ms walk w = record { read = []; walked = w; rest = λ rs. refl 
 pub all_placed : (text ms : List ℕ) (walk : Walk) (left : List ℕ) (out : List Place) → Placed text ms walk left out → walk.rest.now ≡ [] → (gap : Bool) → gap ≡ is_gap left →
     (place : Place) → place ≡ bare_place gap true → (new : List Place) → new ≡ out ++ place ∷ [] → new ≡ places ms (read_as C text)
 all_placed text ms walk left out p e gap g place l new n =
-    grind (arith, append-nil, p.rest [], walk_ends C text p.read walk.rest.now walk.scanner p.walked
-        e)
+    let end = walk_ends C text p.read walk.rest.now walk.scanner p.walked e in
+    grind (arith, append-nil, p.rest [], end)
 
 -- 4. Stretches.
 

@@ -41,26 +41,10 @@ blanks_after : (ms : List ℕ) (rs : List Reading) (above : Place) (gaps : List 
 unfolding AllBlank OnlyBlanks
 blanks_after ms [] above gaps qs e a = blanks_both _ (true ∷ []) qs [] (length-first_ones (length gaps) _ ∙ e) a tt
 blanks_after ms (r ∷ rs) above gaps qs e a =
-    by (place_of (is_gap ms) r).blank refl
-    (λ more blank. blanks_after (after_stay ms) rs above (gaps ++ (place_of (is_gap ms) r).gap ∷ []) (qs ++ r ∷ []) more blank)
-    (blanks_after (after_stay ms) rs (place_of (is_gap ms) r) [] [] refl tt)
-  where
-    p : Place
-    p = place_of (is_gap ms) r
-
-    later : List Place
-    later = places (after_stay ms) rs
-
-    by : (b : Bool) → p.blank ≡ b →
-        (length (gaps ++ p.gap ∷ []) ≡ length (qs ++ r ∷ []) → AllBlank (qs ++ r ∷ []) → OnlyBlanks (stay_flags above (gaps ++ p.gap ∷ []) later) ((qs ++ r ∷ []) ++ rs)) →
-        OnlyBlanks (stay_flags p [] later) rs →
-        OnlyBlanks (if b then stay_flags above (gaps ++ p.gap ∷ []) later
-        else first_ones (length gaps) (left above p (parts 0 gaps p.gap)) ++ true ∷ stay_flags p [] later) (qs ++ r ∷ rs)
-    by true h on new = let more : length (gaps ++ p.gap ∷ []) ≡ length (qs ++ r ∷ []) = length-append gaps (p.gap ∷ []) ∙ ap (λ (n : ℕ). n + 1) e ∙ sym (length-append qs (r ∷ [])) in
-        subst (λ (xs : List Reading). OnlyBlanks (stay_flags above (gaps ++ p.gap ∷ []) later) xs) (append_assoc qs (r ∷ []) rs)
-        (on more (blank_more qs r a (grind (arith, h))))
-    by false h on new = blanks_both _ (true ∷ stay_flags p [] later) qs (r ∷ rs) (length-first_ones (length gaps) _ ∙ e) a
-        ((λ f. let z : true ≡ false = f in cc), new)
+    let p : Place = place_of (is_gap ms) r in
+    let on = blanks_after (after_stay ms) rs above (gaps ++ p.gap ∷ []) (qs ++ r ∷ []) in
+    let new = blanks_after (after_stay ms) rs p [] [] refl tt in
+    grind (arith, on, new, length-append, append_assoc, blank_more, blanks_both, length-first_ones)
 
 pub only_blanks : (ms output : List ℕ) → OnlyBlanks (flags_in ms output) (read_as C output)
 unfolding AllBlank
@@ -108,5 +92,5 @@ all_kept (suc n) (l ∷ ls) = grind (arith, all_kept n ls)
 
 pub stays_same : (ms output : List ℕ) → list_all stays ms ≡ true → squeezed_text ms output ≡ output
 stays_same ms output h =
-    grind (arith, all_stay ms (read_as C output) h (bare_place false true) 0, all_kept, (lines_exist
-    output).joined)
+    let all = all_stay ms (read_as C output) h (bare_place false true) 0 in
+    grind (arith, all, all_kept, (lines_exist output).joined)

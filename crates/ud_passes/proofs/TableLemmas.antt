@@ -38,18 +38,12 @@ module _ {X : Type 0} (p : X → Bool) where
   count-none : (xs : List X) → ((k : ℕ) (d : X) → k < length xs → p (get_or xs k d) ≡ false) → count_by p xs ≡ 0
   count-none [] h = refl
   count-none (x ∷ xs) h = let first : p x ≡ false = h 0 x (omega arith) in
-      let rest : count_by p xs ≡ 0 = count-none xs (λ k d l. h (suc k) d (omega arith)) in
-      count-cons x xs ∙ ap₂ (λ (b : Bool) (n : ℕ). (if b then 1 else 0) + n) first rest
+      grind (arith, count-cons, first, count-none xs (λ k d l. h (suc k) d (omega arith)))
 
   none-counted : (xs : List X) → count_by p xs ≡ 0 → (k : ℕ) (d : X) → k < length xs → p (get_or xs k d) ≡ false
   none-counted [] e k d l = absurd (omega arith)
-  none-counted (x ∷ xs) e k d l = by (p x) refl (sym (count-cons x xs) ∙ e) (λ z m n. none-counted xs z m d n) k l
-    where
-      by : (b : Bool) → p x ≡ b → (if b then 1 else 0) + count_by p xs ≡ 0 → (count_by p xs ≡ 0 → (m : ℕ) → m < length xs → p (get_or xs m d) ≡ false) →
-          (k : ℕ) → k < length (x ∷ xs) → p (get_or (x ∷ xs) k d) ≡ false
-      by true h z r k m = absurd (omega (arith, z))
-      by false h z r zero m = h
-      by false h z r (suc k) m = r (omega (arith, z)) k (omega arith)
+  none-counted (x ∷ xs) e zero d l = grind (arith, count-cons)
+  none-counted (x ∷ xs) e (suc k) d l = grind (arith, count-cons, none-counted xs)
 
 pub replicated : {X : Type 0} (f : X → List ℕ) (x : List ℕ) (ps : List X) → ((k : ℕ) → k < length ps → (d : X) → bytes_eq (f (get_or ps k d)) x ≡ true) → map f ps ≡ replicate (length ps) x
 replicated f x [] h = refl
@@ -94,12 +88,8 @@ module _ (names : List (List ℕ)) (rows : List NameCount) (x : List ℕ) (k : �
 -- 3. Names that are sorted.
 
 equal_if : (a b : List ℕ) → is_lt (slice_cmp nat_cmp a b) ≡ false → is_lt (slice_cmp nat_cmp b a) ≡ false → bytes_eq a b ≡ true
-equal_if a b e f = by (slice_cmp nat_cmp a b) refl (nat_list_cmp_total.antisymm b a)
-  where
-    by : (o : Ordering) → slice_cmp nat_cmp a b ≡ o → slice_cmp nat_cmp b a ≡ ordering_reverse (slice_cmp nat_cmp a b) → bytes_eq a b ≡ true
-    by Less h g = absurd (cc)
-    by Equal h g = sym (is_eq-slice_cmp a b) ∙ ap is_eq h
-    by Greater h g = absurd (cc)
+equal_if a b e f =
+    let back = nat_list_cmp_total.antisymm b a in grind (arith, back, is_eq-slice_cmp a b)
 
 -- `RowsAt f xs rows i`: the rows of the names before the index `i`. The name there is none of them.
 pub record RowsAt {X : Type 0} (f : X → List ℕ) (xs : List X) (rows : List NameCount) (i : ℕ) : Type 0 where

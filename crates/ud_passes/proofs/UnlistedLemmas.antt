@@ -47,9 +47,8 @@ from-append : (file : List ℕ) (folded : Bool) (n : ℕ) (before rs : List Read
     listed_from file folded n (before ++ rs) ≡ listed_from file folded n before ++ listed_from file folded (n + breaks folded (plain_lines before)) rs
 from-append file folded n [] rs = grind arith
 from-append file folded n (r ∷ before) rs = let m = n + breaks folded (text_of r.line) in
-    let e : m + breaks folded (plain_lines before) ≡ n + breaks folded (text_of r.line ++ plain_lines before) = omega (arith, breaks-append folded (text_of r.line) (plain_lines before)) in
-    ap (λ (x : List ℕ). listed_line file folded n r ++ x) (from-append file folded m before rs ∙ ap (λ (k : ℕ). listed_from file folded m before ++ listed_from file folded k rs) e)
-    ∙ sym (append_assoc (listed_line file folded n r) (listed_from file folded m before) _)
+    let e = breaks-append folded (text_of r.line) (plain_lines before) in
+    grind (arith, append_assoc, e, from-append file folded m before rs)
 
 -- Text lines aren't listed.
 texts_from : (file : List ℕ) (folded : Bool) (n : ℕ) (rs : List Reading) → AreTexts rs → listed_from file folded n rs ≡ []
@@ -68,8 +67,8 @@ first_of_all (b ∷ bs) none = ap (λ (q : SplitLines). first_body (numbered_fro
 
 first_of_up_to : (s : List ℕ) (used : ℕ) (whole : Bool) → UpToNewline s used whole → first_body (lines_of s) ≡ (line_at 1 (take used s)).body
 first_of_up_to s used true up =
-    ap (λ (x : List ℕ). first_body (lines_of x)) (sym (take-append-drop used s))
-    ∙ ap (λ (q : SplitLines). first_body (numbered_from 1 (q.whole ++ last_line q.rest))) (split_lines-line-prefix (take used s) (drop used s) (up.line refl))
+    let first = split_lines-line-prefix (take used s) (drop used s) (up.line refl) in
+    grind (arith, take-append-drop, first)
 first_of_up_to s used false up = grind (arith, first_of_all, take_all, le_refl)
 
 pub first_shown : (l k : Line) (s : List ℕ) (used : ℕ) (whole : Bool) → s ≡ restored_line l → UpToNewline s used whole → k ≡ line_at 1 (take used s) → k.body ≡ shown_body true l

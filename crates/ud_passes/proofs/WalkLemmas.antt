@@ -35,7 +35,7 @@ texts_read : (mode : Mode) (before : List Reading) (ls : List Line) → HaveNoDi
 texts_read mode before [] h = ([], sym (append-nil before), tt, refl)
 texts_read mode before (l ∷ ls) h = let r : Reading = next_reading before mode l in
     let i = texts_read mode (before ++ r ∷ []) ls h.1 in
-    (r ∷ i.0, i.1 ∙ append_assoc before (r ∷ []) i.0, (h.0, i.2), ap (λ (xs : List Line). l ∷ xs) i.3)
+    (r ∷ i.0, grind (arith, i.1, append_assoc), (h.0, i.2), ap (λ (xs : List Line). l ∷ xs) i.3)
 
 -- Text lines more.
 pub texts_next : (mode : Mode) (text : List ℕ) (read : List Reading) (rest : List ℕ) (s : ScannerState) → Walked mode text read rest s → 0 < length rest →
@@ -49,19 +49,8 @@ texts_next mode text read rest s w some p next t whole skips e =
     let count : length i.0 ≡ length (whole_lines p) = sym (length-map i.0 (λ (r : Reading). text_of r.line)) ∙ ap (λ (x : List (List ℕ)). length x) all in
     let c = w.count_is in
     let m = number_after_texts mode w.done p ends whole n (length i.0) refl (count ∙ lines_counted p) in
-    let o = length-append read i.0 in (
-      i.0,
-      i.2,
-      record { ends = whole; first = n; lines_are = i.3; bytes_are = ap concat all ∙ sym (ended_lines p whole); count_is = count },
-      record {
-        done = w.done ++ p;
-        is = append_assoc w.done p next ∙ ap (λ (x : List ℕ). w.done ++ x) e ∙ w.is;
-        ends = λ more. still_whole mode w.done p ends whole;
-        read_is = sym i.1 ∙ ap (λ (x : List Reading). readings_after x (map (in_mode mode) ls)) w.read_is ∙ sym (read_texts mode w.done p ends whole);
-        count_is = omega (arith, o, m, c);
-        represents = subst (λ (x : List Reading). ScannerRepresents t x) i.1 (skips.represents n read w.represents);
-      },
-    )
+    let o = length-append read i.0 in
+    grind (arith, ended_lines, append_assoc, still_whole, read_texts)
 
 -- 3. A line more.
 
