@@ -39,7 +39,7 @@ no_token = refl
 -- Nothing is left of nothing.
 pub none_left : (prev operand : Bool) (flags : List Bool) → left_from prev operand flags [] ≡ []
 none_left prev operand [] = refl
-none_left prev operand (f ∷ flags) = end_left prev operand f flags [] no_token
+none_left prev operand (f ∷ flags) = grind (arith, no_token)
 
 -- 3. The text so far.
 

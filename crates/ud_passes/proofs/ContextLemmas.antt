@@ -57,16 +57,15 @@ changes_begin _ (more ls kept l h are few is) =
 pub changes_begin_at : (ls : List DiffLine) (i j : ℕ) → AreChanges (between i j ls) →
     (i < j) × (i < length ls) × ((d : DiffLine) → is_change (get_or ls i d).sign ≡ true)
 changes_begin_at ls i j h =
-    let some : 0 < length (between i j ls) = (changes_begin (between i j ls) h).0 in
-    let few : length (take (j - i) (drop i ls)) ≡ min (j - i) (length ls - i) = between_few ls i (j - i) in
-    let all : length (between i j ls) ≡ length (take (j - i) (drop i ls)) = length-map (take (j - i) (drop i ls)) signed in (
-      omega arith,
-      omega arith,
-      λ d. let same : i + 0 ≡ i = omega arith in
-          subst (λ (l : SignedLine). is_change l.sign ≡ true)
-          (get_or-map signed (take (j - i) (drop i ls)) 0 d
-          ∙ ap signed (between_at ls i (j - i) 0 d (omega arith) ∙ ap (λ (n : ℕ). get_or ls n d) same))
-          ((changes_begin (between i j ls) h).1 (signed d)),
+    let first = changes_begin (between i j ls) h in
+    let few = between_few ls i (j - i) in
+    let all = length-map (take (j - i) (drop i ls)) signed in (
+      omega (arith, first.0, all, few),
+      omega (arith, first.0, all, few),
+      λ d.
+          let at = get_or-map signed (take (j - i) (drop i ls)) 0 d in
+          let there = between_at ls i (j - i) 0 d (omega (arith, first.0, all, few)) in
+          grind (arith, first.1 (signed d), at, there),
     )
 
 -- Kept lines end before a change.

@@ -57,11 +57,8 @@ module _ (k : Line) (no : NoNewline k.body) (end : IsEnd k.ending) (bytes : List
 
 -- 2. Other directives.
 
-other_kind : (j k : Kind) → same_kind j j ≡ false → same_kind j k ≡ false
-other_kind j k e = grind arith
-
 no_directive : (d : Directive) (bytes : List ℕ) (k : Line) (c : Content) → same_kind d.kind d.kind ≡ false → has_directive d bytes k c ≡ false
-no_directive d bytes k c e = grind (arith, other_kind)
+no_directive d bytes k c e = grind arith
 
 module _ (table : List Argument) (rules : Rules) (l : Line) where
   -- A directive of another kind stays.
@@ -112,9 +109,6 @@ module _ (table : List Argument) (rules : Rules) (l : Line) (d : Directive) (i :
       other_ending f = grind (arith, read_ending)
 
       module _ (same : e.ending ≡ l.ending) where
-        keeps : keeps_ending k ≡ true
-        keeps = grind (arith, bytes_eq-Decides, read_ending)
-
         body_same : e.body ≡ k.body
         body_same = body_read k no_newline end bytes bytes_are l.number e w to is same
 
@@ -131,7 +125,7 @@ module _ (table : List Argument) (rules : Rules) (l : Line) (d : Directive) (i :
         -- Other bytes, if they are read so.
         pub edited_if : bytes_eq e.body l.body ≡ false → (b : Bool) → b ≡ is_meant d (map shown (left_cells_of table rules l d)) e (scan_after_run [] e) → IsEditedAt table rules l d b bytes
         edited_if f b m =
-            grind (arith, e_is, keeps, same_cut, ap text_of e_is ∙ sym bytes_are, bytes_eq-Decides)
+            grind (arith, e_is, read_ending, same_cut, ap text_of e_is ∙ sym bytes_are, bytes_eq-Decides)
 
 -- 4. A line that joins no other one.
 

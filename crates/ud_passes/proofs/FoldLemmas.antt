@@ -99,13 +99,9 @@ pub rest_given_up : (group : List Reading) (r : Reading) (rs : List Reading) →
     is_foldable (group ++ r ∷ continued rs) ≡ false → rest_from group (r ∷ rs) ≡ (plain_lines group ++ text_of r.line) ++ rest_from [] rs
 rest_given_up group r rs b j f = grind (arith, append_assoc, flat_map-append)
 
--- A line that continues lines which stay.
-rest_after : (r : Reading) (rs : List Reading) → r.scan.joins_before ≡ true → rest_from [] (r ∷ rs) ≡ text_of r.line ++ rest_from [] rs
-rest_after r rs e = grind (arith, append_assoc)
-
 -- A line after no group, which stays.
 pub rest_first : (r : Reading) (rs : List Reading) → is_foldable (r ∷ continued rs) ≡ false → rest_from [] (r ∷ rs) ≡ text_of r.line ++ rest_from [] rs
-rest_first r rs f = grind (arith, rest_after, append_assoc, stays)
+rest_first r rs f = grind (arith, append_assoc, stays)
 
 -- A line that no line continues.
 rest_alone : (r : Reading) (rs : List Reading) → continued rs ≡ [] → r.scan.joins_before ≡ false → rest_from [] (r ∷ rs) ≡ text_of r.line ++ rest_from [] rs
@@ -123,7 +119,7 @@ module _ (r : Reading) (old : List ℕ) (l : LogicalLine) where
 
   -- No logical line of several lines begins on the line.
   pub takes_line : (new : List ℕ) → new ≡ old ++ text_of r.line → (not r.scan.joins_before && r.scan.joins_after && is_directive (content_of r.scan)) ≡ false → FoldsReading r [] old l None new
-  takes_line new e n = grind (arith, takes_none, rest_after, false≢true, rest_first, not_foldable, rest_alone)
+  takes_line new e n = grind (arith, takes_none, append_assoc, false≢true, rest_first, not_foldable, rest_alone)
 
   pub takes_begun : (b : Last) → IsLogical l b (r ∷ []) → r.scan.joins_before ≡ false → r.scan.joins_after ≡ true → FoldsReading r [] old l (Some b) old
   takes_begun b i j a = grind (arith, common_steps, append-nil)
@@ -170,18 +166,11 @@ pub logical_more : (l m : LogicalLine) (b c : Last) (group : List Reading) (r : 
     ((q : Reading) → IsLast b q → part ++ vertical_tab ∷ [] ≡ continued_part q) → ((q : Reading) → IsLast b q → break ≡ shown_break q.scan) →
     m.plain.items ≡ l.plain.items ++ text_of r.line → m.body.items ≡ (l.body.items ++ part) ++ vertical_tab ∷ [] → m.shown.items ≡ (l.shown.items ++ break) ++ r.scan.masked → IsLogical m c (group ++ r ∷ [])
 logical_more l m b c group r part break i j e p k pl bo sh =
-    grind (
-      arith,
-      append_assoc,
-      begins_more,
-      list_all-append,
-      bytes_eq-Decides,
-      flat_map-append,
-      append-nil,
-      shown_lines_more,
-      no_newline-append,
-      no_newline-take,
-    )
+    let shown = shown_lines_more i.front i.last r in
+    let part : NoNewline (continued_part i.last) =
+    grind (arith, no_newline-append, no_newline-take, i.is_last.one_line) in
+    let one = no_newline-append l.body.items (continued_part i.last) i.one_line part in
+    grind (arith, append_assoc, list_all-append, flat_map-append, append-nil, shown, one)
 
 -- The lines that have ended.
 pub folded_as : (l : LogicalLine) (b : Last) (group : List Reading) (bytes : List ℕ) (shown : Bool) → IsLogical l b group → bytes ≡ (l.body.items ++ b.line.body.now) ++ b.line.ending.now →

@@ -31,17 +31,11 @@ pub count_is : (is_in : Sign → Bool) (ls : List DiffLine) →
     count_by (λ (l : DiffLine). is_in l.sign) ls ≡ length (side is_in (signed_lines ls))
 count_is is_in ls = grind (arith, common_steps, length-filter, side, as_many)
 
--- A test that gives nothing is false.
-gives_nothing : (b : Bool) (n : ℕ) → cond b (Some n) None ≡ None → b ≡ false
-gives_nothing true n e = cc
-gives_nothing false n e = refl
-
 -- If no line is a change, all are kept ones.
 pub kept_none : (ls : List DiffLine) → position (λ (l : DiffLine). is_change l.sign) ls ≡ None → AreKept (signed_lines ls)
-kept_none ls e = let far : length ls ≤ position_or_len (λ (l : DiffLine). is_change l.sign) ls =
-    ltb-false (position_or_len (λ (l : DiffLine). is_change l.sign) ls) (length ls)
-    (gives_nothing (ltb (position_or_len (λ (l : DiffLine). is_change l.sign) ls) (length ls)) (position_or_len (λ (l : DiffLine). is_change l.sign) ls) e) in
-    All-map IsKept signed ls (λ k d low. fails_before_first (λ (l : DiffLine). is_change l.sign) ls k d (omega arith))
+kept_none ls e = All-map IsKept signed ls (λ k d low.
+    let first = fails_before_first (λ (l : DiffLine). is_change l.sign) ls k d in
+    grind (arith, e, low, first))
 
 -- If the rest of a slice has no change, all its lines are kept ones.
 pub kept_rest : (script : List DiffLine) (from : ℕ) → position (λ (l : DiffLine). is_change l.sign) (take (length script - from) (drop from script)) ≡ None →
@@ -52,29 +46,26 @@ kept_rest script from e = subst (λ (xs : List DiffLine). AreKept (signed_lines 
 kept_before : (script : List DiffLine) (from first : ℕ) → position (λ (l : DiffLine). is_change l.sign) (drop from script) ≡ Some first →
     AreKept (between from (from + first) script)
 kept_before script from first e = kept_range script from (from + first)
-    (λ k d low high within. let so_far : from + (k - from) ≡ k = omega arith in
-    subst (λ (n : ℕ). is_change (get_or script n d).sign ≡ false) so_far
-    (subst (λ (l : DiffLine). is_change l.sign ≡ false) (get_or-drop from script (k - from) d)
-    ((position-Some (λ (l : DiffLine). is_change l.sign) (drop from script) first d e).2 (k - from) (omega arith))))
+    (λ k d low high within. let is : DiffLine → Bool = λ l. is_change l.sign in
+    let before = (position-Some is (drop from script) first d e).2 (k - from) (omega arith) in
+    grind (arith, get_or-drop from script (k - from) d, before))
 
 -- The next hunk, from its first change and the number of lines up to its last one.
 next_hunk_is : (script : List DiffLine) (from first n start end : ℕ) → from ≤ length script → position (λ (l : DiffLine). is_change l.sign) (drop from script) ≡ Some first →
     n ≤ length (drop (from + first) script) → AreChanges (between 0 n (drop (from + first) script)) → AreKept (between n (n + gap) (drop (from + first) script)) →
     start ≡ from + (first - context) → end ≡ min (length script) (from + first + n + context) → IsNextHunk script from start end
 next_hunk_is script from first n start end inside e within changed later a b =
-    let same : from + first + 0 ≡ from + first = omega arith in
-    let so_many : from + first + (n + gap) ≡ from + first + n + gap = omega arith in
-    let all : length (drop (from + first) script) ≡ length script - (from + first) = length-drop (from + first) script in
+    let all = length-drop (from + first) script in
     let here : AreChanges (between (from + first) (from + first + n) script) =
-    subst AreChanges (between_drop script (from + first) 0 n ∙ ap (λ (i : ℕ). between i (from + first + n) script) same) changed in
-    let some : from + first < length script = (changes_begin_at script (from + first) (from + first + n) here).1 in record {
+    grind (arith, changed, between_drop script (from + first) 0 n) in
+    let some = (changes_begin_at script (from + first) (from + first + n) here).1 in record {
       first = from + first;
       last = from + first + n;
       after = omega arith;
       within = omega arith;
       kept = kept_before script from first e;
       changed = here;
-      later = subst AreKept (between_drop script (from + first) n (n + gap) ∙ ap (λ (i : ℕ). between (from + first + n) i script) so_many) later;
+      later = grind (arith, later, between_drop script (from + first) n (n + gap));
       starts = a ∙ omega arith;
       ends = b;
     }
@@ -126,22 +117,17 @@ kept_side is_in is (l ∷ ls) h =
 pub turns_kept : (hunks : List Hunk) (xs ys : List DiffLine) → AreKept (signed_lines ys) → Turns hunks (old_lines (signed_lines xs)) (new_lines (signed_lines xs)) →
     Turns hunks (old_lines (signed_lines (xs ++ ys))) (new_lines (signed_lines (xs ++ ys)))
 turns_kept hunks xs ys kept t =
-    subst (λ (o : List (List ℕ)). Turns hunks o (new_lines (signed_lines (xs ++ ys))))
-    (sym (side-append is_old xs ys ∙ ap (λ (o : List (List ℕ)). old_lines (signed_lines xs) ++ o) (kept_side is_old refl ys kept)))
-    (subst (λ (o : List (List ℕ)). Turns hunks (old_lines (signed_lines xs) ++ bytes_of ys) o)
-    (sym (side-append is_new xs ys ∙ ap (λ (o : List (List ℕ)). new_lines (signed_lines xs) ++ o) (kept_side is_new refl ys kept)))
-    (stay hunks (old_lines (signed_lines xs)) (new_lines (signed_lines xs)) (bytes_of ys) t))
+    let more = stay hunks (old_lines (signed_lines xs)) (new_lines (signed_lines xs)) _ t in
+    let old = side-append is_old xs ys in let new = side-append is_new xs ys in
+    rw (old, new, kept_side is_old refl ys kept, kept_side is_new refl ys kept) more
 
 -- Hunks that turn some lines, and a hunk of further lines, turn them all.
 pub turns_changed : (hunks : List Hunk) (m n : ℕ) (xs ys : List DiffLine) → m ≡ length (old_lines (signed_lines xs)) → n ≡ length (new_lines (signed_lines xs)) →
     Turns hunks (old_lines (signed_lines xs)) (new_lines (signed_lines xs)) →
     Turns (hunks ++ hunk_of m n ys ∷ []) (old_lines (signed_lines (xs ++ ys))) (new_lines (signed_lines (xs ++ ys)))
 turns_changed hunks m n xs ys a b t =
-    subst (λ (o : List (List ℕ)). Turns (hunks ++ hunk_of m n ys ∷ []) o (new_lines (signed_lines (xs ++ ys))))
-    (sym (side-append is_old xs ys))
-    (subst (λ (o : List (List ℕ)). Turns (hunks ++ hunk_of m n ys ∷ []) (old_lines (signed_lines xs) ++ old_lines (signed_lines ys)) o)
-    (sym (side-append is_new xs ys))
-    (change hunks (old_lines (signed_lines xs)) (new_lines (signed_lines xs)) (hunk_of m n ys) t a b))
+    rw (side-append is_old xs ys, side-append is_new xs ys)
+    (change hunks (old_lines (signed_lines xs)) (new_lines (signed_lines xs)) (hunk_of m n ys) t a b)
 
 -- Kept lines are as many in both texts.
 pub kept_length : (is_in : Sign → Bool) → is_in Kept ≡ true → (xs ys : List DiffLine) →
@@ -163,14 +149,12 @@ pub counted : (is_in : Sign → Bool) (ls : List DiffLine) (start end : ℕ) →
     length (side is_in (signed_lines (take end ls))) ≡
     length (side is_in (signed_lines (take start ls))) + count_by (λ (l : DiffLine). is_in l.sign) (take (end - start) (drop start ls))
 counted is_in ls start end h =
-    ap (λ (xs : List DiffLine). length (side is_in (signed_lines xs))) (upto_later ls start end h)
-    ∙ ap length (side-append is_in (take start ls) (take (end - start) (drop start ls)))
-    ∙ length-append (side is_in (signed_lines (take start ls))) (side is_in (signed_lines (take (end - start) (drop start ls))))
-    ∙ ap (λ (n : ℕ). length (side is_in (signed_lines (take start ls))) + n) (sym (count_is is_in (take (end - start) (drop start ls))))
+    let all = count_is is_in (take (end - start) (drop start ls)) in
+    grind (arith, upto_later ls start end h, side-append, length-append, all)
 
 -- No more lines are taken than that.
 pub taken_few : (ls : List DiffLine) (n : ℕ) → length (take n ls) ≤ n
-taken_few ls n = subst (λ (k : ℕ). k ≤ n) (sym (length-take n ls)) (omega arith)
+taken_few ls n = omega (arith, length-take n ls)
 
 -- No more lines are in one text than there are.
 pub side_few : (is_in : Sign → Bool) (ls : List DiffLine) (n : ℕ) →

@@ -124,11 +124,6 @@ module _ (table : List Argument) where
 
   -- 2. Definitions.
 
-  either : (w : Bool) (t rest : List ℕ) → LacksNames table rest → LacksNames table t →
-      LacksNames table (if w then rest else t)
-  either true t rest h k = h
-  either false t rest h k = k
-
   white_lacks : (t : List ℕ) → LacksNames table t → LacksNames table (skip_white t)
   white_lacks [] h = h
   white_lacks (b ∷ bs) h = grind (arith, rest_lacks, white_lacks bs (rest_lacks b bs h))

@@ -13,9 +13,6 @@ use Rattle.ud_simplified.proofs.ResidualRead.{written_left, untouched}
 use Rattle.ud_passes.specs.pruning.Cells.{AreCells, stands, IsFound}
 use Rattle.ud_passes.specs.declared.pruning.cells.LeftText.{LeftText}
 
-both : (a b c : Bool) → a ≡ true → b ≡ true → c ≡ true → (a && b && c) ≡ true
-both a b c p q r = grind arith
-
 module _ (table : List Argument) (rules : Rules) where
   cond_of : (text : List ℕ) (e : Expression) → expression_of text ≡ Some e → expression_cond text table rules ≡ tree_cond e table rules
   unfolding expression_cond
@@ -26,17 +23,8 @@ module _ (table : List Argument) (rules : Rules) where
   unfolding simplified_cells
   by_tree cells e p = grind arith
 
-  if_false : (b c : Bool) (xs ys : List Cell) → b ≡ false → (if b && c then xs else ys) ≡ ys
-  if_false b c xs ys e = grind arith
-
-  if_false₂ : (b c : Bool) (xs ys : List Cell) → c ≡ false → (if b && c then xs else ys) ≡ ys
-  if_false₂ b c xs ys e = grind arith
-
-  if_true : (b c : Bool) (xs ys : List Cell) → b ≡ true → c ≡ true → (if b && c then xs else ys) ≡ xs
-  if_true b c xs ys e f = grind arith
-
   stays : (cells : List Cell) (e : Expression) → expression_of (map shown cells) ≡ Some e → may_go table rules e cells ≡ false → simplified_cells table rules cells ≡ cells
-  stays cells e p q = by_tree cells e p ∙ if_false (may_go table rules e cells) (is_read table rules e (left_cells (keeps table rules e) cells)) (left_cells (keeps table rules e) cells) cells q
+  stays cells e p q = let all = by_tree cells e p in grind (arith, all)
 
   -- A text with or without a tree.
   by_option : (cells : List Cell) (P : Type 0) → (expression_of (map shown cells) ≡ None → P) → ((e : Expression) → expression_of (map shown cells) ≡ Some e → P) → P
@@ -45,8 +33,8 @@ module _ (table : List Argument) (rules : Rules) where
   -- A condition that is decided stays.
   pub known_stays : (cells : List Cell) → is_unknown (expression_cond (map shown cells) table rules) ≡ false → simplified_cells table rules cells ≡ cells
   known_stays cells h =
-      by_option cells (simplified_cells table rules cells ≡ cells) (untouched table rules cells) (λ
-      e p. stays cells e p (grind (arith, cond_of, h, p)))
+      by_option cells (simplified_cells table rules cells ≡ cells) (untouched table rules cells)
+      (λ e p. let t = cond_of (map shown cells) e p in stays cells e p (grind (arith, t)))
 
   -- A condition whose residual is decided stays.
   pub settled_stays : (cells : List Cell) → ((e : Expression) → expression_of (map shown cells) ≡ Some e → is_unknown (residual table rules e).cond ≡ false) → simplified_cells table rules cells ≡ cells
@@ -75,7 +63,7 @@ module _ (table : List Argument) (rules : Rules) where
         grind (arith, a, b, c)
 
     misread : is_read table rules e left ≡ false → simplified_cells table rules cells ≡ cells
-    misread q = by_tree cells e p ∙ if_false₂ (may_go table rules e cells) (is_read table rules e left) left cells q
+    misread q = let all = by_tree cells e p in grind (arith, all)
 
     decided : is_read table rules e left ≡ true → is_unknown (expression_cond (map shown left) table rules) ≡ false → simplified_cells table rules cells ≡ cells
     decided q r = let b = rest_cond q in stays cells e p (grind (arith, b))

@@ -9,17 +9,17 @@ use Rattle.ud_text.proofs.lemmas.lines.NewlineLemmas.{no_newline_front}
 
 -- a whole line that a text begins with is its first line
 texts_of-line : (line rest : List ℕ) → IsWhole line → texts_of (line ++ rest) ≡ line ∷ texts_of rest
-texts_of-line line rest whole = ap (λ (q : SplitLines). q.whole ++ last_line q.rest) (split_lines-line-prefix line rest whole)
+texts_of-line line rest whole = grind (arith, split_lines-line-prefix line rest whole)
 
 -- the bytes up to the first newline are the first line
 pub texts_of-found : (s : List ℕ) (k : ℕ) → NoneBefore (Passes (is_byte 10) s) 0 (length s) k → Passes (is_byte 10) s k →
     texts_of s ≡ take (k + 1) s ∷ texts_of (drop (k + 1) s)
 texts_of-found s k first is =
-    ap texts_of (sym (take-append-drop (k + 1) s)) ∙ texts_of-line (take (k + 1) s) (drop (k + 1) s) (
-      take k s,
-      no_newline_front s k first.before,
-      take_more s k 0 first.high ∙ ap (λ (b : ℕ). take k s ++ b ∷ []) (eqb-true (get_or s k 0) 10 is),
-    )
+    let more = take_more s k 0 first.high in
+    let line : IsWhole (take (k + 1) s) =
+    (take k s, no_newline_front s k first.before, grind (arith, more, eqb-true, is)) in
+    let there = texts_of-line (take (k + 1) s) (drop (k + 1) s) line in
+    grind (arith, take-append-drop (k + 1) s, there)
 
 -- a text without a newline is one line
 pub texts_of-open : (s : List ℕ) → s ≢ [] → Nowhere (Passes (is_byte 10) s) 0 (length s) →

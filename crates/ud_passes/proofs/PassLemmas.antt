@@ -36,9 +36,6 @@ module _ (table : List Argument) (rules : Rules) where
   unfolding pruned_line
   pruned_long r e = grind arith
 
-  not_edited : (r : Reading) → pruned_bytes table rules r ≡ text_of r.line → is_edited table rules r ≡ false
-  not_edited r e = grind (arith, bytes_eq-Decides)
-
   -- The line that was edited or stays is what is left.
   pub next_edited : (r : Reading) (edited : Bool) (bytes old new : List ℕ) → fits r.line ≡ true → IsEditedTo edited (text_of (simplified_line table rules r)) r.line bytes →
       new ≡ old ++ (if edited then bytes else text_of r.line) → (new ≡ old ++ pruned_bytes table rules r) × (edited ≡ is_edited table rules r)
@@ -81,7 +78,7 @@ module _ (table : List Argument) (rules : Rules) where
 
   texts_stay : (rs : List Reading) → AreTexts rs → (pieces rs ≡ concat (map (λ (r : Reading). text_of r.line) rs)) × (edited_among table rules rs ≡ 0)
   texts_stay [] h = (refl, refl)
-  texts_stay (r ∷ rs) h = grind (arith, text_bytes, not_edited, texts_stay rs h.1)
+  texts_stay (r ∷ rs) h = grind (arith, text_bytes, bytes_eq-Decides, texts_stay rs h.1)
 
   last_pair : {P : Reading → Reading → Type 0} (xs : List Reading) (x : Reading) (ys : List Reading) → Pairs P (xs ++ x ∷ []) ys → (y : Reading) × P x y
   last_pair [] x _ (pair {y = y} h q) = (y, h)
@@ -103,7 +100,7 @@ module _ (table : List Argument) (rules : Rules) where
       line_more n edited c s e = lines_more (r ∷ []) n (c ∙ ap (λ (b : Bool). count + (if b then 1 else 0)) s) (e ∙ ap (λ (x : List ℕ). out ++ x) (sym (append-nil (pruned_bytes table rules r)))) w
 
       pub long_more : fits k ≡ false → more ≡ out ++ text_of k → Pruned table rules text start count next more
-      long_more f e = grind (arith, pruned_long, not_edited, line_more)
+      long_more f e = grind (arith, pruned_long, bytes_eq-Decides, line_more)
 
       -- The line is scanned as the first of a text, unless the line before joins it.
       alone : IsScannedAlone (scan_after l.read C k) k

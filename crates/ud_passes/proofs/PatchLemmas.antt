@@ -17,10 +17,6 @@ data TurnsFrom : ℕ → ℕ → List Hunk → List (List ℕ) → List (List �
       TurnsFrom (h.old_before + length (old_lines h.lines)) (h.new_before + length (new_lines h.lines)) hunks old new →
       TurnsFrom m n (h ∷ hunks) (ls ++ (old_lines h.lines ++ old)) (ls ++ (new_lines h.lines ++ new))
 
--- Hunks turn equal lines alike.
-turns_cast : {m n : ℕ} {hunks : List Hunk} {o p w x : List (List ℕ)} → o ≡ p → w ≡ x → TurnsFrom m n hunks o w → TurnsFrom m n hunks p x
-turns_cast {m} {n} {hunks} {o} {p} {w} {x} e f t = subst (λ (a : List (List ℕ)). TurnsFrom m n hunks a x) e (subst (λ (a : List (List ℕ)). TurnsFrom m n hunks o a) f t)
-
 -- Lines that stay may come before.
 turns_after : (a b : ℕ) (hunks : List Hunk) (o w : List (List ℕ)) → TurnsFrom a b hunks o w → (m n : ℕ) (ls : List (List ℕ)) →
     a ≡ m + length ls → b ≡ n + length ls → TurnsFrom m n hunks (ls ++ o) (ls ++ w)
@@ -50,11 +46,6 @@ turns_then _ _ _ (change hunks old new h t a b) ks o w r =
 rest_after_at : (ws rest : List (List ℕ)) → rest_after ws (ws ++ rest) ≡ Some rest
 rest_after_at [] rest = refl
 rest_after_at (w ∷ ws) rest = grind (arith, bytes_eq-Decides, rest_after_at ws rest)
-
--- The lines that a hunk makes, step by step.
-abbrev made : Bool → List (List ℕ) → Option (List (List ℕ)) → (List (List ℕ) → Option (List (List ℕ))) → List (List ℕ) → Option (List (List ℕ))
-made inside front found f news =
-    if inside then option_and_then (λ (rest : List (List ℕ)). option_map (λ (w : List (List ℕ)). front ++ (news ++ w)) (f rest)) found else None
 
 -- Hunks that turn lines into others make these of them.
 makes : (m n : ℕ) (hunks : List Hunk) (old new : List (List ℕ)) → TurnsFrom m n hunks old new → patched_from m hunks old ≡ Some new

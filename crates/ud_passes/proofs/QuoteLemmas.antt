@@ -21,12 +21,7 @@ use Rattle.ud_model.proofs.text.ScanBytes.{masked-content_cells}
 use Rattle.ud_model.proofs.sections.SplitLines.{directive_is}
 use Rattle.ud_simplified.proofs.SimplifiedLines.{after_is}
 
--- 1. Bytes.
-
-pub any_append : (p : ℕ → Bool) (xs ys : List ℕ) → list_any p xs ≡ false → list_any p ys ≡ false → list_any p (xs ++ ys) ≡ false
-any_append p xs ys e f = grind (arith, list_any-append)
-
--- 2. Cells.
+-- 1. Cells.
 
 -- A cell of this kind, whose lexeme begins with such a byte, is no single byte that is a quote.
 abbrev IsQuiet : LexemeKind → ℕ → Type 0
@@ -87,9 +82,6 @@ IsNoLiteral single = Unit {0}
 IsNoLiteral block_comment = Unit {0}
 IsNoLiteral line_comment = Unit {0}
 
-no_literal_cell : (k : LexemeKind) (b : ℕ) → IsNoLiteral k → is_literal (record { byte = b; kind = k }) ≡ false
-no_literal_cell k b n = grind arith
-
 none_at : (a : ℕ) (rest : List ℕ) → is_quote (shown_as (lexeme_at a rest).kind a) ≡ false → IsNoLiteral (lexeme_at a rest).kind
 unfolding lexeme_at
 none_at a rest = grind arith
@@ -99,45 +91,39 @@ unfolding lex_from
 none_from k n zero text l e = refl
 none_from k n (suc m) [] l e = refl
 none_from k zero (suc m) (a ∷ rest) l e = let x = lexeme_at a rest in
-    grind (arith, none_at, no_literal_cell, none_from x.kind x.more m rest)
-none_from k (suc n) (suc m) (a ∷ rest) l e = grind (arith, no_literal_cell, none_from k n m rest l)
+    grind (arith, none_at, none_from x.kind x.more m rest)
+none_from k (suc n) (suc m) (a ∷ rest) l e = grind (arith, none_from k n m rest l)
 
 none_lex : (m : ℕ) (text : List ℕ) → list_any is_quote (map shown (take m (lex text))) ≡ false → list_any is_literal (take m (lex text)) ≡ false
 unfolding lex
 none_lex m text e = none_from single 0 m text tt e
 
--- 3. A line.
+-- 2. A line.
 
 none_after : (n : ℕ) (cells : List Cell) → list_any is_literal cells ≡ false → list_any is_literal (drop n cells) ≡ false
 none_after zero cells e = e
 none_after (suc n) [] e = e
 none_after (suc n) (c ∷ cells) e = grind (arith, none_after n cells)
 
-white_no_quote : (b : ℕ) → is_white b ≡ true → is_quote b ≡ false
-white_no_quote b e = grind arith
-
-word_no_quote : (b : ℕ) → is_word_byte b ≡ true → is_quote b ≡ false
-word_no_quote b e = grind arith
-
 whites : (bytes : List ℕ) → are_white bytes ≡ true → list_any is_quote bytes ≡ false
 whites [] e = refl
-whites (b ∷ bytes) e = grind (arith, white_no_quote, whites bytes)
+whites (b ∷ bytes) e = grind (arith, whites bytes)
 
 words : (bytes : List ℕ) → are_word_bytes bytes ≡ true → list_any is_quote bytes ≡ false
 words [] e = refl
-words (b ∷ bytes) e = grind (arith, word_no_quote, words bytes)
+words (b ∷ bytes) e = grind (arith, words bytes)
 
 module _ (table : List Argument) (rules : Rules) (l : Line) (scan : Scan) (d : Directive) (s : scan ≡ scan_after [] C l) (h : content_of scan ≡ directive d) where
   -- A line without a quote after the keyword has no literal there.
   pub no_literal : list_any is_quote d.after ≡ false → list_any is_literal (condition_cells l d) ≡ false
   no_literal e = none_after (keyword_end d) (content_cells [] l)
-      (none_lex (length (content l)) (spliced_part l) (ap (list_any is_quote) (sym (masked-content_cells [] l) ∙ ap (λ (x : Scan). x.masked) (sym s)) ∙ (grind (arith, any_append, words, whites, (directive_is scan d).0 h, e))))
+      (none_lex (length (content l)) (spliced_part l) (ap (list_any is_quote) (sym (masked-content_cells [] l) ∙ ap (λ (x : Scan). x.masked) (sym s)) ∙ (grind (arith, list_any-append, words, whites, (directive_is scan d).0 h, e))))
 
   -- A quote after the keyword begins a literal there.
   pub a_literal : list_any is_quote d.after ≡ true → list_any is_literal (condition_cells l d) ≡ true
   a_literal e = grind (arith, quote_shown, quiet_drop, quiet_take, quiet_lex, after_is)
 
--- 4. A text that may be edited has a literal exactly if a quote is shown in it.
+-- 3. A text that may be edited has a literal exactly if a quote is shown in it.
 
 module _ (cells : List Cell) where
   abbrev pub SameQuotes : Type 0

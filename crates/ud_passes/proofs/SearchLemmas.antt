@@ -44,8 +44,8 @@ module _ (table : List Argument) where
   goes_by_end before found p h = grind (arith, common_steps)
 
   pub goes_by_texts : (before : List Reading) (found : List Mention) (rs : List Reading) → AreTexts rs → DefineNothing table rs → Goes table before found None true → Goes table (before ++ rs) found None true
-  goes_by_texts before found rs h d g =
-      λ more. ap (λ (x : List Reading). mentions_in table false x) (append_assoc before rs more) ∙ g (rs ++ more) ∙ ap (λ (x : List Mention). found ++ x) (none rs h d more)
+  goes_by_texts before found rs h d g = λ more.
+      let none_more = none rs h d more in grind (arith, append_assoc, g (rs ++ more), none_more)
     where
       none : (rs : List Reading) → AreTexts rs → DefineNothing table rs → (more : List Reading) → mentions_in table false (rs ++ more) ≡ mentions_in table false more
       none [] h d more = refl
@@ -55,16 +55,15 @@ module _ (table : List Argument) where
   pub texts_clear : (until : ℕ) (bytes rest : List ℕ) (rs : List Reading) → IsClearTo table until rest → length bytes ≤ length rest - until → bytes ≡ take (length bytes) rest →
       HaveBytes bytes rs → DefineNothing table rs
   texts_clear until bytes rest rs c long front h =
-      let is : bytes ≡ concat (whole_lines bytes) = ended_lines bytes h.ends in
-      let n : ℕ = length bytes in
-      lines_clear table (whole_lines bytes) h.first (length rest - until) (drop n rest) (are_whole bytes)
-      (subst (λ (x : List ℕ). length x ≤ length rest - until) is long)
-      (subst (IsClear table (length rest - until)) (sym (take-append-drop n rest) ∙ ap (λ (x : List ℕ). x ++ drop n rest) (sym front ∙ is)) c) rs h.lines_are
+      let is = ended_lines bytes h.ends in let n = length bytes in
+      lines_clear table (whole_lines bytes) h.first (length rest - until) (drop n rest)
+      (are_whole bytes) (grind (arith, is, long))
+      (grind (arith, is, front, take-append-drop n rest, c)) rs h.lines_are
 
   -- After some bytes, what was clear stays clear.
   pub still_clear : (until n : ℕ) (rest : List ℕ) → IsClearTo table until rest → IsClearTo table until (drop n rest)
-  still_clear until n rest c = let size = length-drop n rest in
-      subst (λ (k : ℕ). IsClear table k (drop n rest)) (omega (arith, size)) (clear_drop table n (length rest - until) rest c)
+  still_clear until n rest c =
+      grind (arith, length-drop, clear_drop table n (length rest - until) rest c)
 
 -- 2. Numbers that the list doesn't show.
 
@@ -100,7 +99,7 @@ module _ (table : List Argument) (l : Listing) where
   lines_seen name (m ∷ ms) = grind (arith, lines_seen name ms)
 
 count_seen : (l : Listing) (p : Mention → Bool) → ((m : Mention) → p m ≡ p (as_shown l m)) → (ms : List Mention) → length (filter p (map (as_shown l) ms)) ≡ length (filter p ms)
-count_seen l p h ms = ap (λ (xs : List Mention). length xs) (sym (kept_names (as_shown l) p p h ms)) ∙ length-map (filter p ms) (as_shown l)
+count_seen l p h ms = grind (arith, kept_names (as_shown l) p p h ms, length-map)
 
 -- 3. What is appended.
 
@@ -142,20 +141,13 @@ pub appends_seen : (rows table : List Argument) (name : List ℕ) (start new : S
     Appends rows table name (mentions_in table false seen) start new → Appends rows table name (mentions_in table false read) start new
 appends_seen rows table name start new seen read e a =
     let l : Listing = start.listing in
-    let lines = same (lines_for table l name) (lines_seen table l name) in
-    let named = same (named_count table) (count_seen l (λ m. is_condition m.class && names_listed table m) (λ m. refl)) in
-    let defining = same defining_count (count_seen l (λ m. is_defining m.class) (λ m. refl)) in
-    let names = λ (n : List ℕ). same (λ ms. named_by table ms n) (named_seen table l n) in
-    grind (arith, names)
-  where
-    same : {A : Type 0} (f : List Mention → A) → ((ms : List Mention) → f (map (as_shown start.listing) ms) ≡ f ms) → f (mentions_in table false seen) ≡ f (mentions_in table false read)
-    same f h = sym (h (mentions_in table false seen)) ∙ ap f (sym (mentions_seen table start.listing false seen)) ∙ ap (λ (rs : List Reading). f (mentions_in table false rs)) e
-        ∙ ap f (mentions_seen table start.listing false read) ∙ h (mentions_in table false read)
+    let shown = mentions_seen table l false seen in
+    let all = mentions_seen table l false read in
+    let named = count_seen l (λ m. is_condition m.class && names_listed table m) (λ m. refl) in
+    let defining = count_seen l (λ m. is_defining m.class) (λ m. refl) in
+    grind (arith, shown, all, named, defining, lines_seen table l name, named_seen table l)
 
 -- 4. The places of a search.
-
-pub none_begun : (b : Option Begun) (bytes : List ℕ) → is_some b ≡ false → begun_as b bytes ≡ None
-none_begun b bytes e = grind arith
 
 module _ (rows table : List Argument) (mode : Mode) (name text : List ℕ) (start old : Search) (place : Place) (walk : Walk) (s : Searched rows table mode name text start old place walk)
     (new : Search) (next : Place) (on : Walk) (clear : IsClearTo table next.until on.rest.now) where
@@ -164,21 +156,12 @@ module _ (rows table : List Argument) (mode : Mode) (name text : List ℕ) (star
       is_some place.begun ≡ false → is_some next.begun ≡ false → (count : ℕ) → shown_number old.listing count ≡ shown_number old.listing (length (whole_lines bytes)) → next.number ≡ place.number + count →
       new.list.items ≡ old.list.items → new.count ≡ old.count → new.defined ≡ old.defined → new.listing ≡ old.listing → new.unnamed.items ≡ old.unnamed.items → Searched rows table mode name text start new next on
   texts_searched bytes rs h undefined b w none none_then count c m l k d g u =
-      let parts : Goes table s.seen s.found None true = λ rs. s.parts rs ∙ ap (λ (x : Option Mention). s.found ++ rest_from table x true rs) (none_begun place.begun old.after.items none) in
-      let n = b.count_is in let o = length-append s.read rs in
-      record {
-        read = s.read ++ rs;
-        walked = w;
-        number_is = ap (shown_number start.listing) m
-            ∙ shown_sum start.listing place.number (1 + length s.read) count (length (whole_lines bytes)) s.number_is (subst (λ (x : Listing). shown_number x count ≡ shown_number x (length (whole_lines bytes))) s.appends.listing_is c)
-            ∙ ap (shown_number start.listing) (omega (arith, n, o));
-        seen = s.seen ++ rs;
-        seen_is = seen_more start.listing s.seen s.read rs rs s.seen_is refl;
-        clear = clear;
-        found = s.found;
-        parts = λ more. goes_by_texts table s.seen s.found rs h undefined parts more ∙ ap (λ (x : Option Mention). s.found ++ rest_from table x true more) (sym (none_begun next.begun new.after.items none_then));
-        appends = appends_kept rows table name s.found start old new s.appends l k d g u;
-      }
+      let parts : Goes table s.seen s.found None true =
+      λ rs. grind (arith, s.parts rs) in
+      let more = goes_by_texts table s.seen s.found rs h undefined parts in
+      let kept = appends_kept rows table name s.found start old new s.appends l k d g u in
+      let seen = seen_more start.listing s.seen s.read rs rs s.seen_is refl in
+      grind (arith, b.count_is, length-append, shown_sum, more, kept, seen)
 
   -- A line was taken.
   module _ (k : Line) (w : Walked mode text (s.read ++ read_after mode s.read k ∷ []) on.rest.now on.scanner) (m : next.number ≡ place.number + 1)
@@ -195,18 +178,7 @@ module _ (rows table : List Argument) (mode : Mode) (name text : List ℕ) (star
 
     pub line_searched : (c : Option Begun) (goes_on : Bool) → IsTaken table begun_before seen (begun_as c mid.after.items) goes_on →
         EndsLine rows table name c goes_on mid new next.begun → Searched rows table mode name text start new next on
-    line_searched c goes_on i e = let after = by goes_on goes e in record {
-      read = s.read ++ r ∷ [];
-      walked = w;
-      number_is = let o = length-append s.read (r ∷ []) in
-          ap (shown_number start.listing) m ∙ shown_sum start.listing place.number (1 + length s.read) 1 1 s.number_is refl ∙ ap (shown_number start.listing) (omega (arith, o));
-      seen = s.seen ++ seen ∷ [];
-      seen_is = seen_more start.listing s.seen s.read (seen ∷ []) (r ∷ []) s.seen_is (ap (λ (n : ℕ). reading_at mode k (scan_after s.read mode k) n ∷ []) s.number_is);
-      clear = clear;
-      found = after.0;
-      parts = after.1;
-      appends = after.2;
-    }
+    line_searched c goes_on i e = by goes_on goes e
       where
         q : Option Mention
         q = begun_as c mid.after.items
@@ -217,18 +189,16 @@ module _ (rows table : List Argument) (mode : Mode) (name text : List ℕ) (star
         goes : Goes table (s.seen ++ seen ∷ []) s.found q goes_on
         goes = grind (arith, common_steps)
 
-        by : (b : Bool) → Goes table (s.seen ++ seen ∷ []) s.found q b → EndsLine rows table name c b mid new next.begun →
-            (found : List Mention) × Goes table (s.seen ++ seen ∷ []) found (begun_as next.begun new.after.items) true × Appends rows table name found start new
-        by true g a = (
-          s.found,
-          subst (λ (x : Option Mention). Goes table (s.seen ++ seen ∷ []) s.found x true) (sym a.1) g,
-          subst (λ (ms : List Mention). Appends rows table name ms start new) (append-nil s.found) (appends_more rows table name s.found [] start mid new kept a.0),
-        )
-        by false g a = (
-          s.found ++ ended q,
-          subst (λ (x : Option Mention). Goes table (s.seen ++ seen ∷ []) (s.found ++ ended q) x true) (sym a.1) (goes_by_end table (s.seen ++ seen ∷ []) s.found q g),
-          appends_more rows table name s.found (ended q) start mid new kept a.0,
-        )
+        by : (b : Bool) → Goes table (s.seen ++ seen ∷ []) s.found q b → EndsLine rows table name c b mid new next.begun → Searched rows table mode name text start new next on
+        by true g a =
+            let more = appends_more rows table name s.found [] start mid new kept a.0 in
+            let is = seen_more start.listing s.seen s.read (seen ∷ []) (r ∷ []) s.seen_is in
+            grind (arith, append-nil, length-append, shown_sum, more, is, s.number_is)
+        by false g a =
+            let ends = goes_by_end table (s.seen ++ seen ∷ []) s.found q g in
+            let more = appends_more rows table name s.found (ended q) start mid new kept a.0 in
+            let is = seen_more start.listing s.seen s.read (seen ∷ []) (r ∷ []) s.seen_is in
+            grind (arith, length-append, shown_sum, ends, more, is, s.number_is)
 
     pub fitting_searched : (c : Option Begun) (scan : Scan) → scan ≡ scan_after s.read mode k → fits k ≡ true →
         begun_as c mid.after.items ≡ extended table begun_before (reading_at mode k scan place.number) →
@@ -249,7 +219,7 @@ first_place rows table mode name all now until walk e w =
       number_is = refl;
       seen = [];
       seen_is = refl;
-      clear = subst (λ (n : ℕ). IsClear table n walk.rest.now) {x = 0} (omega arith) tt;
+      clear = grind arith;
       found = [];
       parts = λ rs. refl;
       appends = appends_none rows table name now;
@@ -259,8 +229,7 @@ pub all_searched : (rows table : List Argument) (mode : Mode) (name text : List 
     Appends rows table name (ended (begun_as place.begun now.after.items)) now new → Appends rows table name (mentions_of table mode text) start new
 all_searched rows table mode name text start now new place walk s e a =
     let b : Option Mention = begun_as place.begun now.after.items in
-    let all : s.read ≡ read_as mode text = walk_ends mode text s.read walk.rest.now walk.scanner s.walked e in
-    let ms : s.found ++ ended b ≡ mentions_in table false s.seen =
-    ap (λ (x : List Mention). s.found ++ x) (sym (end_of_text table b)) ∙ sym (s.parts []) ∙ ap (mentions_in table false) (append-nil s.seen) in
-    subst (λ (rs : List Reading). Appends rows table name (mentions_in table false rs) start new) all
-    (appends_seen rows table name start new s.seen s.read s.seen_is (subst (λ (x : List Mention). Appends rows table name x start new) ms (appends_more rows table name s.found (ended b) start now new s.appends a)))
+    let all = walk_ends mode text s.read walk.rest.now walk.scanner s.walked e in
+    let both = appends_more rows table name s.found (ended b) start now new s.appends a in
+    let seen = appends_seen rows table name start new s.seen s.read s.seen_is in
+    grind (arith, all, both, seen, end_of_text table b, s.parts [], append-nil)

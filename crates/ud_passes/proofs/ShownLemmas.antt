@@ -58,6 +58,5 @@ module _ (k : Line) (no : NoNewline k.body) (end : IsEnd k.ending) (bytes : List
       pub shown_by : e.ending ≡ k.ending → is_empty k.ending ≡ false → fits k ≡ true → is_shown_as (scan_after_run [] e) shown ≡ is_line_shown k shown
       shown_by s some f =
           let body = body_read k no end bytes bytes_are 1 e w to is s in
-          let scan : scan_after_run [] e ≡ scan_after_run [] k = scan_after-same [] [] C e k refl body s in
-          ap (λ (x : Scan). is_shown_as x shown) scan
-          ∙ sym (grind (arith, ap not some, f, keeps ∙ (bytes_eq-Decides e.ending k.ending).1 s))
+          let scan = scan_after-same [] [] C e k refl body s in
+          grind (arith, keeps, some, f, bytes_eq-Decides, scan)

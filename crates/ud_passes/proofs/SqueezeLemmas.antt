@@ -34,14 +34,11 @@ first_text rest n w up some = by w up
 
 -- 2. Lines that stay.
 
-kept_first : (flags : List Bool) (l : List ℕ) (ls : List (List ℕ)) → concat (kept_lines flags (l ∷ ls)) ≡ (if first_flag flags then l else []) ++ concat (kept_lines (later_flags flags) ls)
-kept_first flags l ls = grind arith
-
 pub kept_next : (out more : List ℕ) (flags : List Bool) (rest : List ℕ) (n : ℕ) (w : Bool) → UpToNewline rest n w → 0 < length rest → (f : Bool) (fs : List Bool) (line after : List ℕ) →
     f ≡ first_flag flags → fs ≡ later_flags flags → line ≡ take n rest → after ≡ drop n rest → more ≡ out ++ (if f then line else []) →
     more ++ concat (kept_lines fs (texts_of after)) ≡ out ++ concat (kept_lines flags (texts_of rest))
 kept_next out more flags rest n w up some f fs line after a b c d e =
-    let first = first_text rest n w up some in grind (arith, append_assoc, first, kept_first)
+    let first = first_text rest n w up some in grind (arith, append_assoc, first)
 
 -- 3. Places.
 

@@ -57,7 +57,11 @@ module _ (names : List (List ℕ)) (rows : List NameCount) (x : List ℕ) (k : �
   row = record { count = k; name = x }
 
   pub row_more : AreCounts names rows → count_of x names ≡ 0 → 0 < k → AreCounts (names ++ replicate k x) (rows ++ row ∷ [])
-  row_more h z some = record { counts = All-push (λ r. r.count ≡ count_of r.name (names ++ replicate k x)) rows row old new; once = once }
+  row_more h z some = record {
+    counts = All-push (λ r. r.count ≡ count_of r.name (names ++ replicate k x)) rows row old
+        (grind (arith, all x, z, bytes_eq-Decides x x));
+    once = once;
+  }
     where
       no_row : rows_with x rows ≡ 0
       no_row = h.once x ∙ ap (λ (n : ℕ). min 1 n) z
@@ -67,23 +71,12 @@ module _ (names : List (List ℕ)) (rows : List NameCount) (x : List ℕ) (k : �
 
       old : All (λ r. r.count ≡ count_of r.name (names ++ replicate k x)) rows
       old = λ i d l.
-          let apart : bytes_eq x (get_or rows i d).name ≡ false = (grind (arith, bytes_eq-Decides, (none-counted (λ r. bytes_eq r.name x) rows no_row i d l))) in
-          h.counts i d l ∙ omega arith ∙ sym (all (get_or rows i d).name ∙ ap (λ (b : Bool). count_of (get_or rows i d).name names + (if b then k else 0)) apart)
-
-      new : k ≡ count_of x (names ++ replicate k x)
-      new =
-          let e : count_of x (names ++ replicate k x) ≡ 0 + k = all x ∙ ap₂ (λ (c : ℕ) (b : Bool). c + (if b then k else 0)) z ((bytes_eq-Decides x x).1 refl) in
-          omega (arith, e)
+          let none = none-counted (λ r. bytes_eq r.name x) rows no_row i d l in
+          grind (arith, h.counts i d l, all (get_or rows i d).name, bytes_eq-Decides, none)
 
       once : (n : List ℕ) → rows_with n (rows ++ row ∷ []) ≡ min 1 (count_of n (names ++ replicate k x))
-      once n = count-append (λ r. bytes_eq r.name n) rows (row ∷ []) ∙ by (bytes_eq x n) refl ∙ sym (ap (λ (c : ℕ). min 1 c) (all n))
-        where
-          by : (b : Bool) → bytes_eq x n ≡ b → rows_with n rows + (0 + (if b then 1 else 0)) ≡ min 1 (count_of n names + (if b then k else 0))
-          by true e = let is : x ≡ n = (bytes_eq-Decides x n).0 e in
-              let none : rows_with n rows ≡ 0 = ap (λ (m : List ℕ). rows_with m rows) (sym is) ∙ no_row in
-              let zero : count_of n names ≡ 0 = ap (λ (m : List ℕ). count_of m names) (sym is) ∙ z in
-              omega (arith, none, zero)
-          by false e = let o = h.once n in omega (arith, o)
+      once n = let e = count-append (λ r. bytes_eq r.name n) rows (row ∷ []) in
+          grind (arith, e, h.once n, all n, z, no_row, some, bytes_eq-Decides)
 
 -- 3. Names that are sorted.
 
@@ -106,21 +99,15 @@ module _ {X : Type 0} (f : X → List ℕ) (xs : List X) (up : IsSorted (λ x y.
 
       other : (k : ℕ) (g : List ℕ) → k < length (map f (take i xs)) → bytes_eq (get_or (map f (take i xs)) k g) (f (get_or xs i d)) ≡ false
       other k g m =
-          let len : length (map f (take i xs)) ≡ i = length-map (take i xs) f ∙ length-take-le i xs (omega arith) in
+          let taken = length-take-le i xs (omega arith) in
+          let len : length (map f (take i xs)) ≡ i = length-map (take i xs) f ∙ taken in
           let lt : k < i = omega (arith, m, len) in
           let at : get_or (map f (take i xs)) k g ≡ f (get_or xs k d) =
-          get_or-map f (take i xs) k d g (omega (arith, lt, length-take-le i xs (omega arith))) ∙ ap f (get_or-take i xs k d lt) in
-          ap (λ (a : List ℕ). bytes_eq a (f (get_or xs i d))) at ∙ by (bytes_eq (f (get_or xs k d)) (f (get_or xs i d))) refl lt
-        where
-          by : (b : Bool) → bytes_eq (f (get_or xs k d)) (f (get_or xs i d)) ≡ b → k < i → b ≡ false
-          by false h lt = refl
-          by true h lt =
-              let is : f (get_or xs k d) ≡ f (get_or xs i d) = (bytes_eq-Decides (f (get_or xs k d)) (f (get_or xs i d))).0 h in
-              let low = far k j (omega arith) (omega arith) in
-              let high = far j i (omega arith) l in
-              let eq : bytes_eq (f (get_or xs i d)) (f (get_or xs j d)) ≡ true =
-              equal_if (f (get_or xs i d)) (f (get_or xs j d)) high (ap (λ (a : List ℕ). is_lt (slice_cmp nat_cmp (f (get_or xs j d)) a)) (sym is) ∙ low) in
-              sym eq ∙ e
+          get_or-map f (take i xs) k d g (omega (arith, lt, taken))
+          ∙ ap f (get_or-take i xs k d lt) in
+          let low = far k j (omega arith) (omega arith) in
+          let high = far j i (omega arith) l in
+          grind (arith, at, low, high, equal_if, bytes_eq-Decides)
 
   pub rows_next : (rows : List NameCount) (x : List ℕ) (i count : ℕ) → RowsAt f xs rows i → i < length xs → count ≤ length (drop i xs) → ((d : X) → f (get_or xs i d) ≡ x) →
       ((k : ℕ) → k < count → (d : X) → bytes_eq (f (get_or (drop i xs) k d)) x ≡ true) →
@@ -174,9 +161,7 @@ module _ {X : Type 0} (f : X → List ℕ) (xs : List X) (up : IsSorted (λ x y.
       ((k : ℕ) → k < count → (d : X) → bytes_eq (f (get_or rest k d)) x ≡ true) →
       (count < length rest → (d : X) → bytes_eq (f (get_or rest count d)) x ≡ false) →
       (0 < count) × RowsAt f xs (rows ++ record { count = count; name = x } ∷ []) (i + count)
-  rows_next_in rows x i count rest e h l within is same_as other =
-      rows_next rows x i count h l (subst (λ (ys : List X). count ≤ length ys) e within) is (λ k n d. subst (λ (ys : List X). bytes_eq (f (get_or ys k d)) x ≡ true) e (same_as k n d))
-      (λ m d. subst (λ (ys : List X). bytes_eq (f (get_or ys count d)) x ≡ false) e (other (subst (λ (ys : List X). count < length ys) (sym e) m) d))
+  rows_next_in rows x i count rest e = rw e (rows_next rows x i count)
 
 -- 4. The table.
 

@@ -6,30 +6,23 @@ use Rattle.ud_simplified.specs.ResidualTexts.{are_tokens, same_token}
 use Rattle.ud_model.specs.conditions.Parsing.{prepend_token, tokens_of}
 use Rattle.ud_cond.proofs.lemmas.expressions.ReadingLemmas.{tokens_of-prepend_token}
 
-by_next : (text : List ℕ) (x : NextToken) → next_token text ≡ x → tokens_of text ≡ prepend_token tokens_of x
-by_next text x e = grind (arith, tokens_of-prepend_token)
-
--- A text that begins with a token has the tokens of the rest after it.
-first_of : (u t : Token) (o : Option (List Token)) (tokens : List Token) → are_tokens (option_map (λ ts. u ∷ ts) o) (t ∷ tokens) ≡ (same_token u t && are_tokens o tokens)
-first_of u t o tokens = grind arith
-
 module _ (text : List ℕ) (t : Token) where
   -- The first token is this one.
   pub same_first : (u : Token) (rest : List ℕ) → next_token text ≡ found u rest → same_token u t ≡ true → (tokens : List Token) →
       are_tokens (tokens_of text) (t ∷ tokens) ≡ are_tokens (tokens_of rest) tokens
-  same_first u rest e s tokens = grind (arith, by_next, first_of)
+  same_first u rest e s tokens = grind (arith, tokens_of-prepend_token)
 
   -- The first token is another one.
   pub other_first : (u : Token) (rest : List ℕ) → next_token text ≡ found u rest → same_token u t ≡ false → (tokens : List Token) →
       are_tokens (tokens_of text) (t ∷ tokens) ≡ false
-  other_first u rest e s tokens = grind (arith, by_next, first_of, and_left)
+  other_first u rest e s tokens = grind (arith, tokens_of-prepend_token, and_left)
 
   -- There is no token.
   pub none_first : next_token text ≡ at_end → (tokens : List Token) → are_tokens (tokens_of text) (t ∷ tokens) ≡ false
-  none_first e tokens = grind (arith, by_next)
+  none_first e tokens = grind (arith, tokens_of-prepend_token)
 
   pub unread_first : next_token text ≡ unreadable → (tokens : List Token) → are_tokens (tokens_of text) (t ∷ tokens) ≡ false
-  unread_first e tokens = grind (arith, by_next)
+  unread_first e tokens = grind (arith, tokens_of-prepend_token)
 
 -- The tokens of a text that begins with a token.
 pub record Splits (t : Token) (rest : List ℕ) (tokens : List Token) : Type 0 where
@@ -42,7 +35,7 @@ splits text t rest tokens e f = grind (arith, tokens_of-prepend_token)
 
 -- A text that begins with no token has none.
 pub ends_first : (text : List ℕ) → next_token text ≡ at_end → (t : Token) (tokens : List Token) → tokens_of text ≡ Some (t ∷ tokens) → ⊥
-ends_first text e t tokens f = let n : length (t ∷ tokens) ≡ 0 = (grind (arith, by_next, e, f)) in cc
+ends_first text e t tokens f = let n : length (t ∷ tokens) ≡ 0 = (grind (arith, tokens_of-prepend_token, e, f)) in cc
 
 -- The token at which a list goes on.
 pub record Begins (tokens : List Token) : Type 0 where

@@ -23,12 +23,9 @@ use Rattle.ud_passes.specs.names.UnlistedLines.{listed_text, Listed}
 use Rattle.ud_passes.proofs.RestoreLemmas.{renumbered}
 use Rattle.ud_passes.proofs.FoldLemmas.{plain_bytes}
 
-text_listed : (r : Reading) → content_of r.scan ≡ text → is_unlisted_line r ≡ false
-text_listed r e = grind arith
-
 pub texts_unlisted : (rs : List Reading) → AreTexts rs → filter is_unlisted_line rs ≡ []
 texts_unlisted [] h = refl
-texts_unlisted (r ∷ rs) h = grind (arith, text_listed, texts_unlisted rs h.1)
+texts_unlisted (r ∷ rs) h = grind (arith, texts_unlisted rs h.1)
 
 unlisted-append : (before rs : List Reading) → filter is_unlisted_line (before ++ rs) ≡ filter is_unlisted_line before ++ filter is_unlisted_line rs
 unlisted-append before rs = filter-append is_unlisted_line before rs
@@ -53,7 +50,7 @@ from-append file folded n (r ∷ before) rs = let m = n + breaks folded (text_of
 -- Text lines aren't listed.
 texts_from : (file : List ℕ) (folded : Bool) (n : ℕ) (rs : List Reading) → AreTexts rs → listed_from file folded n rs ≡ []
 texts_from file folded n [] h = refl
-texts_from file folded n (r ∷ rs) h = grind (arith, text_listed r h.0, texts_from file folded (n + breaks folded (text_of r.line)) rs h.1)
+texts_from file folded n (r ∷ rs) h = grind (arith, texts_from file folded (n + breaks folded (text_of r.line)) rs h.1)
 
 shown_renumbered : (folded : Bool) (k : Line) (n : ℕ) → shown_body folded (record k { number = n }) ≡ shown_body folded k
 shown_renumbered true k n = grind (arith, renumbered)
@@ -72,12 +69,7 @@ first_of_up_to s used true up =
 first_of_up_to s used false up = grind (arith, first_of_all, take_all, le_refl)
 
 pub first_shown : (l k : Line) (s : List ℕ) (used : ℕ) (whole : Bool) → s ≡ restored_line l → UpToNewline s used whole → k ≡ line_at 1 (take used s) → k.body ≡ shown_body true l
-first_shown l k s used whole e up is = ap (λ (x : Line). x.body) is ∙ sym (first_of_up_to s used whole up) ∙ ap (λ (x : List ℕ). first_body (lines_of x)) e
-
--- The list of a file, if it is wanted.
-listed-append : (file : File) (before rs : List Reading) (n : ℕ) → (file.lists ≡ true → n ≡ 1 + breaks file.folded (plain_lines before)) →
-    listed_text file (before ++ rs) ≡ listed_text file before ++ (if file.lists then listed_from file.name.now file.folded n rs else [])
-listed-append file before rs n e = grind (arith, from-append)
+first_shown l k s used whole e up is = grind (arith, is, first_of_up_to s used whole up, e)
 
 -- The place of a walk after more lines.
 module _ (file : File) (text start : List ℕ) (found : Found) (walk : Walk) (out : List ℕ) (l : Listed file text start found walk out) (next : Walk) where
@@ -86,15 +78,7 @@ module _ (file : File) (text start : List ℕ) (found : Found) (walk : Walk) (ou
       after.count ≡ found.count + length (filter is_unlisted_line rs) → (file.lists ≡ true → after.number ≡ found.number + breaks file.folded (plain_lines rs)) →
       (more : List ℕ) → more ≡ out ++ (if file.lists then listed_from file.name.now file.folded found.number rs else []) → Listed file text start after next more
   more_lines rs w after counts numbers more m =
-      grind (
-        arith,
-        common_steps,
-        unlisted-append,
-        listed-append,
-        length-append,
-        breaks-lines,
-        append_assoc,
-      )
+      grind (arith, common_steps, unlisted-append, from-append, breaks-lines, append_assoc)
 
   pub texts_more : (bytes : List ℕ) (rs : List Reading) → AreTexts rs → HaveBytes bytes rs → Walked file.mode text (l.read ++ rs) next.rest.now next.scanner → (n : ℕ) →
       (file.lists ≡ true → n ≡ breaks file.folded bytes) → Listed file text start (record { count = found.count; number = found.number + n }) next out

@@ -103,20 +103,12 @@ begins_in_context ls at start end m n next clear a b =
     let places : NextPlaces ls at start next.first next.last end = next_places ls at start end next in
     let within = next.within in
     let starts = next.starts in
-    let all : length (between start next.first ls) ≡ next.first - start = length-between ls start next.first places.before (omega arith) in record {
+    let all : length (between start next.first ls) ≡ next.first - start = length-between ls start next.first places.before (omega arith) in
+    let far = changes_far ls at start end next clear in record {
       kept = kept_range ls start next.first (λ k d low high inside. kept_at ls at next.first next.kept k d (omega arith) high inside);
       few = omega arith;
-      fewer = λ short. by_order (cases_lt 0 at) (omega arith);
+      fewer = λ short. grind (arith, cases_lt 0 at, far, side_few);
     }
-  where
-    by_order : (0 < at) ⊎ (at ≤ 0) → next.first - start < context → BeginsTexts (hunk_of m n (take (end - start) (drop start ls)))
-    by_order (inl some) short =
-        let far : at + context + 1 ≤ next.first = changes_far ls at start end next clear some in
-        let starts = next.starts in
-        absurd (omega arith)
-    by_order (inr none) short = let starts = next.starts in
-        let old : upto is_old ls at ≤ at = side_few is_old ls at in
-        let new : upto is_new ls at ≤ at = side_few is_new ls at in (omega arith, omega arith)
 
 -- The context after the changes of the next hunk.
 ends_in_context : (ls : List DiffLine) (at start end m n : ℕ) (next : IsNextHunk ls at start end) →

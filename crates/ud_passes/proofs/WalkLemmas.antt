@@ -77,17 +77,16 @@ module _ (mode : Mode) (text : List ℕ) (read : List Reading) (rest : List ℕ)
 
   pub line_next : (next : List ℕ) → next ≡ drop (length k.body + length k.ending) rest → (t : ScannerState) → ScannerRepresents t (read ++ next_reading read mode k ∷ []) → Walked mode text (read ++ r ∷ []) next t
   line_next next d t represents =
-      let n : length (text_of k) ≡ length k.body + length k.ending = length-append k.body k.ending in
-      let at : next ≡ drop (length (text_of k)) rest = d ∙ ap (λ (m : ℕ). drop m rest) (sym n) in
+      let n = length-append k.body k.ending in
+      let at : next ≡ drop (length (text_of k)) rest = grind (arith, d, n) in
       let left : length next ≡ length rest - length (text_of k) = ap (λ (x : List ℕ). length x) at ∙ length-drop (length (text_of k)) rest in
-      let c = w.count_is in
       let m = number_after_line mode w.done p ends one (after mode w.done p ends) refl in
-      let o = length-append read (r ∷ []) in
+      let is = represents_renumbered t mode read k (record k { number = 1 + length read }) refl refl represents in
       record {
         done = w.done ++ p;
-        is = append_assoc w.done p next ∙ ap (λ (x : List ℕ). w.done ++ x) (ap (λ (x : List ℕ). p ++ x) at ∙ take-append-drop (length (text_of k)) rest) ∙ w.is;
+        is = grind (arith, append_assoc, at, take-append-drop (length (text_of k)) rest, w.is);
         ends = λ more. still_whole mode w.done p ends (whole_if_more rest (length (text_of k)) b to some (omega (arith, left, more)));
-        read_is = ap₂ (λ (x : List Reading) (y : Reading). x ++ y ∷ []) w.read_is same ∙ sym (read_line mode w.done p ends one);
-        count_is = omega (arith, o, m, c);
-        represents = subst (λ (x : Reading). ScannerRepresents t (read ++ x ∷ [])) renumbered (represents_renumbered t mode read k (record k { number = 1 + length read }) refl refl represents);
+        read_is = grind (arith, w.read_is, same, read_line mode w.done p ends one);
+        count_is = grind (arith, length-append, m, w.count_is);
+        represents = grind (arith, renumbered, is);
       }
