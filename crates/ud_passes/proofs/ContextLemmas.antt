@@ -1,6 +1,6 @@
 -- Contexts: lemmas on the changes of a script and the kept lines around them.
 use Rattle.std.proofs.Common.{◌≡◌, ℕ, zero, suc, ◌+◌, ◌-◌, ◌*◌, ◌<◌, ◌≤◌, min, true, false, List, [], ◌∷◌, ◌++◌, length, take, drop, get_or, sym, ◌∙◌, ap, subst, inl, inr, ◌⊎◌, arith}
-use Rattle.std.proofs.lemmas.Bool.{cases_lt, false≢true}
+use Rattle.std.proofs.lemmas.Bool.{cases_lt}
 use Rattle.std.proofs.lemmas.List.{map-append, length-append, length-map, length-take, length-drop, get_or-take, get_or-drop, get_or_append_left, drop-drop, drop_more}
 use Rattle.std.proofs.lemmas.List.Elements.{All-map}
 use Rattle.std.proofs.Math.ListN.{get_or-map}
@@ -8,7 +8,7 @@ use Rattle.std.proofs.Math.Seq.{take-add}
 use Rattle.ud_passes.specs.declared.diff.line.DiffLine.{DiffLine}
 use Rattle.ud_passes.specs.diff.Hunks.{SignedLine, is_change}
 use Rattle.ud_passes.specs.diff.Contexts.{context, IsKept, AreKept, AreChanges, one, more}
-use Rattle.ud_passes.specs.diff.Scripts.{signed, signed_lines, between, gap, BeginsWithChange}
+use Rattle.ud_passes.specs.diff.Scripts.{signed, between, gap, BeginsWithChange}
 
 -- The lines of the script from the position `i` up to `j` are kept ones, as far as there are any.
 abbrev pub KeptAt : List DiffLine → ℕ → ℕ → Type 0

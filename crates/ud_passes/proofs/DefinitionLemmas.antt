@@ -1,17 +1,16 @@
 -- Definitions: where no `#` has a definition after it, no line has one.
-use Rattle.std.proofs.Common.{◌≡◌, ℕ, zero, suc, ◌+◌, ◌-◌, ◌≤◌, ◌==◌, Bool, true, false, ◌&&◌, if◌then◌else◌, List, [], ◌∷◌, ◌++◌, length, map, drop, Some, None, refl, sym, ◌∙◌, ap, subst, append_assoc, length-append, arith}
+use Rattle.std.proofs.Common.{◌≡◌, ℕ, zero, suc, ◌+◌, ◌-◌, ◌≤◌, Bool, true, false, if◌then◌else◌, List, [], ◌∷◌, ◌++◌, length, map, drop, refl, ◌∙◌, ap, subst, append_assoc, length-append, arith}
 use Rattle.std.specs.List.{concat}
 use Rattle.std.proofs.lemmas.Bool.{and_right}
 use Rattle.std.proofs.Math.Seq.{drop-append_seam}
 use Rattle.memchr.specs.Find.{Nowhere, Passes, is_byte}
-use Rattle.ud_model.specs.text.Bytes.{is_white, is_word_byte, skip_white, leading_word, skip_word}
+use Rattle.ud_model.specs.text.Bytes.{is_white, skip_white, leading_word, skip_word}
 use Rattle.ud_model.specs.text.Lines.{Line, AreWhole, IsWhole, line_at, numbered_from}
 use Rattle.ud_model.specs.text.Scans.{Reading}
-use Rattle.ud_model.specs.sections.Directives.{skip_hash}
 use Rattle.ud_model.specs.conditions.Table.{Argument}
 use Rattle.ud_model.proofs.text.LinesLemmas.{body-ending}
 use Rattle.ud_text.proofs.lemmas.bulk.QuietLineLemmas.{IsFeed, one, two, whole_ending}
-use Rattle.ud_passes.specs.remaining.Definitions.{defines_by, defines_after, defines_if, defines, is_definition, IsClear}
+use Rattle.ud_passes.specs.remaining.Definitions.{defines_by, defines_after, defines, is_definition, IsClear}
 
 -- 1. Words never go on after the end of a line.
 

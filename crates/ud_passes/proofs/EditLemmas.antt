@@ -1,5 +1,5 @@
 -- Edited lines: the line that is edited, and the line that is read.
-use Rattle.std.proofs.Common.{◌≡◌, ℕ, ◌-◌, List, [], ◌++◌, length, map, take, drop, Bool, true, false, if◌then◌else◌, ◌&&◌, bytes_eq, refl, sym, ◌∙◌, ap, subst, ◌⊎◌, arith, take-append-drop}
+use Rattle.std.proofs.Common.{◌≡◌, ℕ, ◌-◌, List, [], ◌++◌, length, map, take, drop, Bool, true, false, if◌then◌else◌, bytes_eq, refl, sym, ◌∙◌, ap, subst, ◌⊎◌, arith, take-append-drop}
 use Rattle.std.proofs.lemmas.List.{take_all}
 use Rattle.std.proofs.lemmas.Bool.{and_right}
 use Rattle.std.proofs.lemmas.Slice.Eq.{bytes_eq-Decides}
@@ -8,13 +8,12 @@ use Rattle.ud_model.specs.text.Scans.{Scan, Reading}
 use Rattle.ud_model.specs.text.Splicing.{is_empty}
 use Rattle.ud_model.specs.text.Lexemes.{Cell, shown}
 use Rattle.ud_model.specs.text.Scanning.{scan_after_run}
-use Rattle.ud_model.specs.sections.Directives.{Content, cut_keyword, directive, text, Directive, content_of}
+use Rattle.ud_model.specs.sections.Directives.{Content, directive, Directive, content_of}
 use Rattle.ud_model.specs.conditions.Table.{Argument}
 use Rattle.ud_model.specs.conditions.Conditions.{Rules}
 use Rattle.ud_simplified.specs.ResidualTexts.{simplified_cells}
 use Rattle.ud_simplified.specs.CommentTexts.{comment_cells}
-use Rattle.ud_simplified.specs.SimplifiedTexts.{keyword_end, condition_cells, is_closing, text_cells, same_kind, has_text, has_directive, keeps_ending, is_lone, left_cells_of, left_line, is_read_alone, line_by, simplified_line}
-use Rattle.ud_model.specs.declared.kind.Kind.{Kind}
+use Rattle.ud_simplified.specs.SimplifiedTexts.{keyword_end, condition_cells, is_closing, text_cells, same_kind, has_directive, is_lone, left_cells_of, left_line, is_read_alone, line_by, simplified_line}
 use Rattle.ud_model.proofs.text.LinesLemmas.{text_of-line_at}
 use Rattle.ud_model.proofs.output.Formed.{IsEnd, ended}
 use Rattle.ud_simplified.proofs.SimplifiedLines.{after_is, condition_text, text_bytes}

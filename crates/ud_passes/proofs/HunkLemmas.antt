@@ -1,12 +1,11 @@
 -- Hunks: lemmas on the hunks of a script.
-use Rattle.std.proofs.Common.{◌≡◌, ℕ, suc, ◌+◌, ◌-◌, ◌<◌, ◌≤◌, min, Bool, true, false, cond, List, [], ◌∷◌, ◌++◌, length, map, take, drop, get_or, Some, None, refl, sym, ◌∙◌, ap, ap₂, subst, append_assoc, arith, position, ltb}
-use Rattle.std.specs.List.{flat_map, count_by, position_or_len}
+use Rattle.std.proofs.Common.{◌≡◌, ℕ, suc, ◌+◌, ◌-◌, ◌<◌, ◌≤◌, min, Bool, true, false, cond, List, [], ◌∷◌, ◌++◌, length, map, take, drop, Some, None, refl, ◌∙◌, ap, ap₂, subst, append_assoc, arith, position}
+use Rattle.std.specs.List.{flat_map, count_by}
 use Rattle.std.proofs.lemmas.List.{take_rest, length-append, length-drop, length-take, length-take-le, length-map, drop-drop, get_or-drop}
 use Rattle.std.proofs.lemmas.List.Elements.{All-map, All-head, All-tail}
 use Rattle.std.proofs.lemmas.List.Quantifiers.{position-Some}
 use Rattle.std.proofs.lemmas.List.Sums.{length-filter, count_by-le-length, fails_before_first}
 use Rattle.std.proofs.Math.Seq.{take-add}
-use Rattle.std.proofs.lemmas.Bool.{ltb-false}
 use Rattle.std.proofs.lemmas.Grind.{common_steps}
 use Rattle.ud_passes.specs.declared.diff.line.Sign.{Sign}
 use Rattle.ud_passes.specs.declared.diff.line.Sign.TheVariants.{Kept}

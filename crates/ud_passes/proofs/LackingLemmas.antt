@@ -1,26 +1,25 @@
 -- Lacking texts: where no name stands and no word is split, no mention names a symbol.
-use Rattle.std.proofs.Common.{◌≡◌, ℕ, suc, ◌-◌, ◌==◌, ◌&&◌, ◌⊎◌, inl, inr, true≢false, List, []}
+use Rattle.std.proofs.Common.{◌≡◌, ℕ, suc, ◌-◌, ◌⊎◌, inl, inr, List, []}
 use Rattle.std.proofs.Common.{◌∷◌, ◌++◌, length, take, drop, take-append-drop, map, nat_eq, Bool}
 use Rattle.std.proofs.Common.{true, false, not, Option, Some, None, if◌then◌else◌, refl, sym, ◌∙◌}
-use Rattle.std.proofs.Common.{ap, subst, append_assoc, append-nil, arith}
+use Rattle.std.proofs.Common.{ap, append_assoc, append-nil, arith}
 use Rattle.std.specs.List.{concat, ends_with}
-use Rattle.std.proofs.lemmas.Bool.{and_parts, and_right, or_from, or_parts}
+use Rattle.std.proofs.lemmas.Bool.{and_right, or_parts}
 use Rattle.std.proofs.lemmas.Bool.Decides.{Decides-eqb}
 use Rattle.std.proofs.lemmas.Grind.{common_steps}
 use Rattle.std.proofs.lemmas.Slice.Eq.{ends_is}
-use Rattle.ud_model.specs.text.Bytes.{space, backslash, newline, carriage_return, is_white}
+use Rattle.ud_model.specs.text.Bytes.{space, backslash}
 use Rattle.ud_model.specs.text.Bytes.{is_word_byte, leading_word, skip_word, skip_white}
 use Rattle.ud_model.specs.text.Lines.{Line, line_at, ending_of, numbered_from, texts_of}
 use Rattle.ud_model.specs.text.Lexemes.{LexemeKind, block_comment, line_comment, literal, single}
 use Rattle.ud_model.specs.text.Lexemes.{Cell, shown, shown_as}
-use Rattle.ud_model.specs.text.Splicing.{is_spliced, is_empty, content, stays_open, spliced_text}
+use Rattle.ud_model.specs.text.Splicing.{is_spliced, is_empty, content, spliced_text}
 use Rattle.ud_model.specs.text.Splicing.{c_run_of}
-use Rattle.ud_model.specs.text.Scans.{Reading, Scan}
+use Rattle.ud_model.specs.text.Scans.{Reading}
 use Rattle.ud_model.specs.text.Scanning.{is_block, joins, content_cells, scan_after_run}
 use Rattle.ud_model.specs.text.Scanning.{next_reading, readings_after}
 use Rattle.ud_model.specs.aids.ReadAs.{in_mode, read_as}
-use Rattle.ud_model.specs.aids.LexStates.{LexState, in_text, kind_in_state, next_state, masked_byte}
-use Rattle.ud_model.specs.aids.LexStates.{opens_comment, blank_last, state_after_line}
+use Rattle.ud_model.specs.aids.LexStates.{LexState, in_text, kind_in_state, next_state}
 use Rattle.ud_model.specs.declared.kind.Kind.{Kind}
 use Rattle.ud_model.specs.declared.kind.Kind.TheVariants.{Else, Endif}
 use Rattle.ud_model.specs.declared.kind.Mode.{Mode}
@@ -37,16 +36,15 @@ use Rattle.ud_model.proofs.text.ScanLaws.{scan_from, scan_after_run-from}
 use Rattle.ud_model.proofs.output.DirectiveFront.{Front, directive_front}
 use Rattle.ud_cond.specs.symbols.SymbolTable.{LacksNames}
 use Rattle.ud_passes.specs.Passes.{fits}
-use Rattle.ud_passes.specs.remaining.Definitions.{defines, defines_by, defines_if, is_definer}
+use Rattle.ud_passes.specs.remaining.Definitions.{defines, defines_by, defines_if}
 use Rattle.ud_passes.specs.remaining.Definitions.{is_definition}
 use Rattle.ud_passes.specs.remaining.Mentions.{Mention, class_of, shown_after, joins_next}
-use Rattle.ud_passes.specs.remaining.Mentions.{joined_text, mention_at, with_text, begun}
+use Rattle.ud_passes.specs.remaining.Mentions.{joined_text, mention_at, with_text}
 use Rattle.ud_passes.specs.remaining.Mentions.{mention_by, mention_on, mentions_in, mentions_of}
 use Rattle.ud_passes.specs.remaining.ListedNames.{has_listed, names_listed, ends_in_word}
 use Rattle.ud_passes.specs.remaining.ListedNames.{begins_ending, splits_word}
 use Rattle.ud_passes.specs.remaining.Searches.{Appends}
 use Rattle.ud_passes.specs.declared.remaining.mentions.Class.TheVariants.{Condition, Closing}
-use Rattle.ud_passes.specs.declared.remaining.mentions.Class.TheVariants.{Definition}
 use Rattle.ud_passes.specs.declared.remaining.search.Search.{Search}
 use Rattle.ud_passes.proofs.NameLemmas.{has_word-other, has_word-seam}
 use Rattle.ud_passes.proofs.SearchLemmas.{appends_more, appends_none}

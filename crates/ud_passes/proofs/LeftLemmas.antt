@@ -1,12 +1,11 @@
 -- Left cells: when the rest of a condition's text takes its place.
-use Rattle.std.proofs.Common.{◌≡◌, ℕ, List, map, Bool, true, false, not, ◌&&◌, if◌then◌else◌, Some, None, sym, ◌∙◌, ap, arith}
+use Rattle.std.proofs.Common.{◌≡◌, ℕ, List, map, Bool, true, false, Some, None, arith}
 use Rattle.std.specs.List.{list_any}
-use Rattle.std.proofs.lemmas.Bool.{and_left, and_right}
 use Rattle.ud_model.specs.text.Lexemes.{Cell, shown}
 use Rattle.ud_model.specs.conditions.Table.{Argument}
 use Rattle.ud_model.specs.conditions.Expressions.{Expression}
 use Rattle.ud_model.specs.conditions.Conditions.{Rules, tree_cond, expression_cond}
-use Rattle.ud_model.specs.aids.Residuals.{residual, is_unknown, is_undecided, keeps}
+use Rattle.ud_model.specs.aids.Residuals.{residual, is_unknown, keeps}
 use Rattle.ud_simplified.specs.ResidualTexts.{left_cells, is_literal, may_go, is_read, simplified_tree, simplified_cells}
 use Rattle.ud_model.specs.conditions.Parsing.{expression_of}
 use Rattle.ud_simplified.proofs.ResidualRead.{written_left, untouched}

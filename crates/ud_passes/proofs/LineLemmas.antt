@@ -1,9 +1,9 @@
 -- Lines: lemmas on the first line of a text.
-use Rattle.std.proofs.Common.{◌≡◌, ◌≢◌, ℕ, ◌+◌, List, [], ◌∷◌, ◌++◌, length, take, drop, get_or, sym, ◌∙◌, ap, arith, take-append-drop}
+use Rattle.std.proofs.Common.{◌≡◌, ◌≢◌, ℕ, ◌+◌, List, [], ◌∷◌, ◌++◌, length, take, drop, arith, take-append-drop}
 use Rattle.std.proofs.lemmas.Bool.{eqb-true}
 use Rattle.std.proofs.lemmas.List.{take_more, take_all, drop_all}
 use Rattle.memchr.specs.Find.{Nowhere, NoneBefore, Passes, is_byte}
-use Rattle.ud_model.specs.text.Lines.{IsWhole, SplitLines, split_lines, texts_of, last_line}
+use Rattle.ud_model.specs.text.Lines.{IsWhole, split_lines, texts_of}
 use Rattle.ud_model.proofs.text.LinesLemmas.{split_lines-line-prefix, split_lines-open, last_line-some}
 use Rattle.ud_text.proofs.lemmas.lines.NewlineLemmas.{no_newline_front}
 

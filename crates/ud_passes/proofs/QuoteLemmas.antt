@@ -1,8 +1,7 @@
 -- Quotes: a part of a line has a literal exactly if a quote is shown in it.
-use Rattle.std.proofs.Common.{◌≡◌, ℕ, zero, suc, List, [], ◌∷◌, ◌++◌, length, map, take, drop, Bool, true, false, ◌||◌, if◌then◌else◌, refl, sym, ◌∙◌, ap, ap₂, arith}
+use Rattle.std.proofs.Common.{◌≡◌, ℕ, zero, suc, List, [], ◌∷◌, ◌++◌, length, map, take, drop, Bool, true, false, if◌then◌else◌, refl, sym, ◌∙◌, ap, arith}
 use Rattle.std.specs.List.{list_any}
-use Rattle.std.proofs.lemmas.Bool.{or_parts, and_parts}
-use Rattle.ud_model.specs.text.Bytes.{is_quote, is_white, are_white, is_word_byte, are_word_bytes}
+use Rattle.ud_model.specs.text.Bytes.{is_quote, are_white, are_word_bytes}
 use Rattle.std.proofs.lemmas.List.{map-append}
 use Rattle.std.proofs.lemmas.List.Folds.{list_any-append}
 use Rattle.ud_model.specs.text.Lexemes.{LexemeKind, block_comment, line_comment, literal, single, Cell, cells_in, shown, shown_as, lexeme_at, lex_from, lex}
@@ -14,7 +13,7 @@ use Rattle.ud_model.specs.sections.Directives.{Directive, directive, content_of}
 use Rattle.ud_model.specs.conditions.Table.{Argument}
 use Rattle.ud_model.specs.conditions.Conditions.{Rules}
 use Rattle.ud_simplified.specs.ResidualTexts.{is_literal}
-use Rattle.ud_simplified.specs.CommentTexts.{has_lone_comment, text_at, text_len, text_line, cells_around, comment_cells}
+use Rattle.ud_simplified.specs.CommentTexts.{text_line, cells_around, comment_cells}
 use Rattle.ud_simplified.specs.SimplifiedTexts.{keyword_end, condition_cells, is_closing, text_cells}
 use Rattle.ud_model.specs.declared.kind.Mode.TheVariants.{C}
 use Rattle.ud_model.proofs.text.ScanBytes.{masked-content_cells}

@@ -1,7 +1,6 @@
 -- Searches: text lines are passed, a line is taken, and a mention ends.
-use Rattle.std.proofs.Common.{◌≡◌, ℕ, ◌+◌, ◌&&◌, ◌-◌, ◌≤◌, List, [], ◌∷◌, ◌++◌, length, take, drop, ◌^◌, length-append, length-drop, take-append-drop, Bool, true, false, Option, None, Some, is_some, refl, sym, ◌∙◌, ap, subst, append_assoc, append-nil, arith, ap₂}
+use Rattle.std.proofs.Common.{◌≡◌, ℕ, ◌+◌, ◌&&◌, ◌-◌, ◌≤◌, List, [], ◌∷◌, ◌++◌, length, take, drop, ◌^◌, length-append, length-drop, take-append-drop, Bool, true, false, Option, None, Some, is_some, refl, sym, ◌∙◌, ap, append_assoc, append-nil, arith, ap₂}
 use Rattle.std.specs.Prelude.{map, filter, if◌then◌else◌, ◌<◌}
-use Rattle.std.specs.List.{concat}
 use Rattle.std.proofs.lemmas.Bool.{and_right}
 use Rattle.std.proofs.lemmas.Grind.{common_steps, flat_map-append}
 use Rattle.std.proofs.lemmas.List.{map-append, length-map}
@@ -11,17 +10,15 @@ use Rattle.ud_model.specs.text.Lines.{Line, whole_lines}
 use Rattle.ud_model.specs.text.Scans.{Scan, Reading}
 use Rattle.ud_model.specs.text.Scanning.{scan_after}
 use Rattle.ud_model.specs.conditions.Table.{Argument}
-use Rattle.ud_model.specs.aids.ReadAs.{read_as}
 use Rattle.ud_model.specs.declared.kind.Mode.{Mode}
 use Rattle.ud_model.proofs.text.LinesLemmas.{are_whole}
 use Rattle.ud_cond.specs.symbols.Marks.{Unmarks}
 use Rattle.ud_text.proofs.lemmas.bulk.QuietLineLemmas.{ended_lines}
 use Rattle.ud_passes.specs.Passes.{fits}
 use Rattle.ud_passes.specs.Walks.{reading_at, read_after, AreTexts, HaveBytes, Walked}
-use Rattle.ud_passes.specs.remaining.Definitions.{IsClear}
 use Rattle.ud_passes.specs.remaining.Mentions.{Mention, mentions_in, mentions_of, joins_next, joined_text}
 use Rattle.ud_passes.specs.remaining.ListedNames.{names_by, names_listed}
-use Rattle.ud_passes.specs.remaining.RemainingLists.{is_condition, is_defining, line_of, lines_for, named_by, named_count, defining_count, has_name}
+use Rattle.ud_passes.specs.remaining.RemainingLists.{is_condition, is_defining, line_of, lines_for, named_by, has_name}
 use Rattle.ud_passes.specs.remaining.Searches.{extended, rest_from, as_mention, ended, Appends, EndsLine, Searched, IsTaken, begun_as, IsClearTo, shown_number, as_listed}
 use Rattle.ud_passes.specs.declared.remaining.mentions.Begun.{Begun}
 use Rattle.ud_passes.specs.declared.remaining.listing.Listing.{Listing}

@@ -1,22 +1,19 @@
 -- Masked bytes: vertical tabs beside white space, and the line that bytes are.
-use Rattle.std.proofs.Common.{◌≡◌, ℕ, suc, ◌<◌, ◌≤◌, ◌==◌, slice_index, Option, is_some, List, [], ◌∷◌, ◌++◌, length, take, Bool, true, false, not, ◌&&◌, ◌||◌, bytes_eq, refl, sym, ◌∙◌, ap, ap₂, subst, arith}
+use Rattle.std.proofs.Common.{◌≡◌, ℕ, suc, ◌<◌, ◌≤◌, ◌==◌, slice_index, Option, is_some, List, [], ◌∷◌, length, take, Bool, true, false, not, ◌&&◌, ◌||◌, bytes_eq, refl, ap₂, arith}
 use Rattle.std.proofs.lemmas.Bool.{false_from_ne_true}
-use Rattle.std.proofs.lemmas.List.{take_all}
 use Rattle.std.proofs.lemmas.List.Folds.{list_any_at}
 use Rattle.memchr.specs.Find.{IsFirstByte, is_byte}
 use Rattle.std.proofs.lemmas.Slice.Eq.{bytes_eq-Decides}
-use Rattle.ud_model.specs.text.Lines.{Line, NoNewline, IsWhole, text_of, ending_of, line_at}
+use Rattle.ud_model.specs.text.Lines.{Line, NoNewline, text_of, line_at}
 use Rattle.ud_model.specs.text.Splicing.{is_empty}
 use Rattle.ud_model.specs.text.Scans.{Scan}
 use Rattle.ud_model.specs.text.Scanning.{scan_after_run}
 use Rattle.ud_simplified.specs.FoldedTexts.{has_tab, vertical_tab, blank_follows, tabs_are_beside, fits, is_shown_as}
 use Rattle.ud_simplified.specs.SimplifiedTexts.{keeps_ending}
 use Rattle.ud_model.specs.declared.kind.Mode.TheVariants.{C}
-use Rattle.ud_model.proofs.text.LinesLemmas.{text_of-line_at}
 use Rattle.ud_model.proofs.text.ScanBytes.{scan_after-same}
-use Rattle.ud_model.proofs.output.Formed.{IsEnd, ended}
+use Rattle.ud_model.proofs.output.Formed.{IsEnd}
 use Rattle.ud_text.specs.lines.LinesState.{UpToNewline}
-use Rattle.ud_text.proofs.lemmas.lines.NewlineLemmas.{up_to_newline-once}
 use Rattle.ud_passes.proofs.EditLemmas.{ending_read, body_read}
 use Rattle.ud_passes.specs.folding.LogicalLines.{is_line_shown}
 

@@ -1,9 +1,9 @@
 -- Token lists: the tokens of a text, one after another.
-use Rattle.std.proofs.Common.{◌≡◌, ℕ, List, [], ◌∷◌, length, Bool, true, false, ◌&&◌, Option, Some, option_map, refl, arith}
+use Rattle.std.proofs.Common.{◌≡◌, ℕ, List, [], ◌∷◌, length, Bool, true, false, Some, refl, arith}
 use Rattle.std.proofs.lemmas.Bool.{and_left}
-use Rattle.ud_model.specs.conditions.Tokens.{Token, NextToken, at_end, unreadable, found, next_token}
+use Rattle.ud_model.specs.conditions.Tokens.{Token, at_end, unreadable, found, next_token}
 use Rattle.ud_simplified.specs.ResidualTexts.{are_tokens, same_token}
-use Rattle.ud_model.specs.conditions.Parsing.{prepend_token, tokens_of}
+use Rattle.ud_model.specs.conditions.Parsing.{tokens_of}
 use Rattle.ud_cond.proofs.lemmas.expressions.ReadingLemmas.{tokens_of-prepend_token}
 
 module _ (text : List ℕ) (t : Token) where

@@ -1,5 +1,5 @@
 -- Unlisted conditions: those of one line more, and of many text lines more.
-use Rattle.std.proofs.Common.{◌≡◌, ℕ, ◌+◌, List, [], ◌∷◌, ◌++◌, length, length-append, append_assoc, append-nil, take, drop, take-append-drop, Bool, true, false, if◌then◌else◌, refl, sym, ◌∙◌, ap, arith}
+use Rattle.std.proofs.Common.{◌≡◌, ℕ, ◌+◌, List, [], ◌∷◌, ◌++◌, length, append_assoc, append-nil, take, drop, take-append-drop, Bool, true, false, if◌then◌else◌, refl, sym, ◌∙◌, ap, arith}
 use Rattle.std.specs.List.{filter}
 use Rattle.std.proofs.lemmas.List.Elements.{filter-append}
 use Rattle.std.proofs.lemmas.List.Sums.{sum_by-append}
@@ -11,15 +11,14 @@ use Rattle.ud_model.proofs.text.LinesLemmas.{split_lines-line-prefix, split_line
 use Rattle.ud_text.specs.lines.LinesState.{UpToNewline}
 use Rattle.ud_simplified.specs.FoldedTexts.{restored_line}
 use Rattle.ud_model.specs.text.Scans.{Reading}
-use Rattle.ud_model.specs.sections.Directives.{text, content_of}
 use Rattle.ud_passes.specs.Passes.{numbered_line}
 use Rattle.ud_passes.specs.Walks.{read_after, AreTexts, HaveBytes, Walked}
 use Rattle.ud_passes.specs.folding.LogicalLines.{plain_lines}
 use Rattle.ud_passes.specs.declared.names.texts.File.{File}
 use Rattle.ud_passes.specs.declared.names.texts.Found.{Found}
 use Rattle.ud_passes.specs.declared.walk.Walk.{Walk}
-use Rattle.ud_passes.specs.names.UnlistedConditions.{is_unlisted_line, breaks, first_body, shown_body, listed_line, listed_from}
-use Rattle.ud_passes.specs.names.UnlistedLines.{listed_text, Listed}
+use Rattle.ud_passes.specs.names.UnlistedConditions.{is_unlisted_line, breaks, first_body, shown_body, listed_from}
+use Rattle.ud_passes.specs.names.UnlistedLines.{Listed}
 use Rattle.ud_passes.proofs.RestoreLemmas.{renumbered}
 use Rattle.ud_passes.proofs.FoldLemmas.{plain_bytes}
 

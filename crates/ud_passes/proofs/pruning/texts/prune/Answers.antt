@@ -3,7 +3,6 @@ use Rattle.std.proofs.Common.{ℕ, List, [], length, sym, ◌∙◌, ap, arith}
 use Rattle.ud_text.proofs.lemmas.scan.PassLemmas.{nothing_left}
 use Rattle.ud_passes.proofs.WalkLemmas.{walk_ends}
 use Rattle.ud_model.specs.declared.kind.Mode.TheVariants.{C}
-use Rattle.ud_cond.specs.CondViews.{as_rules}
 use Rattle.ud_passes.proofs.PassLemmas.{first_place}
 use Rattle.ud_passes.proofs.pruning.texts.prune.Goals as goal
 
