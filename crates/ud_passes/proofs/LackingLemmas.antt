@@ -13,8 +13,7 @@ use Rattle.ud_model.specs.text.Bytes.{is_word_byte, leading_word, skip_word, ski
 use Rattle.ud_model.specs.text.Lines.{Line, line_at, ending_of, numbered_from, texts_of}
 use Rattle.ud_model.specs.text.Lexemes.{LexemeKind, block_comment, line_comment, literal, single}
 use Rattle.ud_model.specs.text.Lexemes.{Cell, shown, shown_as}
-use Rattle.ud_model.specs.text.Splicing.{is_spliced, is_empty, content, spliced_text}
-use Rattle.ud_model.specs.text.Splicing.{c_run_of}
+use Rattle.ud_model.specs.text.Splicing.{is_spliced, is_empty, content, spliced_text, c_run_of}
 use Rattle.ud_model.specs.text.Scans.{Reading}
 use Rattle.ud_model.specs.text.Scanning.{is_block, joins, content_cells, scan_after_run}
 use Rattle.ud_model.specs.text.Scanning.{next_reading, readings_after}
@@ -36,8 +35,7 @@ use Rattle.ud_model.proofs.text.ScanLaws.{scan_from, scan_after_run-from}
 use Rattle.ud_model.proofs.output.DirectiveFront.{Front, directive_front}
 use Rattle.ud_cond.specs.symbols.SymbolTable.{LacksNames}
 use Rattle.ud_passes.specs.Passes.{fits}
-use Rattle.ud_passes.specs.remaining.Definitions.{defines, defines_by, defines_if}
-use Rattle.ud_passes.specs.remaining.Definitions.{is_definition}
+use Rattle.ud_passes.specs.remaining.Definitions.{defines, defines_by, defines_if, is_definition}
 use Rattle.ud_passes.specs.remaining.Mentions.{Mention, class_of, shown_after, joins_next}
 use Rattle.ud_passes.specs.remaining.Mentions.{joined_text, mention_at, with_text}
 use Rattle.ud_passes.specs.remaining.Mentions.{mention_by, mention_on, mentions_in, mentions_of}
