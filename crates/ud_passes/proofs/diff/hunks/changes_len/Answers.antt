@@ -18,9 +18,7 @@ loop-at-preserved c =
     ]
 
 pub returns-after-loop-at-clause-later : goal.returns-after-loop-at-clause-later
-returns-after-loop-at-clause-later c =
-    let all : c.loop-at.at ≡ length c.args.lines.now = omega arith in
-    changes_end c.args.lines.now c.loop-at.last (subst (λ (n : ℕ). ChangesUpto c.args.lines.now n c.loop-at.last) all c.loop-at.invariant)
+returns-after-loop-at-clause-later c = grind (arith, changes_end)
 
 pub returns-then-at-last-clause-later : goal.returns-then-at-last-clause-later
 returns-then-at-last-clause-later c =

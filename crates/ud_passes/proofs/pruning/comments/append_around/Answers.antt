@@ -1,5 +1,5 @@
 -- By the scan of the text.
-use Rattle.std.proofs.Common.{◌≡◌, ℕ, List, [], ◌++◌, map, take, drop, sym, ◌∙◌, ap, ap₂, subst, append_assoc}
+use Rattle.std.proofs.Common.{arith, ◌≡◌, ℕ, List, [], ◌++◌, map, take, drop, sym, ◌∙◌, ap, ap₂, subst, append_assoc}
 use Rattle.ud_model.specs.text.Lines.{NoNewline}
 use Rattle.ud_model.specs.text.Lexemes.{block_comment, shown, cells_in}
 use Rattle.ud_model.specs.text.Scanning.{scan_after}
@@ -12,8 +12,7 @@ use Rattle.ud_passes.proofs.CommentLemmas.{shown_open, shown_around}
 use Rattle.ud_passes.proofs.pruning.comments.append_around.Goals as goal
 
 pub read_into-scan-requires-clause-one_line : goal.read_into-scan-requires-clause-one_line
-read_into-scan-requires-clause-one_line c = let rest : List ℕ = c.split_bytes.result.1.now in
-    subst NoNewline (sym c.split_bytes-2.ensures.front) (no_newline-take c.args.len rest (subst NoNewline (sym c.split_bytes.ensures.back) (no_newline-drop c.args.at c.args.bytes.now c.requires.one_line)))
+read_into-scan-requires-clause-one_line c = grind (arith, no_newline-take, no_newline-drop)
 
 pub returns-then-scan : goal.returns-then-scan
 returns-then-scan c = let n : ℕ = c.args.at in

@@ -17,15 +17,12 @@ alone : (d : Directive) (bytes : List ℕ) (k : Line) (s : Scan) → s.joins_aft
 alone d bytes k s e = ap (λ (b : Bool). not b && has_directive d bytes k (content_of s)) (sym e)
 
 pub returns-then-scan : goal.returns-then-scan
-returns-then-scan c = let d : Directive = as_directive c.args.found.now in
-    let k : Line = as_line c.args.line.now in
-    joined d c.args.text.now k (as_scan c.read_into-scan.result) c.if-scan.true ∙ ap (is_meant d c.args.text.now k) (c.read_into-scan.ensures.value [] c.bare-scanner.ensures)
+returns-then-scan c = let scan = c.read_into-scan.ensures.value [] c.bare-scanner.ensures in
+    grind (arith, joined, scan)
 
 pub returns : goal.returns
-returns c = let d : Directive = as_directive c.args.found.now in
-    let k : Line = as_line c.args.line.now in
-    if_ok c.is_directive.result c.is_directive.ensures (λ _ e. e ∙ ap (has_directive d c.args.text.now k) c.directive.ensures.value
-    ∙ alone d c.args.text.now k (as_scan c.read_into-scan.result) c.if-scan.false ∙ ap (is_meant d c.args.text.now k) (c.read_into-scan.ensures.value [] c.bare-scanner.ensures))
+returns c = let scan = c.read_into-scan.ensures.value [] c.bare-scanner.ensures in
+    grind (arith, if_ok, alone, scan)
 
 pub is_directive-requires-clause-within : goal.is_directive-requires-clause-within
 is_directive-requires-clause-within c = let n : ℕ = length c.read_into-scan.result.masked.now in

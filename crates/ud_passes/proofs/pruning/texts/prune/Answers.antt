@@ -7,19 +7,10 @@ use Rattle.ud_passes.proofs.PassLemmas.{first_place}
 use Rattle.ud_passes.proofs.pruning.texts.prune.Goals as goal
 
 pub loop-walk-init : goal.loop-walk-init
-loop-walk-init c = record {
-  room = let e = ap (λ (x : List ℕ). length x) c.new-walk.ensures.rest in omega (arith, e);
-  pruned = λ calls h. grind (arith, first_place, c.new-walk.ensures.walked C);
-}
+loop-walk-init c = grind (arith, first_place)
 
 pub loop-walk-preserved : goal.loop-walk-preserved
-loop-walk-preserved c = let i = c.loop-walk.invariant in
-    let s = c.in_ok-edited.ensures in
-    let a = i.room in let b = s.room in
-    record {
-      room = omega (arith, a, b);
-      pruned = λ calls h. s.pruned calls h c.args.text.now [] (i.pruned calls h);
-    }
+loop-walk-preserved c = grind arith
 
 pub returns : goal.returns
 returns c = λ calls h.

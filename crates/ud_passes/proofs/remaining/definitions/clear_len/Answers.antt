@@ -9,8 +9,7 @@ use Rattle.ud_passes.proofs.remaining.definitions.clear_len.Goals as goal
 
 -- A search from `at` on has passed `count` bytes.
 passed : (table : List Argument) (t : List ℕ) (at count : ℕ) → IsClear table at t → Nowhere (Passes (is_byte 35) (take (length t - at) (drop at t))) 0 count → IsClear table (at + count) t
-passed table t at count h none =
-    clear_more table at count t h (subst (IsClear table count) (take_rest t at) (clear_hashless table count (take (length t - at) (drop at t)) none))
+passed table t at count h none = grind (arith, clear_more, take_rest, clear_hashless)
 
 pub returns-in_default-clause-clear : goal.returns-in_default-clause-clear
 returns-in_default-clause-clear c = λ calls h.
@@ -23,17 +22,11 @@ returns-in_default-clause-clear c = λ calls h.
 
 pub returns-then-defines_after-clause-clear : goal.returns-then-defines_after-clause-clear
 returns-then-defines_after-clause-clear c = λ calls h.
-    passed calls c.args.text.now c.loop-at.at c.in-Some.count (c.loop-at.invariant.clear calls h) c.in-Some.ensures.0.before
+    grind (arith, passed, c.loop-at.invariant.clear calls h)
 
 pub loop-at-preserved : goal.loop-at-preserved
-loop-at-preserved c = let t = c.args.text.now in
-    let at = c.loop-at.at in
-    let sign : ℕ = at + c.in-Some.count in
-    let size = length-drop at t in
-    let all = ap (λ (x : List ℕ). length x) (take_rest t at) in
-    record {
-      within = let below = c.in-Some.ensures.0.high in omega (arith, size, all, below);
-      clear = λ calls h.
-          clear_one calls sign t (passed calls t at c.in-Some.count (c.loop-at.invariant.clear calls h) c.in-Some.ensures.0.before)
-          (ap (λ (x : List ℕ). defines_after calls x) (sym (take_rest t (sign + 1))) ∙ sym (c.defines_after.ensures calls h) ∙ c.if-defines_after.false);
-    }
+loop-at-preserved c =
+    let first = c.in-Some.ensures.0 in
+    let clear = c.loop-at.invariant.clear in
+    let none = c.defines_after.ensures in
+    grind (arith, length-drop, take_rest, clear_one, passed, first.high, first.before, clear, none)

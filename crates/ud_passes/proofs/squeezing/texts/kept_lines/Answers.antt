@@ -1,5 +1,5 @@
 -- A line more.
-use Rattle.std.proofs.Common.{◌<◌, ◌++◌, ℕ, List, length, take, drop, length-append, append-nil, sym, ◌∙◌, ap}
+use Rattle.std.proofs.Common.{arith, ◌<◌, ◌++◌, ℕ, List, length, take, drop, length-append, append-nil, sym, ◌∙◌, ap}
 use Rattle.std.specs.List.{concat}
 use Rattle.ud_model.specs.text.Lines.{Line, text_of, texts_of, split_lines}
 use Rattle.ud_model.specs.aids.LineViews.{as_line}
@@ -24,7 +24,4 @@ loop-rest-preserved c = let rest : List ℕ = c.loop-rest.rest.now in
 
 pub returns : goal.returns
 unfolding split_lines
-returns c = let rest : List ℕ = c.loop-rest.rest.now in
-    sym (append-nil c.loop-rest.out.items)
-    ∙ ap (λ (x : List ℕ). c.loop-rest.out.items ++ concat (kept_lines c.loop-rest.left.now (texts_of x))) (sym (nothing_left rest (sym c.is_empty.ensures ∙ c.loop-rest-test.false)))
-    ∙ c.loop-rest.invariant
+returns c = grind (arith, append-nil, nothing_left)

@@ -13,13 +13,11 @@ use Rattle.ud_passes.proofs.pruning.conditions.LeftCondition.find.Goals as goal
 
 pub returns-then-not-is_unknown-clause-found : goal.returns-then-not-is_unknown-clause-found
 returns-then-not-is_unknown-clause-found c = λ calls h cells a q.
-    known_stays calls (as_rules c.args.rules) cells
-    (ap (λ (l : List ℕ). is_unknown (expression_cond l calls (as_rules c.args.rules))) a.shown_are ∙ sym (c.is_unknown.ensures calls h) ∙ c.if-not-is_unknown.true)
+    grind (arith, known_stays, c.is_unknown.ensures calls h)
 
 pub returns-then-not-find_residual-clause-found : goal.returns-then-not-find_residual-clause-found
 returns-then-not-find_residual-clause-found c = λ calls h cells a q.
-    settled_stays calls (as_rules c.args.rules) cells (λ e p.
-    c.find_residual.ensures.no (c.if-not-find_residual.true) calls h e (ap expression_of (sym a.shown_are) ∙ p))
+    grind (arith, settled_stays, c.if-not-find_residual.true)
 
 pub returns-clause-found : goal.returns-clause-found
 returns-clause-found c = λ calls h cells a q.

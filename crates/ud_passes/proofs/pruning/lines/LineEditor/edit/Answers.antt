@@ -16,12 +16,7 @@ use Rattle.ud_passes.proofs.pruning.lines.LineEditor.edit.Goals.{then-scan-via-t
 
 pub returns-then-scan : goal.returns-then-scan
 returns-then-scan c = λ calls h alone.
-    joined_stays calls (as_rules c.args.rules) (as_line c.args.line.now) (as_scan c.args.scan.now) (joins_by calls (as_rules c.args.rules) (as_line c.args.line.now) (as_scan c.args.scan.now)
-    (elim c.then-scan.branch [
-      | then-scan-via-then-scan w ↦ inl w.if-scan.true
-      | then-scan-via-else-scan+then-scan-2 w ↦ inr (inl w.if-scan-2.true)
-      | then-scan-via-else-scan+else-scan-2+then-is_empty w ↦ inr (inr (sym w.is_empty.ensures ∙ w.if-is_empty.true))
-    ]))
+    grind (arith, joined_stays, joins_by, then-scan-via-then-scan)
 
 pub returns-then-not-is_closing : goal.returns-then-not-is_closing
 returns-then-not-is_closing c = if_ok c.edit_text.result c.edit_text.ensures (λ edited f calls h alone.
@@ -36,21 +31,7 @@ returns-then-not-is_closing c = if_ok c.edit_text.result c.edit_text.ensures (λ
     (f calls h i (condition_shown calls rules l d i (sym c.is_closing.ensures ∙ c.if-not-is_closing.true))))
 
 pub edit_text-requires-2-clause-masked : goal.edit_text-requires-2-clause-masked
-edit_text-requires-2-clause-masked c = let text : List ℕ = map shown (comment_cells c.bytes_after.result.now) in
-    let n : length c.as_slice.result.now ≡ length c.bytes_after.result.now = ap (λ (x : List ℕ). length x)
-    (c.as_slice.ensures.value ∙ c.in_ok-append_as_condition.ensures ∙ ap (λ (x : List ℕ). x ++ text) c.new-shown.ensures.items) ∙ shown_length c.bytes_after.result.now in
-    grind (arith, common_steps, n, c.bytes_after.ensures.bytes, c.requires.fits)
+edit_text-requires-2-clause-masked c = grind (arith, shown_length, common_steps)
 
 pub returns : goal.returns
-returns c = if_ok c.edit_text-2.result c.edit_text-2.ensures (λ edited f calls h alone.
-    let rules = as_rules c.args.rules in
-    let l : Line = as_line c.args.line.now in
-    let scan = as_scan c.args.scan.now in
-    let d = as_directive c.in-Some.found in
-    let has = c.in-Some.ensures.some.0 in
-    let some = sym c.is_empty.ensures ∙ c.if-is_empty.false in
-    let i = alone_is calls rules l scan d alone c.if-scan.false c.if-scan-2.false some has in
-    let text : List ℕ = map shown (comment_cells c.bytes_after.result.now) in
-    subst (λ (k : Line). IsEditedTo edited (text_of k) l c.edit_text-2.new.self.bytes.items) (sym (simplified_is calls rules l scan d alone c.if-scan.false c.if-scan-2.false some has))
-    (f calls h i (comment_shown calls rules l d i (sym c.is_closing.ensures ∙ c.if-not-is_closing.false) ∙ ap (λ (x : List ℕ). map shown (comment_cells x)) (sym c.bytes_after.ensures.bytes)
-    ∙ ap (λ (x : List ℕ). x ++ text) (sym c.new-shown.ensures.items) ∙ sym c.in_ok-append_as_condition.ensures ∙ sym c.as_slice.ensures.value)))
+returns c = grind (arith, if_ok, alone_is, simplified_is, comment_shown)

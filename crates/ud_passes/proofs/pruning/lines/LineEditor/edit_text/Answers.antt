@@ -40,10 +40,7 @@ returns-then-not-branch c = λ calls h i e.
 
 -- The bytes of the edited line.
 joined : (c : goal.After-as_slice-3) → c.as_slice-2.result.now ≡ (take (c.args.found.now.keyword.at + c.args.found.now.keyword.len) c.args.line.now.body.now ++ c.find.new.self.text.bytes.items) ++ c.args.line.now.ending.now
-joined c =
-    c.as_slice-2.ensures.value ∙ c.in_ok-extend_from_slice-3.ensures.items ∙ ap (λ (x : List ℕ). x ++ c.args.line.now.ending.now)
-    (c.in_ok-extend_from_slice-2.ensures.items ∙ ap₂ (λ (x y : List ℕ). x ++ y)
-    (c.in_ok-extend_from_slice.ensures.items ∙ ap₂ (λ (x y : List ℕ). x ++ y) c.clear.ensures.items c.split_bytes.ensures.front) c.as_slice.ensures.value)
+joined c = grind arith
 
 pub takes_place-requires-clause-fits : goal.takes_place-requires-clause-fits
 takes_place-requires-clause-fits c = grind (arith, common_steps)

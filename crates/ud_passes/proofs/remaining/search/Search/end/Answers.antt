@@ -8,8 +8,7 @@ use Rattle.ud_passes.proofs.remaining.search.Search.end.Goals as goal
 
 pub returns-then-not-names_listed-clause-appends : goal.returns-then-not-names_listed-clause-appends
 returns-then-not-names_listed-clause-appends c = λ calls h.
-    appends_unlisted c.args.symbols.now calls c.args.name.now c.args.begun c.in-Some.begun c.args.self.now.after.items c.args.self.now _ (search rules)
-    (ap (λ (t : List ℕ). names_by calls c.in-Some.begun.class t) (sym c.as_slice.ensures.value) ∙ sym (c.names_listed.ensures calls h) ∙ c.if-not-names_listed.true) refl refl refl refl refl
+    grind (arith, appends_unlisted, c.names_listed.ensures calls h)
 
 pub returns-in_default-clause-appends : goal.returns-in_default-clause-appends
 returns-in_default-clause-appends c = λ calls h.
