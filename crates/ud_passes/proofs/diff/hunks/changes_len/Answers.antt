@@ -1,7 +1,7 @@
 -- By the lines so far.
 use Rattle.std.proofs.lemmas.List.{get_or_default}
 use Rattle.std.proofs.lemmas.Bool.{cases_lt}
-use Rattle.std.proofs.Common.{◌≡◌, ℕ, ◌+◌, length, sym, subst, arith}
+use Rattle.std.proofs.Common.{ℕ, ◌+◌, sym, subst, arith}
 use Rattle.ud_passes.proofs.ContextLemmas.{ChangesUpto, changes_more, changes_end, kept_range}
 use Rattle.ud_passes.proofs.diff.hunks.changes_len.Goals as goal
 use Rattle.ud_passes.proofs.diff.hunks.changes_len.Goals.{then-is_change, else-is_change+else-at-last}

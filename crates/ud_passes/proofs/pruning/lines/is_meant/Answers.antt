@@ -1,11 +1,9 @@
 -- By the scan of the line alone.
-use Rattle.std.proofs.Common.{◌≡◌, ℕ, List, [], length, arith, not, ◌&&◌, Bool, true, false, sym, ◌∙◌, ap}
+use Rattle.std.proofs.Common.{◌≡◌, ℕ, List, [], length, arith, not, ◌&&◌, Bool, true, false, sym, ap}
 use Rattle.ud_model.specs.text.Lines.{Line}
 use Rattle.ud_model.specs.text.Scans.{Scan}
 use Rattle.ud_model.specs.sections.Directives.{Directive, content_of}
-use Rattle.ud_model.specs.aids.LineViews.{as_line, as_scan}
 use Rattle.ud_simplified.specs.SimplifiedTexts.{has_directive}
-use Rattle.ud_sections.specs.directives.ParsedDirectives.{as_directive}
 use Rattle.ud_passes.specs.pruning.EditedLines.{is_meant}
 use Rattle.ud_passes.proofs.CellLemmas.{if_ok}
 use Rattle.ud_passes.proofs.pruning.lines.is_meant.Goals as goal

@@ -1,5 +1,5 @@
 -- From the first line to the last.
-use Rattle.std.proofs.Common.{ℕ, List, [], length, sym, ◌∙◌, ap, arith}
+use Rattle.std.proofs.Common.{sym, ◌∙◌, arith}
 use Rattle.ud_text.proofs.lemmas.scan.PassLemmas.{nothing_left}
 use Rattle.ud_passes.proofs.WalkLemmas.{walk_ends}
 use Rattle.ud_model.specs.declared.kind.Mode.TheVariants.{C}

@@ -1,9 +1,9 @@
 -- Up to a `#`, past one, or to the end.
-use Rattle.std.proofs.Common.{◌+◌, ◌-◌, List, ℕ, length, take, drop, length-drop, sym, ◌∙◌, ap, subst, arith}
+use Rattle.std.proofs.Common.{◌+◌, ◌-◌, List, ℕ, length, take, drop, length-drop, ap, subst, arith}
 use Rattle.std.proofs.lemmas.List.{take_rest}
 use Rattle.memchr.specs.Find.{Nowhere, Passes, is_byte}
 use Rattle.ud_model.specs.conditions.Table.{Argument}
-use Rattle.ud_passes.specs.remaining.Definitions.{defines_after, IsClear}
+use Rattle.ud_passes.specs.remaining.Definitions.{IsClear}
 use Rattle.ud_passes.proofs.DefinitionLemmas.{clear_more, clear_hashless, clear_one}
 use Rattle.ud_passes.proofs.remaining.definitions.clear_len.Goals as goal
 

@@ -1,11 +1,9 @@
 -- A line more.
-use Rattle.std.proofs.Common.{arith, ◌<◌, ◌++◌, ℕ, List, length, take, drop, length-append, append-nil, sym, ◌∙◌, ap}
-use Rattle.std.specs.List.{concat}
-use Rattle.ud_model.specs.text.Lines.{Line, text_of, texts_of, split_lines}
+use Rattle.std.proofs.Common.{arith, ◌<◌, ℕ, List, length, take, drop, length-append, append-nil, sym, ◌∙◌, ap}
+use Rattle.ud_model.specs.text.Lines.{Line, text_of, split_lines}
 use Rattle.ud_model.specs.aids.LineViews.{as_line}
 use Rattle.ud_text.proofs.lemmas.scan.LongerTextLemmas.{some_left}
 use Rattle.ud_text.proofs.lemmas.scan.PassLemmas.{nothing_left}
-use Rattle.ud_passes.specs.squeezing.SqueezedTexts.{kept_lines}
 use Rattle.ud_passes.proofs.SqueezeLemmas.{kept_next}
 use Rattle.ud_passes.proofs.squeezing.texts.kept_lines.Goals as goal
 

@@ -1,5 +1,5 @@
 -- The line stays, or its condition is edited.
-use Rattle.std.proofs.Common.{◌≡◌, ℕ, List, ◌++◌, length, map, arith, sym, ◌∙◌, ap, inl, inr, subst}
+use Rattle.std.proofs.Common.{arith, sym, ◌∙◌, subst}
 use Rattle.ud_model.specs.text.Lines.{Line, text_of}
 use Rattle.ud_model.specs.aids.LineViews.{as_line, as_scan}
 use Rattle.ud_cond.specs.CondViews.{as_rules}
@@ -8,8 +8,6 @@ use Rattle.ud_passes.specs.pruning.EditedLines.{IsEditedTo}
 use Rattle.ud_passes.proofs.CellLemmas.{if_ok}
 use Rattle.ud_passes.proofs.EditLemmas.{joined_stays, joins_by, alone_is, condition_shown, comment_shown, simplified_is}
 use Rattle.std.proofs.lemmas.Grind.{common_steps}
-use Rattle.ud_model.specs.text.Lexemes.{shown}
-use Rattle.ud_simplified.specs.CommentTexts.{comment_cells}
 use Rattle.ud_passes.proofs.CommentLemmas.{shown_length}
 use Rattle.ud_passes.proofs.pruning.lines.LineEditor.edit.Goals as goal
 use Rattle.ud_passes.proofs.pruning.lines.LineEditor.edit.Goals.{then-scan-via-then-scan, then-scan-via-else-scan+then-scan-2, then-scan-via-else-scan+else-scan-2+then-is_empty}

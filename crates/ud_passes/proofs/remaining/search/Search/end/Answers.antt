@@ -1,5 +1,5 @@
 -- By whether there is a mention, and names a listed symbol.
-use Rattle.std.proofs.Common.{◌≡◌, List, ℕ, true, refl, sym, ◌∙◌, ap, subst, arith, rules}
+use Rattle.std.proofs.Common.{◌≡◌, true, sym, ◌∙◌, ap, subst, arith, rules}
 use Rattle.std.proofs.lemmas.Result.{on_ok_weaker}
 use Rattle.ud_passes.specs.remaining.ListedNames.{names_by}
 use Rattle.ud_passes.specs.remaining.Searches.{Appends, begun_as, ended}
