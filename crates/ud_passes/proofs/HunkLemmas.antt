@@ -15,7 +15,7 @@ use Rattle.ud_passes.specs.diff.DiffTexts.{ranges_text, signed_text, hunk_text}
 use Rattle.ud_passes.specs.diff.Patching.{Turns, stay, change}
 use Rattle.ud_passes.specs.diff.Contexts.{context, IsKept, AreKept, AreChanges}
 use Rattle.ud_passes.specs.diff.Scripts.{signed, signed_lines, hunk_of, between, gap, IsNextHunk}
-use Rattle.ud_passes.proofs.ContextLemmas.{kept_range, between_drop, changes_begin_at}
+use Rattle.ud_passes.proofs.ContextLemmas.{kept_range, between_drop, begins_at, changes_begin_at}
 use Rattle.ud_passes.proofs.ScriptLemmas.{side, side-append}
 
 -- Of a line and others that pass a test, as many pass as bytes are taken of.
@@ -78,6 +78,9 @@ pub next_hunk_at : (script : List DiffLine) (from first n start end : ℕ) → f
     start ≡ from + (first - context) → end ≡ min (length script) (from + first + n + context) → IsNextHunk script from start end
 next_hunk_at script from first n start end inside e within changed later a b =
     grind (arith, next_hunk_is, take_rest, drop-drop)
+
+-- The next hunk, or none.
+pub ruleset hunk_steps = (kept_rest, position-Some, begins_at, take_rest, next_hunk_at)
 
 -- The order of the places of the next hunk.
 pub record NextPlaces (ls : List DiffLine) (at start first last end : ℕ) : Type 0 where

@@ -55,6 +55,9 @@ opens_trimmed (b ∷ bs) = grind (arith, common_steps, reverse-append, white_las
 pub no_directive : (s : Scan) → starts_with_byte 35 (skip_white s.masked) ≡ false → directives.content_of s ≡ directives.text
 no_directive s e = grind arith
 
+-- The directive of a trimmed line.
+pub ruleset place_steps = (opens_trimmed, no_directive)
+
 module _ (text ms : List ℕ) (walk : Walk) (left : List ℕ) (out : List Place) (p : Placed text ms walk left out) (next : Walk) (k : Line) where
   pub line_placed : Walked C text (p.read ++ read_after C p.read k ∷ []) next.rest.now next.scanner → (after : List ℕ) → after ≡ after_stay left → (new : List Place) →
       new ≡ out ++ place_of (is_gap left) (read_after C p.read k) ∷ [] → Placed text ms next after new

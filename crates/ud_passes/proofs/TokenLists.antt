@@ -33,6 +33,9 @@ pub record Splits (t : Token) (rest : List ℕ) (tokens : List Token) : Type 0 w
 pub splits : (text : List ℕ) (t : Token) (rest : List ℕ) (tokens : List Token) → next_token text ≡ found t rest → tokens_of text ≡ Some tokens → Splits t rest tokens
 splits text t rest tokens e f = grind (arith, tokens_of-prepend_token)
 
+-- The tokens of a text, by its first one.
+pub ruleset token_steps = (tokens_of-prepend_token)
+
 -- A text that begins with no token has none.
 pub ends_first : (text : List ℕ) → next_token text ≡ at_end → (t : Token) (tokens : List Token) → tokens_of text ≡ Some (t ∷ tokens) → ⊥
 ends_first text e t tokens f = let n : length (t ∷ tokens) ≡ 0 = (grind (arith, tokens_of-prepend_token, e, f)) in cc

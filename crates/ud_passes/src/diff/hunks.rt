@@ -57,6 +57,7 @@ fn changes_len(lines: &[DiffLine<'_>]) -> usize
 }
 
 /// Returns where the next hunk begins and ends, from this position on; `None` if no change is left.
+#[tactic(auto, using(crate::proofs::HunkLemmas::hunk_steps))]
 fn next_hunk(script: &[DiffLine<'_>], from: usize) -> Option<(usize, usize)>
     requires { from ≤ length script.now }
     ensures next { MatchOption result (AreKept (signed_lines (drop from script.now)))

@@ -36,6 +36,7 @@ fn append_range(out: &mut Vec<u8>, before: usize, count: usize) -> Result<(), Al
 }
 
 /// Appends the first line of a hunk: where its lines of both texts begin, and their numbers.
+#[tactic(auto, unfolding(crate::specs::diff::DiffTexts::ranges_text))]
 pub(crate) fn append_ranges(
     out: &mut Vec<u8>,
     old_before: usize,

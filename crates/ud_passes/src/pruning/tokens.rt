@@ -88,6 +88,7 @@ fn after_left<'a>(left: &'a [u8], flag: bool, token: Token<'_>) -> Option<&'a [u
 }
 
 /// Returns whether a text is white space, without a token.
+#[tactic(auto, using(crate::proofs::TokenLists::token_steps))]
 fn has_no_token(text: &[u8]) -> bool
     ensures { result ≡ are_tokens (tokens_of text.now) [] }
 {

@@ -58,6 +58,7 @@ fn role_in(scan: &Scan<'_>) -> Option<Role>
 }
 
 /// Returns the place of a line, by its scan.
+#[tactic(auto, using(crate::proofs::SqueezeLemmas::place_steps))]
 fn place_of(gap: bool, line: &Line<'_>, scan: &Scan<'_>) -> Place
     ensures { result ≡ scanned_place gap line.now.body.now (as_scan scan.now) }
 {
