@@ -30,4 +30,5 @@ pub texts-next : (words : List (String Global)) (n : ℕ) (w : String Global) �
 texts-next words n w h e = rw (add-one, drop-cons words n w h) (ap (λ (x : String Global). string_bytes x ∷ map string_bytes (drop (suc n) words)) (sym e))
 
 -- the words after one, and the letters after one
-pub ruleset word_steps = (common_steps, chars-nil, chars_of_empty, chars_past_char, option_then-bytes, texts-next)
+pub ruleset word_steps =
+    (common_steps, chars-nil, chars_of_empty, chars_past_char, option_then-bytes, texts-next)

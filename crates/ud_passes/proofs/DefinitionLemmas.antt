@@ -1,5 +1,7 @@
 -- Definitions: where no `#` has a definition after it, no line has one.
-use Rattle.std.proofs.Common.{◌≡◌, ℕ, zero, suc, ◌+◌, ◌-◌, ◌≤◌, Bool, true, false, if◌then◌else◌, List, [], ◌∷◌, ◌++◌, length, map, drop, refl, ◌∙◌, ap, subst, append_assoc, length-append, arith}
+use Rattle.std.proofs.Common.{◌≡◌, ℕ, zero, suc, ◌+◌, ◌-◌, ◌≤◌, Bool, true, false, if◌then◌else◌}
+use Rattle.std.proofs.Common.{List, [], ◌∷◌, ◌++◌, length, map, drop, refl, ◌∙◌, ap, subst}
+use Rattle.std.proofs.Common.{append_assoc, length-append, arith}
 use Rattle.std.specs.List.{concat}
 use Rattle.std.proofs.lemmas.Bool.{and_right}
 use Rattle.std.proofs.Math.Seq.{drop-append_seam}
@@ -10,7 +12,8 @@ use Rattle.ud_model.specs.text.Scans.{Reading}
 use Rattle.ud_model.specs.conditions.Table.{Argument}
 use Rattle.ud_model.proofs.text.LinesLemmas.{body-ending}
 use Rattle.ud_text.proofs.lemmas.bulk.QuietLineLemmas.{IsFeed, one, two, whole_ending}
-use Rattle.ud_passes.specs.remaining.Definitions.{defines_by, defines_after, defines, is_definition, IsClear}
+use Rattle.ud_passes.specs.remaining.Definitions.{defines_by, defines_after, defines, is_definition}
+use Rattle.ud_passes.specs.remaining.Definitions.{IsClear}
 
 -- 1. Words never go on after the end of a line.
 

@@ -1,5 +1,7 @@
 -- Edited lines: the line that is edited, and the line that is read.
-use Rattle.std.proofs.Common.{◌≡◌, ℕ, ◌-◌, List, [], ◌++◌, length, map, take, drop, Bool, true, false, if◌then◌else◌, bytes_eq, refl, sym, ◌∙◌, ap, subst, ◌⊎◌, arith, take-append-drop}
+use Rattle.std.proofs.Common.{◌≡◌, ℕ, ◌-◌, List, [], ◌++◌, length, map, take, drop, Bool, true}
+use Rattle.std.proofs.Common.{false, if◌then◌else◌, bytes_eq, refl, sym, ◌∙◌, ap, subst, ◌⊎◌, arith}
+use Rattle.std.proofs.Common.{take-append-drop}
 use Rattle.std.proofs.lemmas.List.{take_all}
 use Rattle.std.proofs.lemmas.Bool.{and_right}
 use Rattle.std.proofs.lemmas.Slice.Eq.{bytes_eq-Decides}
@@ -13,7 +15,10 @@ use Rattle.ud_model.specs.conditions.Table.{Argument}
 use Rattle.ud_model.specs.conditions.Conditions.{Rules}
 use Rattle.ud_simplified.specs.ResidualTexts.{simplified_cells}
 use Rattle.ud_simplified.specs.CommentTexts.{comment_cells}
-use Rattle.ud_simplified.specs.SimplifiedTexts.{keyword_end, condition_cells, is_closing, text_cells, same_kind, has_directive, is_lone, left_cells_of, left_line, is_read_alone, line_by, simplified_line}
+use Rattle.ud_simplified.specs.SimplifiedTexts.{keyword_end, condition_cells, is_closing}
+use Rattle.ud_simplified.specs.SimplifiedTexts.{text_cells, same_kind, has_directive, is_lone}
+use Rattle.ud_simplified.specs.SimplifiedTexts.{left_cells_of, left_line, is_read_alone, line_by}
+use Rattle.ud_simplified.specs.SimplifiedTexts.{simplified_line}
 use Rattle.ud_model.proofs.text.LinesLemmas.{text_of-line_at}
 use Rattle.ud_model.proofs.output.Formed.{IsEnd, ended}
 use Rattle.ud_simplified.proofs.SimplifiedLines.{after_is, condition_text, text_bytes}

@@ -1,5 +1,8 @@
 -- Folding: the line that lines form, and the folded lines after a line more.
-use Rattle.std.proofs.Common.{◌≡◌, ℕ, ◌≤◌, List, [], ◌∷◌, ◌++◌, length, map, Bool, true, false, not, ◌&&◌, if◌then◌else◌, bytes_eq, Option, Some, None, is_some, IfSome, refl, sym, ◌∙◌, ap, subst, append_assoc, append-nil, length-append, arith}
+use Rattle.std.proofs.Common.{◌≡◌, ℕ, ◌≤◌, List, [], ◌∷◌, ◌++◌, length, map, Bool, true, false, not}
+use Rattle.std.proofs.Common.{◌&&◌, if◌then◌else◌, bytes_eq, Option, Some, None, is_some, IfSome}
+use Rattle.std.proofs.Common.{refl, sym, ◌∙◌, ap, subst, append_assoc, append-nil, length-append}
+use Rattle.std.proofs.Common.{arith}
 use Rattle.std.specs.List.{concat, flat_map}
 use Rattle.std.proofs.lemmas.Grind.{common_steps, flat_map-append}
 use Rattle.std.proofs.lemmas.List.{append_cancel_left}
@@ -118,7 +121,8 @@ module _ (r : Reading) (old : List ℕ) (l : LogicalLine) where
 
   -- No logical line of several lines begins on the line.
   pub takes_line : (new : List ℕ) → new ≡ old ++ text_of r.line → (not r.scan.joins_before && r.scan.joins_after && is_directive (content_of r.scan)) ≡ false → FoldsReading r [] old l None new
-  takes_line new e n = grind (arith, takes_none, append_assoc, false≢true, rest_first, not_foldable, rest_alone)
+  takes_line new e n =
+      grind (arith, takes_none, append_assoc, false≢true, rest_first, not_foldable, rest_alone)
 
   pub takes_begun : (b : Last) → IsLogical l b (r ∷ []) → r.scan.joins_before ≡ false → r.scan.joins_after ≡ true → FoldsReading r [] old l (Some b) old
   takes_begun b i j a = grind (arith, common_steps, append-nil)

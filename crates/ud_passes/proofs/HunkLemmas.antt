@@ -1,5 +1,7 @@
 -- Hunks: lemmas on the hunks of a script.
-use Rattle.std.proofs.Common.{◌≡◌, ℕ, suc, ◌+◌, ◌-◌, ◌<◌, ◌≤◌, min, Bool, true, false, cond, List, [], ◌∷◌, ◌++◌, length, map, take, drop, Some, None, refl, ◌∙◌, ap, ap₂, subst, append_assoc, arith, position}
+use Rattle.std.proofs.Common.{◌≡◌, ℕ, suc, ◌+◌, ◌-◌, ◌<◌, ◌≤◌, min, Bool, true, false, cond, List}
+use Rattle.std.proofs.Common.{[], ◌∷◌, ◌++◌, length, map, take, drop, Some, None, refl, ◌∙◌, ap}
+use Rattle.std.proofs.Common.{ap₂, subst, append_assoc, arith, position}
 use Rattle.std.specs.List.{flat_map, count_by}
 use Rattle.std.proofs.lemmas.List.{take_rest, length-append, length-drop, length-take, length-take-le, length-map, drop-drop, get_or-drop}
 use Rattle.std.proofs.lemmas.List.Elements.{All-map, All-head, All-tail}

@@ -1,6 +1,7 @@
 -- Names: the words of a text, one after another.
 use Rattle.std.proofs.Common.{◌≡◌, ◌∙◌, ℕ, zero, suc, ◌-◌, ◌≤◌, ap, take, drop, List, [], ◌∷◌}
-use Rattle.std.proofs.Common.{◌++◌, length, get_or, Bool, true, false, ◌||◌, if◌then◌else◌, refl, arith}
+use Rattle.std.proofs.Common.{◌++◌, length, get_or, Bool, true, false, ◌||◌, if◌then◌else◌, refl}
+use Rattle.std.proofs.Common.{arith}
 use Rattle.memchr.specs.Find.{Nowhere, Passes, is_byte}
 use Rattle.ud_model.specs.text.Bytes.{is_word_byte, leading_word, skip_word}
 use Rattle.ud_model.specs.answer.SymbolArguments.{is_name}

@@ -1,5 +1,8 @@
 -- Searches: text lines are passed, a line is taken, and a mention ends.
-use Rattle.std.proofs.Common.{◌≡◌, ℕ, ◌+◌, ◌&&◌, ◌-◌, ◌≤◌, List, [], ◌∷◌, ◌++◌, length, take, drop, ◌^◌, length-append, length-drop, take-append-drop, Bool, true, false, Option, None, Some, is_some, refl, sym, ◌∙◌, ap, append_assoc, append-nil, arith, ap₂}
+use Rattle.std.proofs.Common.{◌≡◌, ℕ, ◌+◌, ◌&&◌, ◌-◌, ◌≤◌, List, [], ◌∷◌, ◌++◌, length, take, drop}
+use Rattle.std.proofs.Common.{◌^◌, length-append, length-drop, take-append-drop, Bool, true, false}
+use Rattle.std.proofs.Common.{Option, None, Some, is_some, refl, sym, ◌∙◌, ap, append_assoc}
+use Rattle.std.proofs.Common.{append-nil, arith, ap₂}
 use Rattle.std.specs.Prelude.{map, filter, if◌then◌else◌, ◌<◌}
 use Rattle.std.proofs.lemmas.Bool.{and_right}
 use Rattle.std.proofs.lemmas.Grind.{common_steps, flat_map-append}
@@ -18,7 +21,8 @@ use Rattle.ud_passes.specs.Passes.{fits}
 use Rattle.ud_passes.specs.Walks.{reading_at, read_after, AreTexts, HaveBytes, Walked}
 use Rattle.ud_passes.specs.remaining.Mentions.{Mention, mentions_in, mentions_of, joins_next, joined_text}
 use Rattle.ud_passes.specs.remaining.ListedNames.{names_by, names_listed}
-use Rattle.ud_passes.specs.remaining.RemainingLists.{is_condition, is_defining, line_of, lines_for, named_by, has_name}
+use Rattle.ud_passes.specs.remaining.RemainingLists.{is_condition, is_defining, line_of, lines_for}
+use Rattle.ud_passes.specs.remaining.RemainingLists.{named_by, has_name}
 use Rattle.ud_passes.specs.remaining.Searches.{extended, rest_from, as_mention, ended, Appends, EndsLine, Searched, IsTaken, begun_as, IsClearTo, shown_number, as_listed}
 use Rattle.ud_passes.specs.declared.remaining.mentions.Begun.{Begun}
 use Rattle.ud_passes.specs.declared.remaining.listing.Listing.{Listing}
@@ -186,7 +190,9 @@ module _ (rows table : List Argument) (mode : Mode) (name text : List ℕ) (star
         goes : Goes table (s.seen ++ seen ∷ []) s.found q goes_on
         goes = grind (arith, common_steps)
 
-        by : (b : Bool) → Goes table (s.seen ++ seen ∷ []) s.found q b → EndsLine rows table name c b mid new next.begun → Searched rows table mode name text start new next on
+        by : (b : Bool) → Goes table (s.seen ++ seen ∷ []) s.found q b →
+            EndsLine rows table name c b mid new next.begun →
+            Searched rows table mode name text start new next on
         by true g a =
             let more = appends_more rows table name s.found [] start mid new kept a.0 in
             let is = seen_more start.listing s.seen s.read (seen ∷ []) (r ∷ []) s.seen_is in

@@ -1,5 +1,7 @@
 -- Masked bytes: vertical tabs beside white space, and the line that bytes are.
-use Rattle.std.proofs.Common.{◌≡◌, ℕ, suc, ◌<◌, ◌≤◌, ◌==◌, slice_index, Option, is_some, List, [], ◌∷◌, length, take, Bool, true, false, not, ◌&&◌, ◌||◌, bytes_eq, refl, ap₂, arith}
+use Rattle.std.proofs.Common.{◌≡◌, ℕ, suc, ◌<◌, ◌≤◌, ◌==◌, slice_index, Option, is_some, List, []}
+use Rattle.std.proofs.Common.{◌∷◌, length, take, Bool, true, false, not, ◌&&◌, ◌||◌, bytes_eq, refl}
+use Rattle.std.proofs.Common.{ap₂, arith}
 use Rattle.std.proofs.lemmas.Bool.{false_from_ne_true}
 use Rattle.std.proofs.lemmas.List.Folds.{list_any_at}
 use Rattle.memchr.specs.Find.{IsFirstByte, is_byte}

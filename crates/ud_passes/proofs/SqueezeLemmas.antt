@@ -1,5 +1,8 @@
 -- Squeezed texts: a line more, and a place more.
-use Rattle.std.proofs.Common.{◌≡◌, ℕ, suc, ◌+◌, ◌-◌, ◌<◌, ◌≤◌, List, [], ◌∷◌, ◌++◌, length, take, drop, take-append-drop, drop-cons, reverse, add-one, length-drop, get_or, get_or-drop, slice_range, Bool, true, false, ltb, ◌||◌, if◌then◌else◌, append_assoc, append-nil, refl, sym, ◌∙◌, ap, arith}
+use Rattle.std.proofs.Common.{◌≡◌, ℕ, suc, ◌+◌, ◌-◌, ◌<◌, ◌≤◌, List, [], ◌∷◌, ◌++◌, length, take}
+use Rattle.std.proofs.Common.{drop, take-append-drop, drop-cons, reverse, add-one, length-drop}
+use Rattle.std.proofs.Common.{get_or, get_or-drop, slice_range, Bool, true, false, ltb, ◌||◌}
+use Rattle.std.proofs.Common.{if◌then◌else◌, append_assoc, append-nil, refl, sym, ◌∙◌, ap, arith}
 use Rattle.std.proofs.lemmas.List.{reverse-append, take_more, length-map, map-append, take_all, drop_all}
 use Rattle.std.proofs.lemmas.Bool.{lt-ltb, le-ltb}
 use Rattle.std.specs.List.{concat}

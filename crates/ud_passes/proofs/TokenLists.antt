@@ -38,7 +38,8 @@ pub ruleset token_steps = (tokens_of-prepend_token)
 
 -- A text that begins with no token has none.
 pub ends_first : (text : List ℕ) → next_token text ≡ at_end → (t : Token) (tokens : List Token) → tokens_of text ≡ Some (t ∷ tokens) → ⊥
-ends_first text e t tokens f = let n : length (t ∷ tokens) ≡ 0 = (grind (arith, tokens_of-prepend_token, e, f)) in cc
+ends_first text e t tokens f =
+    let n : length (t ∷ tokens) ≡ 0 = (grind (arith, tokens_of-prepend_token, e, f)) in cc
 
 -- The token at which a list goes on.
 pub record Begins (tokens : List Token) : Type 0 where

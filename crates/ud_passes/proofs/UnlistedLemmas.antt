@@ -1,5 +1,7 @@
 -- Unlisted conditions: those of one line more, and of many text lines more.
-use Rattle.std.proofs.Common.{◌≡◌, ℕ, ◌+◌, List, [], ◌∷◌, ◌++◌, length, append_assoc, append-nil, take, drop, take-append-drop, Bool, true, false, if◌then◌else◌, refl, sym, ◌∙◌, ap, arith}
+use Rattle.std.proofs.Common.{◌≡◌, ℕ, ◌+◌, List, [], ◌∷◌, ◌++◌, length, append_assoc, append-nil}
+use Rattle.std.proofs.Common.{take, drop, take-append-drop, Bool, true, false, if◌then◌else◌, refl}
+use Rattle.std.proofs.Common.{sym, ◌∙◌, ap, arith}
 use Rattle.std.specs.List.{filter}
 use Rattle.std.proofs.lemmas.List.Elements.{filter-append}
 use Rattle.std.proofs.lemmas.List.Sums.{sum_by-append}
@@ -17,7 +19,8 @@ use Rattle.ud_passes.specs.folding.LogicalLines.{plain_lines}
 use Rattle.ud_passes.specs.declared.names.texts.File.{File}
 use Rattle.ud_passes.specs.declared.names.texts.Found.{Found}
 use Rattle.ud_passes.specs.declared.walk.Walk.{Walk}
-use Rattle.ud_passes.specs.names.UnlistedConditions.{is_unlisted_line, breaks, first_body, shown_body, listed_from}
+use Rattle.ud_passes.specs.names.UnlistedConditions.{is_unlisted_line, breaks, first_body}
+use Rattle.ud_passes.specs.names.UnlistedConditions.{shown_body, listed_from}
 use Rattle.ud_passes.specs.names.UnlistedLines.{Listed}
 use Rattle.ud_passes.proofs.RestoreLemmas.{renumbered}
 use Rattle.ud_passes.proofs.FoldLemmas.{plain_bytes}
@@ -49,7 +52,8 @@ from-append file folded n (r ∷ before) rs = let m = n + breaks folded (text_of
 -- Text lines aren't listed.
 texts_from : (file : List ℕ) (folded : Bool) (n : ℕ) (rs : List Reading) → AreTexts rs → listed_from file folded n rs ≡ []
 texts_from file folded n [] h = refl
-texts_from file folded n (r ∷ rs) h = grind (arith, texts_from file folded (n + breaks folded (text_of r.line)) rs h.1)
+texts_from file folded n (r ∷ rs) h =
+    grind (arith, texts_from file folded (n + breaks folded (text_of r.line)) rs h.1)
 
 shown_renumbered : (folded : Bool) (k : Line) (n : ℕ) → shown_body folded (record k { number = n }) ≡ shown_body folded k
 shown_renumbered true k n = grind (arith, renumbered)

@@ -1,5 +1,6 @@
 -- Hunks so far: lemmas on the hunks of the lines up to a position of the script.
-use Rattle.std.proofs.Common.{◌≡◌, ℕ, Bool, true, ◌+◌, ◌-◌, ◌<◌, ◌≤◌, List, [], ◌∷◌, ◌++◌, length, take, drop, get_or, refl, sym, ◌∙◌, ap, ap₂, subst, append-nil, arith}
+use Rattle.std.proofs.Common.{◌≡◌, ℕ, Bool, true, ◌+◌, ◌-◌, ◌<◌, ◌≤◌, List, [], ◌∷◌, ◌++◌, length}
+use Rattle.std.proofs.Common.{take, drop, get_or, refl, sym, ◌∙◌, ap, ap₂, subst, append-nil, arith}
 use Rattle.std.specs.List.{flat_map, count_by, All, AllPairs}
 use Rattle.std.proofs.lemmas.Bool.{cases_lt}
 use Rattle.std.proofs.lemmas.List.{take-append-drop, take_all, flat_map_more}
@@ -103,7 +104,8 @@ begins_in_context ls at start end m n next clear a b =
     let places : NextPlaces ls at start next.first next.last end = next_places ls at start end next in
     let within = next.within in
     let starts = next.starts in
-    let all : length (between start next.first ls) ≡ next.first - start = length-between ls start next.first places.before (omega arith) in
+    let all : length (between start next.first ls) ≡ next.first - start =
+    length-between ls start next.first places.before (omega arith) in
     let far = changes_far ls at start end next clear in record {
       kept = kept_range ls start next.first (λ k d low high inside. kept_at ls at next.first next.kept k d (omega arith) high inside);
       few = omega arith;

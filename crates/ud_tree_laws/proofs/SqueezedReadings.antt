@@ -206,7 +206,8 @@ all_read ms output =
 
 inserted_blanks : (o : Options) {rs ss : List Reading} → LinesWithInserted IsBlankLine rs ss → Blanks (items o rs) (items o ss)
 inserted_blanks o no_lines = none
-inserted_blanks o (same_line {r = r} {s = s} k w) = same (grind (arith, alike_by)) (inserted_blanks o w)
+inserted_blanks o (same_line {r = r} {s = s} k w) =
+    same (grind (arith, alike_by)) (inserted_blanks o w)
 inserted_blanks o (inserted_line {d = d} {rs = rs} {ss = ss} k w) =
     subst (λ (z : Item Reading). Blanks (items o rs) (z ∷ items o ss)) (sym (put_item o d (inl k))) (put k (inserted_blanks o w))
 

@@ -1,5 +1,7 @@
 -- An option between other arguments: what they give stays, and what the option gives comes between.
-use Rattle.std.proofs.Common.{◌≡◌, ◌≢◌, ℕ, suc, List, [], ◌∷◌, ◌++◌, Bool, true, false, ◌==◌, nat_lt, if◌then◌else◌, bytes_eq, codes, encode_utf8_all, Option, Some, None, refl, sym, ◌∙◌, ap, ap₂, append_assoc, arith}
+use Rattle.std.proofs.Common.{◌≡◌, ◌≢◌, ℕ, suc, List, [], ◌∷◌, ◌++◌, Bool, true, false, ◌==◌}
+use Rattle.std.proofs.Common.{nat_lt, if◌then◌else◌, bytes_eq, codes, encode_utf8_all, Option, Some}
+use Rattle.std.proofs.Common.{None, refl, sym, ◌∙◌, ap, ap₂, append_assoc, arith}
 use Rattle.std.specs.Str.{chars, IsUtf8, IsAscii}
 use Rattle.std.specs.List.{filter_map}
 use Rattle.std.proofs.lemmas.List.Elements.{filter_map-append}
@@ -8,13 +10,20 @@ use Rattle.std.proofs.lemmas.Str.{encodes-chars, IsUtf8-append, IsUtf8-from_asci
 use Rattle.std.proofs.lemmas.Str.Ascii.{IsAscii-nil, IsAscii-cons}
 use Rattle.ud_model.specs.text.Bytes.{hyphen, equals_sign, is_word_byte, are_word_bytes}
 use Rattle.ud_model.specs.conditions.Table.{Argument, Entry, entry_from, entry_in}
-use Rattle.ud_model.specs.answer.CommandLine.{ParsedArg, flag, option, operand, unknown, has_letter, is_flag, takes_argument, parsed_from, parsed_args, parse_symbol, symbol_named, mode_or, parse_exit_mode, mode_from, has_flag, settings_in, argument_in, options_of, argument_fault, fault_or, first_fault, usage_fault, WordGives, then_gives, letters_give, option_gives, given_next}
+use Rattle.ud_model.specs.answer.CommandLine.{ParsedArg, flag, option, operand, unknown, has_letter}
+use Rattle.ud_model.specs.answer.CommandLine.{is_flag, takes_argument, parsed_from, parsed_args}
+use Rattle.ud_model.specs.answer.CommandLine.{parse_symbol, symbol_named, mode_or, parse_exit_mode}
+use Rattle.ud_model.specs.answer.CommandLine.{mode_from, has_flag, settings_in, argument_in}
+use Rattle.ud_model.specs.answer.CommandLine.{options_of, argument_fault, fault_or, first_fault}
+use Rattle.ud_model.specs.answer.CommandLine.{usage_fault, WordGives, then_gives, letters_give}
+use Rattle.ud_model.specs.answer.CommandLine.{option_gives, given_next}
 use Rattle.ud_model.specs.answer.SymbolArguments.{is_name, name_before_equals, value_after_equals, value_or_one}
 use Rattle.ud_laws.specs.answer.OptionArguments.{AreOptions, no_options, whole_word, two_words, IsSymbolOption, defines, defines_as, undefines, AddsSymbol}
 use Rattle.ud_model.specs.declared.settings.ExitMode.{ExitMode}
 use Rattle.ud_model.proofs.answer.WordLemmas.{options_given, both_none}
 use Rattle.ud_model.proofs.output.Each.{Each, each_both}
-use Rattle.ud_laws.proofs.answer.SameArguments.{Same, given_same, flag_same, mode_same, table_same, no_fault_same}
+use Rattle.ud_laws.proofs.answer.SameArguments.{Same, given_same, flag_same, mode_same, table_same}
+use Rattle.ud_laws.proofs.answer.SameArguments.{no_fault_same}
 
 word_small : (b : ℕ) → is_word_byte b ≡ true → (nat_lt b 128 ≡ true) × ((b == equals_sign) ≡ false)
 word_small b e = grind arith
@@ -53,7 +62,8 @@ options_split (whole_word {w} {c} {cs} {args} is waits more) n =
     record {
       given = gs ++ inner.given;
       next = inner.next;
-      no_operand = each_both IsNoOperand gs inner.given (letters_none (suc n) (c ∷ cs)) inner.no_operand;
+      no_operand =
+          each_both IsNoOperand gs inner.given (letters_none (suc n) (c ∷ cs)) inner.no_operand;
       parsed = λ rest. options_given n w (args ++ rest) c cs is.no_end is.letters
           ∙ ap (λ (o : Option ℕ). gs ++ given_next o (suc n) (args ++ rest)) (waits_same (suc n) 0 (c ∷ cs) ∙ waits)
           ∙ ap (λ (hs : List ParsedArg). gs ++ hs) (inner.parsed rest)
@@ -161,7 +171,8 @@ mode_added e [] l n a f k = grind (arith, mode_same)
 mode_added e (option c i v ∷ xs) l n a f k = mode_added (if has_letter (codes "x") c then mode_or e (parse_exit_mode v) else e) xs l n a f k
 mode_added e (x ∷ xs) l n a f k = mode_added e xs l n a f k
 
-no_fault_added : (xs : List ParsedArg) → NoOperand xs → (l n : ℕ) (a : List ℕ) {hs gs : List ParsedArg} → argument_fault l n a ≡ None → Same gs hs →
+no_fault_added : (xs : List ParsedArg) → NoOperand xs →
+    (l n : ℕ) (a : List ℕ) {hs gs : List ParsedArg} → argument_fault l n a ≡ None → Same gs hs →
     first_fault (xs ++ gs) ≡ None → first_fault (xs ++ option l n a ∷ hs) ≡ None
 no_fault_added (flag c ∷ xs) h l n a f k e = no_fault_added xs h.1 l n a f k e
 no_fault_added (option c i v ∷ xs) h l n a {gs = gs} f k e =

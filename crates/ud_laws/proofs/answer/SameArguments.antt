@@ -1,8 +1,14 @@
 -- Arguments that give the same in other places: what is read of them doesn't depend on the place.
-use Rattle.std.proofs.Common.{◌≡◌, ℕ, suc, List, [], ◌∷◌, map, Bool, if◌then◌else◌, codes, Option, Some, None, is_some, refl, sym, ◌∙◌, ap, arith}
+use Rattle.std.proofs.Common.{◌≡◌, ℕ, suc, List, [], ◌∷◌, map, Bool, if◌then◌else◌, codes, Option}
+use Rattle.std.proofs.Common.{Some, None, is_some, refl, sym, ◌∙◌, ap, arith}
 use Rattle.std.specs.List.{filter_map}
 use Rattle.std.proofs.lemmas.List.{map-append}
-use Rattle.ud_model.specs.answer.CommandLine.{ParsedArg, flag, option, operand, has_letter, option_letters, operands_from, letters_give, given_next, parsed_from, mode_or, parse_exit_mode, mode_from, has_flag, argument_in, UsageFault, parse_symbol, unless_right, argument_fault, fault_or, first_fault, operand_in, name_or_stdin}
+use Rattle.ud_model.specs.answer.CommandLine.{ParsedArg, flag, option, operand, has_letter}
+use Rattle.ud_model.specs.answer.CommandLine.{option_letters, operands_from, letters_give}
+use Rattle.ud_model.specs.answer.CommandLine.{given_next, parsed_from, mode_or, parse_exit_mode}
+use Rattle.ud_model.specs.answer.CommandLine.{mode_from, has_flag, argument_in, UsageFault}
+use Rattle.ud_model.specs.answer.CommandLine.{parse_symbol, unless_right, argument_fault, fault_or}
+use Rattle.ud_model.specs.answer.CommandLine.{first_fault, operand_in, name_or_stdin}
 use Rattle.ud_model.specs.declared.settings.ExitMode.{ExitMode}
 
 -- an argument without its place

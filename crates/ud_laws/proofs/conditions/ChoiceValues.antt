@@ -1,9 +1,11 @@
 -- Choice values: what a choice of numbers gives an expression is one of the values that C may give it.
-use Rattle.std.proofs.Common.{◌≡◌, ℕ, List, Bool, true, Option, Some, None, refl, sym, subst, ℤ, arith}
+use Rattle.std.proofs.Common.{◌≡◌, ℕ, List, Bool, true, Option, Some, None, refl, sym, subst, ℤ}
+use Rattle.std.proofs.Common.{arith}
 use Rattle.std.proofs.lemmas.Bool.{or_left, or_right}
 use Rattle.ud_model.specs.conditions.Table.{Argument}
 use Rattle.ud_model.specs.conditions.Expressions.{Expression, named, is_defined}
-use Rattle.ud_model.specs.conditions.Values.{truth, name_value, name_has_u, defined_value, has_unsigned}
+use Rattle.ud_model.specs.conditions.Values.{truth, name_value, name_has_u, defined_value}
+use Rattle.ud_model.specs.conditions.Values.{has_unsigned}
 use Rattle.ud_model.specs.laws.CValues.{Number, signed, IsInRange, CValue, IsCValue}
 use Rattle.ud_model.specs.laws.CValues as may
 use Rattle.ud_model.specs.declared.amount.Amount.{Amount}

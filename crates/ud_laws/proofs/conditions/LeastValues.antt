@@ -1,7 +1,9 @@
 -- Least values: what is decided by the least value of a symbol is decided alike by each number from
 -- there on.
 use Rattle.std.proofs.lemmas.Grind.{common_steps}
-use Rattle.std.proofs.Common.{◌≡◌, ◌≢◌, ℕ, ◌==◌, List, ◌∷◌, if◌then◌else◌, Bool, true, false, Option, Some, None, is_some, option_and_then, ◌⊎◌, inl, inr, ℤ, ◌≤ℤ◌, refl, sym, ◌∙◌, ap, ap₂, subst, int_lt, arith}
+use Rattle.std.proofs.Common.{◌≡◌, ◌≢◌, ℕ, ◌==◌, List, ◌∷◌, if◌then◌else◌, Bool, true, false}
+use Rattle.std.proofs.Common.{Option, Some, None, is_some, option_and_then, ◌⊎◌, inl, inr, ℤ, ◌≤ℤ◌}
+use Rattle.std.proofs.Common.{refl, sym, ◌∙◌, ap, ap₂, subst, int_lt, arith}
 use Rattle.std.proofs.lemmas.Option.{none-some, same_Some}
 use Rattle.std.proofs.lemmas.Bool.{false≢true, eqb-true}
 use Rattle.ud_model.specs.text.Bytes.{is_identifier, starts_with_byte}
@@ -9,8 +11,13 @@ use Rattle.ud_model.specs.conditions.Table.{Argument, Entry, entry_in}
 use Rattle.ud_model.specs.conditions.Symbols.{defined_text, text_in, ResolvesTo, at_text, by_name, resolve}
 use Rattle.ud_model.specs.conditions.Expressions.{Expression, constant, unary, binary, parens}
 use Rattle.ud_model.specs.conditions.Parsing.{expression_of}
-use Rattle.ud_model.specs.conditions.Values.{fits, fit, text_value, constant_in, amount_from, end_value, end_has_u, name_value_by, name_value, name_has_u, defined_value_by, defined_value, number_of, has_unsigned, value_of}
-use Rattle.ud_model.specs.conditions.Conditions.{Rules, undefined_by, truth_of, tree_cond, tree_cond_if, expression_cond, ifdef_by, condition_of}
+use Rattle.ud_model.specs.conditions.Values.{fits, fit, text_value, constant_in, amount_from}
+use Rattle.ud_model.specs.conditions.Values.{end_value, end_has_u, name_value_by, name_value}
+use Rattle.ud_model.specs.conditions.Values.{name_has_u, defined_value_by, defined_value, number_of}
+use Rattle.ud_model.specs.conditions.Values.{has_unsigned, value_of}
+use Rattle.ud_model.specs.conditions.Conditions.{Rules, undefined_by, truth_of, tree_cond}
+use Rattle.ud_model.specs.conditions.Conditions.{tree_cond_if, expression_cond, ifdef_by}
+use Rattle.ud_model.specs.conditions.Conditions.{condition_of}
 use Rattle.ud_model.specs.declared.amount.Amount.{Amount}
 use Rattle.ud_model.specs.declared.amount.Amount.TheVariants.{Exactly, AtLeast}
 use Rattle.ud_model.specs.declared.cond.Cond.TheVariants.{Unknown}

@@ -8,8 +8,11 @@ use Rattle.ud_model.specs.conditions.Table.{Argument, entry_in}
 use Rattle.ud_model.specs.conditions.Symbols.{defined_text, text_in, ResolvesTo, at_text, by_name, resolve}
 use Rattle.ud_model.specs.conditions.Expressions.{Expression, unary, binary, parens}
 use Rattle.ud_model.specs.conditions.Parsing.{expression_of}
-use Rattle.ud_model.specs.conditions.Values.{unary_amount, binary_amount, name_value, name_value_by, name_has_u, end_has_u, defined_value, defined_value_by, number_of, has_unsigned}
-use Rattle.ud_model.specs.conditions.Conditions.{Rules, mentions_listed, calls_undefined, expression_cond}
+use Rattle.ud_model.specs.conditions.Values.{unary_amount, binary_amount, name_value, name_value_by}
+use Rattle.ud_model.specs.conditions.Values.{name_has_u, end_has_u, defined_value, defined_value_by}
+use Rattle.ud_model.specs.conditions.Values.{number_of, has_unsigned}
+use Rattle.ud_model.specs.conditions.Conditions.{Rules, mentions_listed, calls_undefined}
+use Rattle.ud_model.specs.conditions.Conditions.{expression_cond}
 use Rattle.ud_model.specs.conditions.Names.{names_in, names_in_tree}
 use Rattle.ud_model.specs.sections.Items.{Options, rules_of, item_by}
 use Rattle.ud_model.specs.answer.Listing.{names_in_content}

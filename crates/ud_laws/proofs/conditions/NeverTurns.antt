@@ -1,9 +1,14 @@
 -- Further symbols: a table with more entries leaves a known value as it is, or makes it unknown.
-use Rattle.std.proofs.Common.{◌≡◌, ◌≢◌, ℕ, List, Bool, Option, Some, None, ◌⊎◌, inl, inr, ℤ, refl, sym, subst, arith}
+use Rattle.std.proofs.Common.{◌≡◌, ◌≢◌, ℕ, List, Bool, Option, Some, None, ◌⊎◌, inl, inr, ℤ, refl}
+use Rattle.std.proofs.Common.{sym, subst, arith}
 use Rattle.ud_model.specs.conditions.Table.{Argument, Entry, entry_in}
 use Rattle.ud_model.specs.conditions.Symbols.{ResolvesTo, at_text, by_name, resolve}
 use Rattle.ud_model.specs.conditions.Expressions.{Expression, unary, binary, parens}
-use Rattle.ud_model.specs.conditions.Values.{apply_binary_known, short_circuits, apply_binary, apply_unary_known, amount_from, counted, unary_amount, binary_amount, text_value, end_value, defined_name_value, name_value_by, name_value, defined_value_by, defined_value, number_of, value_of}
+use Rattle.ud_model.specs.conditions.Values.{apply_binary_known, short_circuits, apply_binary}
+use Rattle.ud_model.specs.conditions.Values.{apply_unary_known, amount_from, counted, unary_amount}
+use Rattle.ud_model.specs.conditions.Values.{binary_amount, text_value, end_value}
+use Rattle.ud_model.specs.conditions.Values.{defined_name_value, name_value_by, name_value}
+use Rattle.ud_model.specs.conditions.Values.{defined_value_by, defined_value, number_of, value_of}
 use Rattle.ud_model.specs.conditions.Conditions.{Rules, truth_of, tree_cond}
 use Rattle.ud_laws.specs.output.ListedNames.{ExtendsTable}
 use Rattle.ud_model.specs.declared.amount.Amount.{Amount}
@@ -29,19 +34,23 @@ change_after b c o x = grind arith
 
 -- 1. One operand that decides, and both, give the same.
 
-left_decides : (s b : Bool) (o : Operator) (x y : ℤ) → After (short_circuits s o x) (apply_binary_known b o x y)
+left_decides : (s b : Bool) (o : Operator) (x y : ℤ) →
+    After (short_circuits s o x) (apply_binary_known b o x y)
 unfolding apply_binary_known
 left_decides s b o x y z e = grind arith
 
-right_decides : (s b : Bool) (o : Operator) (x y : ℤ) → After (short_circuits s o y) (apply_binary_known b o x y)
+right_decides : (s b : Bool) (o : Operator) (x y : ℤ) →
+    After (short_circuits s o y) (apply_binary_known b o x y)
 unfolding apply_binary_known
 right_decides s b o x y z e = grind arith
 
-left_back : (s b : Bool) (o : Operator) (x y : ℤ) → After (apply_binary_known b o x y) (short_circuits s o x)
+left_back : (s b : Bool) (o : Operator) (x y : ℤ) →
+    After (apply_binary_known b o x y) (short_circuits s o x)
 unfolding apply_binary_known
 left_back s b o x y z e = grind arith
 
-right_back : (s b : Bool) (o : Operator) (x y : ℤ) → After (apply_binary_known b o x y) (short_circuits s o y)
+right_back : (s b : Bool) (o : Operator) (x y : ℤ) →
+    After (apply_binary_known b o x y) (short_circuits s o y)
 unfolding apply_binary_known
 right_back s b o x y z e = grind arith
 

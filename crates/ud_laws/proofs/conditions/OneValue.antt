@@ -2,7 +2,9 @@
 use Rattle.std.proofs.Common.{◌≡◌, ℕ, List, refl, sym, subst, arith}
 use Rattle.ud_model.specs.conditions.Expressions.{Expression}
 use Rattle.ud_model.specs.laws.CValues.{Number, IsTruth, IsZero, Gives, GivesUnary, IsConstantValue}
-use Rattle.ud_laws.specs.conditions.Choices.{Choice, HasValue, of_constant, of_unary, of_binary, of_and_left, of_and_both, of_or_left, of_or_both, of_parens}
+use Rattle.ud_laws.specs.conditions.Choices.{Choice, HasValue, of_constant, of_unary, of_binary}
+use Rattle.ud_laws.specs.conditions.Choices.{of_and_left, of_and_both, of_or_left, of_or_both}
+use Rattle.ud_laws.specs.conditions.Choices.{of_parens}
 use Rattle.ud_model.specs.declared.operator.Operator.TheVariants.{Or, And}
 
 one_truth : (Holds : Type 0) (c d : Number) → IsTruth Holds c → IsTruth Holds d → c ≡ d
@@ -27,7 +29,8 @@ truths_alike x y c d e p q = one_truth (IsZero y → ⊥) c d (subst (λ n. IsTr
 -- An expression has one value at most.
 pub one_value : {e : Expression} {m : Choice e} {c : Number} → HasValue e m c → {d : Number} → HasValue e m d → c ≡ d
 one_value (of_constant {w = w} {c = c} p) (of_constant {c = d} q) = one_constant w c d p q
-one_value (of_unary {o = o} {c = c} a g) (of_unary b h) = grind (arith, (subst (λ n. GivesUnary o n c) (one_value a b) g), h)
+one_value (of_unary {o = o} {c = c} a g) (of_unary b h) =
+    grind (arith, (subst (λ n. GivesUnary o n c) (one_value a b) g), h)
 one_value (of_binary a b g) (of_binary f k h) = grind (arith, one_value b k, one_value a f)
 one_value (of_binary a b g) h = grind (arith, no_and, no_or)
 one_value h (of_binary a b g) = grind (arith, no_and, no_or)

@@ -1,7 +1,10 @@
 -- Refining: an operator gives at least as much where more is known of its operands.
-use Rattle.std.proofs.Common.{◌≡◌, Bool, true, false, Option, Some, ◌⊎◌, inl, inr, ℤ, pos, ◌≤ℤ◌, sym, ◌∙◌, ap, subst, arith}
+use Rattle.std.proofs.Common.{◌≡◌, Bool, true, false, Option, Some, ◌⊎◌, inl, inr, ℤ, pos, ◌≤ℤ◌}
+use Rattle.std.proofs.Common.{sym, ◌∙◌, ap, subst, arith}
 use Rattle.std.proofs.lemmas.Option.{none-some}
-use Rattle.ud_model.specs.conditions.Values.{apply_binary_known, short_circuit, short_circuits, apply_binary, apply_unary, amount_from, counted, mirrored, unary_amount, binary_amount}
+use Rattle.ud_model.specs.conditions.Values.{apply_binary_known, short_circuit, short_circuits}
+use Rattle.ud_model.specs.conditions.Values.{apply_binary, apply_unary, amount_from, counted}
+use Rattle.ud_model.specs.conditions.Values.{mirrored, unary_amount, binary_amount}
 use Rattle.ud_model.specs.declared.amount.Amount.{Amount}
 use Rattle.ud_model.specs.declared.amount.Amount.TheVariants.{Anything, Exactly, AtLeast}
 use Rattle.ud_model.specs.declared.operator.Operator.{Operator}
@@ -54,7 +57,8 @@ Chosen a b = (k : ℤ) × From a k × ((o : Operator) (d e : Amount) → Refines
 chosen : (a b : Amount) → Refines a b → Chosen a b
 chosen Anything b h = (pos 0, tt, λ o d e i z f. absurd (none-some z f))
 chosen (Exactly z) b h = (pos 0, tt, λ o d e i y f. ap (λ (c : Amount). counted o c e) h ∙ f)
-chosen (AtLeast n) b (inl h) = (n, grind arith, λ o d e i z f. ap (λ (c : Amount). counted o c e) h ∙ stays o d e z i f)
+chosen (AtLeast n) b (inl h) =
+    (n, grind arith, λ o d e i z f. ap (λ (c : Amount). counted o c e) h ∙ stays o d e z i f)
   where
     stays : (o : Operator) (d e : Amount) (z : ℤ) → Refines d e → numbered o (AtLeast n) d n ≡ Some z → counted o (AtLeast n) e ≡ Some z
     stays o d e z i f = grind arith

@@ -127,7 +127,8 @@ module _ (strict : Bool) (x y : Residual) (m : Choice x.tree) (k : Choice y.tree
             Tells (joined_if b d And (settled strict And x.cond y.cond) x y)
             (one_or_both b d And (settled strict And x.cond y.cond) x y m k) c
         by true d e = one_tells y k w c s (truth_same w c g)
-        by false true e = one_tells x m v c t (neither (λ z. s.yes (grind arith) ((truth_same w c g).0 z)) n)
+        by false true e =
+            one_tells x m v c t (neither (λ z. s.yes (grind arith) ((truth_same w c g).0 z)) n)
         by false false e = record {
           yes = λ f. absurd (grind arith);
           no = λ f. grind arith;
@@ -160,10 +161,12 @@ module _ (table : List Argument) (rules : Rules) where
   tells h (of_name {n = n} {arguments = arguments} {c = c}) = by_itself table rules (named n arguments) (for_name c) c h of_name
   tells h (of_defined {n = n} {p = p} {b = b}) = by_itself table rules (is_defined n p) (for_defined b) (signed (truth b)) h of_defined
   tells h (of_unary {o = Not} {a = a} {m = m} {x = x} {c = c} d g) = not_tells (residual table rules a) (stay table rules m) x c (tells h d) g
-  tells h (of_unary {o = o} {a = a} {m = m} {c = c} d g) = by_itself table rules (unary o a) (for_unary m) c h (of_unary d g)
+  tells h (of_unary {o = o} {a = a} {m = m} {c = c} d g) =
+      by_itself table rules (unary o a) (for_unary m) c h (of_unary d g)
   tells h (of_binary {o = And} {x = x} {y = y} {c = c} d f g) = absurd (no_and x y c g)
   tells h (of_binary {o = Or} {x = x} {y = y} {c = c} d f g) = absurd (no_or x y c g)
-  tells h (of_binary {o = o} {a = a} {b = b} {m = m} {k = k} {c = c} d f g) = by_itself table rules (binary o a b) (for_binary m k) c h (of_binary d f g)
+  tells h (of_binary {o = o} {a = a} {b = b} {m = m} {k = k} {c = c} d f g) =
+      by_itself table rules (binary o a b) (for_binary m k) c h (of_binary d f g)
   tells h (of_and_left d z) = grind (arith, and_left, tells h.0 d)
   tells h (of_and_both d n f g) = grind (arith, and_both, tells h.0 d, tells h.1 f)
   tells h (of_or_left d n) = grind (arith, or_left, tells h.0 d)

@@ -28,7 +28,9 @@ module _ (table : List Argument) where
     -- The numbers that stay are allowed.
     pub stay_allowed : {e : Expression} (m : Choice e) → IsAllowed table m → IsAllowed table (stay table rules m)
     stay_allowed (for_unary {o = Not} m) p = stay_allowed m p
-    stay_allowed (for_binary {o = And} m k) p = grind (arith, one_allowed, left, stay_allowed m p.0, stay_allowed k p.1)
-    stay_allowed (for_binary {o = Or} m k) p = grind (arith, one_allowed, left, stay_allowed m p.0, stay_allowed k p.1)
+    stay_allowed (for_binary {o = And} m k) p =
+        grind (arith, one_allowed, left, stay_allowed m p.0, stay_allowed k p.1)
+    stay_allowed (for_binary {o = Or} m k) p =
+        grind (arith, one_allowed, left, stay_allowed m p.0, stay_allowed k p.1)
     stay_allowed (for_parens {a = a} m) p = bare_allowed ((left a).lost && stands_alone (left a).tree) (left a) (stay table rules m) (stay_allowed m p)
     stay_allowed m h = grind arith

@@ -50,4 +50,5 @@ pub data LooserItem : Item Reading → Item Reading → Type 0 where
 
 -- Under `-K` a line is the same item, but for an unknown condition.
 pub item_loose : (o : Options) (r : Reading) → LooserItem (item_of (under_strict o) r) (item_of o r)
-item_loose o r = grind (arith, an_if, an_elif, an_else, an_endif, expression_loose, alike, same_decision, a_text)
+item_loose o r =
+    grind (arith, an_if, an_elif, an_else, an_endif, expression_loose, alike, same_decision, a_text)

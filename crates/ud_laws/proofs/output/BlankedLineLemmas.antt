@@ -1,7 +1,8 @@
 -- Under `-b` each line of the output has the position of the line that it is the output for.
 use Rattle.std.proofs.Common.{◌≡◌, ◌≢◌, None, append-nil, ℕ, suc, List, [], ◌∷◌, ◌++◌, map, Bool, true, false, ◌⊎◌, inl, inr, Option, refl, sym, ◌∙◌, ap, ap₂, subst, arith, rules}
 use Rattle.std.specs.List.{concat}
-use Rattle.ud_model.specs.text.Lines.{Line, line_at, lines_of, texts_of, numbered_from, ending_of, IsWhole, IsUnterminated, AreWhole, AreFormed, partial_line}
+use Rattle.ud_model.specs.text.Lines.{Line, line_at, lines_of, texts_of, numbered_from, ending_of}
+use Rattle.ud_model.specs.text.Lines.{IsWhole, IsUnterminated, AreWhole, AreFormed, partial_line}
 use Rattle.ud_model.specs.text.Scans.{Reading}
 use Rattle.ud_model.specs.sections.Directives.{Span}
 use Rattle.ud_model.specs.sections.Tree.{Item, Tree}
@@ -11,7 +12,8 @@ use Rattle.ud_model.specs.sections.Faults.{Fault}
 use Rattle.ud_model.specs.answer.Printing.{Judged, piece_by, piece_alone, piece_after, pieces_by, judged_lines}
 use Rattle.ud_model.specs.answer.Outcomes.{Outcome, ReadsAs, HasOutcome, ran_as}
 use Rattle.ud_model.specs.answer.Outcomes.ReadsAs.{stops, ends}
-use Rattle.ud_laws.specs.output.BlankedLines.{complemented_if, blanked, AreBlankedLines, no_line, one_line, lost_line}
+use Rattle.ud_laws.specs.output.BlankedLines.{complemented_if, blanked, AreBlankedLines, no_line}
+use Rattle.ud_laws.specs.output.BlankedLines.{one_line, lost_line}
 use Rattle.ud_model.specs.declared.settings.Listing.TheVariants.{Off}
 use Rattle.ud_model.specs.declared.verdict.Verdict.{Verdict}
 use Rattle.ud_model.specs.declared.verdict.Verdict.TheVariants.{Remove}
@@ -111,7 +113,8 @@ unended_placed c j n t e w = by_verdict (goes_or_left (complemented_if c j).verd
           pieces = blanked c j ∷ [];
           formed = inr (subst IsUnterminated (sym is) (unended_piece false v k n t h w));
           same = refl;
-          places = one_line j (line_at n (blanked c j)) [] [] (search (rules, text_of-line_at)) no_line;
+          places =
+              one_line j (line_at n (blanked c j)) [] [] (search (rules, text_of-line_at)) no_line;
         }
 
 all_placed : (c : Bool) (js : List Judged) (n : ℕ) (ts : List (List ℕ)) → map (λ (j : Judged). j.line) js ≡ numbered_from n ts → AreFormed ts → Places c js n

@@ -33,7 +33,9 @@ use Rattle.ud_model.proofs.output.PrintedPruned.{printed-append}
 use Rattle.ud_model.proofs.output.RereadLaws.{left_piece, item_bytes}
 use Rattle.ud_model.proofs.output.RereadMore.{last_removed as last_removed_mark, Again, Between, Carry, alike, gone, IsLine, start}
 use Rattle.ud_model.proofs.output.RereadStep.{More, the_more, step, plain_run, stayed_alone, goes_or_left, left_stays}
-use Rattle.ud_laws.proofs.output.Inserting.{Weave, line_after, with_line, are_more, put, put_lone, left, left_seen, lines_last, read_once, piece_of, gone_blank, gone_nothing, removed_last}
+use Rattle.ud_laws.proofs.output.Inserting.{Weave, line_after, with_line, are_more, put, put_lone}
+use Rattle.ud_laws.proofs.output.Inserting.{left, left_seen, lines_last, read_once, piece_of}
+use Rattle.ud_laws.proofs.output.Inserting.{gone_blank, gone_nothing, removed_last}
 
 -- 1. The positions at which lines are inserted.
 

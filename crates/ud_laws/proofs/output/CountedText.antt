@@ -1,5 +1,6 @@
 -- The lines of a text under `-n` and `-b`, counted from the first to the last.
-use Rattle.std.proofs.Common.{◌≡◌, ℕ, suc, ◌+◌, ◌≤◌, List, [], ◌∷◌, ◌++◌, length, map, Bool, true, false, ◌||◌, Option, refl, sym, ◌∙◌, ap, subst, arith}
+use Rattle.std.proofs.Common.{◌≡◌, ℕ, suc, ◌+◌, ◌≤◌, List, [], ◌∷◌, ◌++◌, length, map, Bool, true}
+use Rattle.std.proofs.Common.{false, ◌||◌, Option, refl, sym, ◌∙◌, ap, subst, arith}
 use Rattle.std.specs.List.{concat}
 use Rattle.std.proofs.lemmas.List.{map-append, length-map}
 use Rattle.ud_model.specs.text.Lines.{Line, lines_of, numbered_from, AreFormed}

@@ -1,6 +1,7 @@
 -- A flag before other arguments sets its setting, and what these give stays.
 use Rattle.std.proofs.Common.{◌≡◌, ℕ, List, ◌∷◌, Bool, true, false, None, codes, refl, ◌∙◌, ap, arith}
-use Rattle.ud_laws.proofs.answer.SameArguments.{Same, given_same, table_same, no_fault_same, name_same, flag_same, mode_same}
+use Rattle.ud_laws.proofs.answer.SameArguments.{Same, given_same, table_same, no_fault_same}
+use Rattle.ud_laws.proofs.answer.SameArguments.{name_same, flag_same, mode_same}
 use Rattle.std.specs.Str.{chars}
 use Rattle.std.specs.List.{filter_map}
 use Rattle.std.proofs.Math.Bool.{or-true}

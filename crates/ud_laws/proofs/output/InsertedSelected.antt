@@ -1,5 +1,6 @@
 -- The selected lines of nodes with inserted lines are the same, with inserted ones.
-use Rattle.std.proofs.Common.{◌≡◌, ℕ, suc, List, [], ◌∷◌, ◌++◌, length, map, Bool, Option, Some, None, refl, ap, subst, append-nil, arith}
+use Rattle.std.proofs.Common.{◌≡◌, ℕ, suc, List, [], ◌∷◌, ◌++◌, length, map, Bool, Option, Some}
+use Rattle.std.proofs.Common.{None, refl, ap, subst, append-nil, arith}
 use Rattle.std.proofs.lemmas.List.{map-append, length-map}
 use Rattle.ud_model.specs.text.Scans.{Reading}
 use Rattle.ud_model.specs.sections.Tree.{Nodes, Groups, Elifs}

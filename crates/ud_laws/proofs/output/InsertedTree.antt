@@ -1,5 +1,6 @@
 -- Inserted lines are text lines, so the tree stays as it is, with them.
-use Rattle.std.proofs.Common.{◌≡◌, ℕ, List, [], ◌∷◌, ◌++◌, map, inl, inr, sym, ap, subst, append-nil, arith}
+use Rattle.std.proofs.Common.{◌≡◌, ℕ, List, [], ◌∷◌, ◌++◌, map, inl, inr, sym, ap, subst}
+use Rattle.std.proofs.Common.{append-nil, arith}
 use Rattle.std.proofs.lemmas.List.{map-append}
 use Rattle.ud_model.specs.text.Scans.{Reading}
 use Rattle.ud_model.specs.sections.Directives.{Content, text as text_content, content_of}
@@ -8,7 +9,8 @@ use Rattle.ud_model.specs.sections.Items.{Options, item_of, item_by}
 use Rattle.ud_model.specs.answer.Printing.{Judged}
 use Rattle.ud_laws.specs.output.InsertedLines.{IsPrinted, Counted, no_line, goes, blanked, counts_on, starts_anew}
 use Rattle.ud_laws.specs.output.InsertedNodes.{IsSame, IsSameOpener, IsInserted, NodesWithInserted, no_nodes, same_text, inserted_text, same_section, GroupsWithInserted, all_conditional, last_otherwise, ElifsWithInserted, same_first, same_elif}
-use Rattle.ud_model.proofs.output.WovenTrees.{Woven, Strewn, none, same, put, strewn_both, weave_nodes}
+use Rattle.ud_model.proofs.output.WovenTrees.{Woven, Strewn, none, same, put, strewn_both}
+use Rattle.ud_model.proofs.output.WovenTrees.{weave_nodes}
 
 -- 1. Items.
 
@@ -27,7 +29,8 @@ Inserted ys zs = Strewn ItemAlike IsInserted ys zs
 inserted_both : {ys zs vs ws : List (Item Reading)} → Inserted ys zs → Inserted vs ws → Inserted (ys ++ vs) (zs ++ ws)
 inserted_both a b = strewn_both ItemAlike IsInserted a b
 
-pub alike_by : (o : Options) (r s : Reading) (c : Content) → IsSame r s → ItemAlike (item_by o r c) (item_by o s c)
+pub alike_by : (o : Options) (r s : Reading) (c : Content) → IsSame r s →
+    ItemAlike (item_by o r c) (item_by o s c)
 alike_by o r s c h = grind (arith, a_text, an_if, an_elif, an_else, an_endif)
 
 text_is : (d : Reading) → IsInserted d → content_of d.scan ≡ text_content

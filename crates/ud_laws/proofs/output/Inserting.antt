@@ -103,7 +103,8 @@ module _ (o : Options) (m : Mode) (ys zs : List (Item Reading)) (qs : List (List
   left_by : (k : Mode) → m ≡ k → ReadIn o m ys → (n : ℕ) (q : List ℕ) → ending_of q ≢ [] →
       Weave o m (with_line o m ys (line_at n q)) (with_line o m zs (line_after qs q)) (qs ++ q ∷ [])
   left_by Plain e a n q h =
-      let g = in_plain (with_line o m zs (line_after qs q)) e (one_read zs w.read (line_after qs q)) in
+      let g =
+      in_plain (with_line o m zs (line_after qs q)) e (one_read zs w.read (line_after qs q)) in
       record {
         place = in_text;
         white = true;

@@ -1,6 +1,7 @@
 -- The logical lines of a text without long directives have the nodes of its lines, and are processed
 -- as these are.
-use Rattle.std.proofs.Common.{rules, ◌&&◌, if◌then◌else◌, ◌≡◌, ℕ, List, [], ◌∷◌, ◌++◌, map, Bool, true, false, refl, sym, ◌∙◌, ap, ap₂, subst, append-nil, arith}
+use Rattle.std.proofs.Common.{rules, ◌&&◌, if◌then◌else◌, ◌≡◌, ℕ, List, [], ◌∷◌, ◌++◌, map, Bool}
+use Rattle.std.proofs.Common.{true, false, refl, sym, ◌∙◌, ap, ap₂, subst, append-nil, arith}
 use Rattle.std.proofs.lemmas.Bool.{or_parts}
 use Rattle.std.proofs.lemmas.List.{map-append}
 use Rattle.std.specs.List.{flat_map, list_any}
@@ -17,7 +18,9 @@ use Rattle.ud_model.proofs.sections.Soundness.{read_lines}
 use Rattle.ud_model.specs.declared.kind.Mode.TheVariants.{C}
 use Rattle.ud_simplified.specs.FoldedTexts.{is_directive, logical_lines, unnumbered, CLine, directive_line, other_lines, c_line_by, c_line, c_lines, c_line_in, folded_bytes, folded_line, folded_lines, folded_text, has_tab, is_foldable}
 use Rattle.ud_model.specs.aids.ReadAs.{read_as}
-use Rattle.ud_laws.specs.output.LogicalProcessing.{HasNoLong, is_long, unknown_opener, role_item, line_items, IsCTree, condition_of, over_logical_lines}
+use Rattle.ud_laws.specs.output.LogicalProcessing.{HasNoLong, is_long, unknown_opener, role_item}
+use Rattle.ud_laws.specs.output.LogicalProcessing.{line_items, IsCTree, condition_of}
+use Rattle.ud_laws.specs.output.LogicalProcessing.{over_logical_lines}
 use Rattle.ud_model.specs.laws.WrittenConditions.{Condition, condition_on}
 use Rattle.ud_laws.specs.output.Processing.{Preprocessor, over_readings}
 use Rattle.ud_model.specs.laws.Pruned.{EachLine, GroupLines, ElifLines}
@@ -158,7 +161,8 @@ LinesShort ns = EachLine IsText IsShort ns
 module _ (o : Options) (p : IsPlainC o) where
   items_there : (rs : List Reading) → map (item_with c_one) (map unknown_item (map (item_of o) rs)) ≡ map c_item rs
   items_there [] = refl
-  items_there (r ∷ rs) = ap₂ (λ (x : Item CLine) (xs : List (Item CLine)). x ∷ xs) (grind arith) (items_there rs)
+  items_there (r ∷ rs) =
+      ap₂ (λ (x : Item CLine) (xs : List (Item CLine)). x ∷ xs) (grind arith) (items_there rs)
 
   -- The nodes of the logical lines.
   pub c_nodes_of : (bytes : List ℕ) → HasNoLong bytes → (ns : Nodes Reading) → IsTreeOf o bytes (closed ns) → IsCTree bytes (c_nodes ns)

@@ -1,5 +1,6 @@
 -- If each state gives each name a number, these numbers decide conditions as C may, and stay.
-use Rattle.std.proofs.Common.{◌≡◌, ℕ, List, Bool, true, false, if◌then◌else◌, map, Option, Some, None, refl, sym, ◌∙◌, ap, subst, arith}
+use Rattle.std.proofs.Common.{◌≡◌, ℕ, List, Bool, true, false, if◌then◌else◌, map, Option, Some}
+use Rattle.std.proofs.Common.{None, refl, sym, ◌∙◌, ap, subst, arith}
 use Rattle.ud_model.specs.text.Lexemes.{Cell, shown}
 use Rattle.ud_model.specs.conditions.Table.{Argument}
 use Rattle.ud_model.specs.conditions.Expressions.{Expression, constant, named, is_defined, unary, binary, parens}
@@ -7,7 +8,8 @@ use Rattle.ud_model.specs.conditions.Conditions.{Rules}
 use Rattle.ud_model.specs.laws.CValues.{Number}
 use Rattle.ud_model.specs.aids.Residuals.{Residual, joined_if, residual}
 use Rattle.ud_simplified.specs.ResidualTexts.{simplified_cells}
-use Rattle.ud_laws.specs.conditions.Choices.{Choice, for_unary, IsAllowed, one_or_both, bare_or_not, stay}
+use Rattle.ud_laws.specs.conditions.Choices.{Choice, for_unary, IsAllowed, one_or_both, bare_or_not}
+use Rattle.ud_laws.specs.conditions.Choices.{stay}
 use Rattle.ud_model.specs.conditions.Parsing.{expression_of}
 use Rattle.ud_laws.specs.output.CSelection.{MayBe}
 use Rattle.ud_laws.specs.output.Processing.{expression_written, DecidesAsC}

@@ -12,7 +12,9 @@ use Rattle.ud_model.specs.declared.verdict.Verdict.TheVariants.{Keep}
 use Rattle.ud_model.specs.sections.Tree.{Item, Opener, Nodes, Groups, Elifs, text_line, if_line, elif_line, else_line, endif_line, nothing, text, section, conditional, otherwise, first, elif, closed, lines_of_nodes, lines_of_groups, lines_of_elifs}
 use Rattle.ud_model.specs.sections.Pruning.{marks, Mark}
 use Rattle.ud_model.specs.sections.Items.{reading_of, line_of}
-use Rattle.ud_model.specs.laws.Worlds.{World, lines_or, where_true, selected, selected_groups, selected_elifs, openers, Agrees, AgreesWith, EachReached, GroupsReached, ElifsReached, openers_in}
+use Rattle.ud_model.specs.laws.Worlds.{World, lines_or, where_true, selected, selected_groups}
+use Rattle.ud_model.specs.laws.Worlds.{selected_elifs, openers, Agrees, AgreesWith, EachReached}
+use Rattle.ud_model.specs.laws.Worlds.{GroupsReached, ElifsReached, openers_in}
 use Rattle.ud_model.specs.laws.Pruned.{Edited, edited, pruned_lines, IsUnknown, kept_line, printed, IsUndecided, Any, EachLine, GroupLines, ElifLines}
 use Rattle.ud_laws.specs.output.LiveLines.{text_lines_in, AreThose, none_is, this_is, this_is_not, IsLive, AreLive, text_line_of}
 use Rattle.ud_model.proofs.output.Folded.{folded}
@@ -20,7 +22,9 @@ use Rattle.ud_model.proofs.output.PrintedPruned.{printed-pruned}
 use Rattle.ud_model.proofs.output.PrunedTree.{openers_lines}
 use Rattle.ud_model.proofs.output.SelectedPruned.{out_world, Fits, selected-pruned}
 use Rattle.ud_model.proofs.output.Undecided.{pruned_undecided}
-use Rattle.ud_laws.proofs.output.SelectedSomewhere.{none_there, Truths, text_lines_append, selected_somewhere, weaker, any_truths, one_truth, both_truths}
+use Rattle.ud_laws.proofs.output.SelectedSomewhere.{none_there, Truths, text_lines_append}
+use Rattle.ud_laws.proofs.output.SelectedSomewhere.{selected_somewhere, weaker, any_truths}
+use Rattle.ud_laws.proofs.output.SelectedSomewhere.{one_truth, both_truths}
 use Rattle.ud_model.proofs.output.WorldsExist.{Rise, rise_from, world_by}
 use Rattle.ud_model.specs.declared.cond.Cond.{Cond}
 use Rattle.ud_model.specs.declared.cond.Cond.TheVariants.{Yes, Unknown}

@@ -1,5 +1,7 @@
 -- The presumed numbers of an output under `-n` or `-b` are those that the count of its lines gives.
-use Rattle.std.proofs.Common.{◌≡◌, ℕ, suc, ◌+◌, ◌%◌, ◌<◌, ◌≤◌, ◌^◌, List, [], ◌∷◌, ◌++◌, Bool, true, false, not, ◌&&◌, Some, None, is_some, if◌then◌else◌, codes, decimal, inl, ◌⊎◌, refl, sym, ◌∙◌, ap, append_assoc, arith}
+use Rattle.std.proofs.Common.{◌≡◌, ℕ, suc, ◌+◌, ◌%◌, ◌<◌, ◌≤◌, ◌^◌, List, [], ◌∷◌, ◌++◌, Bool, true}
+use Rattle.std.proofs.Common.{false, not, ◌&&◌, Some, None, is_some, if◌then◌else◌, codes, decimal}
+use Rattle.std.proofs.Common.{inl, ◌⊎◌, refl, sym, ◌∙◌, ap, append_assoc, arith}
 use Rattle.std.proofs.lemmas.Fmt.{decimal_by_steps, decimal_injective}
 use Rattle.std.proofs.lemmas.List.{same_from_push}
 use Rattle.ud_model.specs.text.Bytes.{is_white, skip_white}

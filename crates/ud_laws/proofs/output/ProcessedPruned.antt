@@ -125,8 +125,10 @@ module _ {S F L : Type 0} (p : Preprocessor S F L) (files : F → Nodes L) (outp
 
   -- No group is processed.
   none_processed : {es : Elifs L} {s t : S} → ElifsRight p es → NoneTrue p es s t → LeftNone (kept_elifs_of es) s t
-  none_processed r (first_false {o = o} {ns = ns} {s = s} {t = t} d) = grind (arith, first_false, absurd, elif_false)
-  none_processed r (elif_false h d) = grind (arith, first_false, absurd, elif_false, none_processed r.0 h)
+  none_processed r (first_false {o = o} {ns = ns} {s = s} {t = t} d) =
+      grind (arith, first_false, absurd, elif_false)
+  none_processed r (elif_false h d) =
+      grind (arith, first_false, absurd, elif_false, none_processed r.0 h)
 
   none_same : {es : Elifs L} {s t : S} → NoneTrue p es s t → NoneTrue out (elifs_with_lines (edited Keep) es) s t
   none_same (first_false d) = first_false d

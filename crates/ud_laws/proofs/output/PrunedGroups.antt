@@ -7,9 +7,14 @@ use Rattle.ud_model.specs.declared.cond.Cond.TheVariants.{Yes, No, Unknown}
 use Rattle.ud_model.specs.declared.verdict.Verdict.{Verdict}
 use Rattle.ud_model.specs.declared.verdict.Verdict.TheVariants.{Keep, Remove, ToElse}
 use Rattle.ud_model.specs.sections.Tree.{Item, Opener, Nodes, Groups, Elifs, text_line, if_line, elif_line, else_line, endif_line, nothing, text, section, conditional, otherwise, first, elif, lines_of_nodes, lines_of_groups, lines_of_elifs}
-use Rattle.ud_model.specs.sections.Pruning.{Part, an_if, an_elif, an_else, is_kept, gives_way, opener_verdict, first_kept_verdict, endif_verdict, conds_of_elifs, conds_of_groups}
+use Rattle.ud_model.specs.sections.Pruning.{Part, an_if, an_elif, an_else, is_kept, gives_way}
+use Rattle.ud_model.specs.sections.Pruning.{opener_verdict, first_kept_verdict, endif_verdict}
+use Rattle.ud_model.specs.sections.Pruning.{conds_of_elifs, conds_of_groups}
 use Rattle.ud_model.specs.laws.Pruned.{Edited, edited, edited_opener, kept_line, IsPruned, Group, group, groups_of_elifs, groups_of, is_kept_group, left_of, others_left, IsEndif, ArePruned, no_nodes, text_stays, gives_way_to, section_stays, AreOfFirst, no_group, of_later, of_this, AreKept, no_groups, without, with_this}
-use Rattle.ud_model.proofs.sections.Stages.{Stage, leading, given, going, at_true, past, stage, stage_inside, next_stage, verdict_at, kept_at, endif_at, verdict_by_stage, kept_by_stage, stage_next, endif_by_stage}
+use Rattle.ud_model.proofs.sections.Stages.{Stage, leading, given, going, at_true, past, stage}
+use Rattle.ud_model.proofs.sections.Stages.{stage_inside, next_stage, verdict_at, kept_at, endif_at}
+use Rattle.ud_model.proofs.sections.Stages.{verdict_by_stage, kept_by_stage, stage_next}
+use Rattle.ud_model.proofs.sections.Stages.{endif_by_stage}
 use Rattle.ud_model.proofs.output.Each.{Each, each_both}
 use Rattle.ud_model.proofs.output.Folded.{KeptGroups, none_kept, replaced, kept_groups, ended, with_group, with_else, then_kept, folded, kept_groups_of, kept_elifs_of}
 use Rattle.ud_model.proofs.output.PrintedPruned.{stage_of, lines_then, elifs_printed, groups_printed}
@@ -32,7 +37,8 @@ way_by_stage cs = grind (arith, inside_way)
 
 -- An opener has the verdict of its stage if its section stays, and would stay without the groups
 -- after its own.
-verdict_on : (all cs : List Cond) (s : Stage) → gives_way all ≡ false → stage cs ≡ s → (part : Part) (c : Cond) →
+verdict_on : (all cs : List Cond) (s : Stage) → gives_way all ≡ false → stage cs ≡ s →
+    (part : Part) (c : Cond) →
     way_at (next_stage s c) ≡ false → opener_verdict all cs part c ≡ verdict_at s part c
 verdict_on all cs s g e part c w =
     let n : gives_way (cs ++ c ∷ []) ≡ false = way_by_stage (cs ++ c ∷ [])
@@ -137,7 +143,8 @@ module _ {L : Type 0} where
       (cs : List Cond) (gs : List (Group L)) → stage cs ≡ leading → Leaves gs none_kept → (c : Cond) (ns : Nodes L) (ps : Nodes (Edited L)) → ArePruned ns ps →
       Leaves (gs ++ group part cs c x ns ∷ []) (with_group none_kept part o c ps)
   start_leaves part x o e cs gs s h Yes ns ps p = none_then gs (group part cs Yes x ns ∷ []) ps h.0 (of_this (kept_on cs Yes leading s) p)
-  start_leaves part x o e cs gs s h No ns ps p = grind (arith, each_both, others_then, false_verdict)
+  start_leaves part x o e cs gs s h No ns ps p =
+      grind (arith, each_both, others_then, false_verdict)
   start_leaves part x o e cs gs s h Unknown ns ps p =
       λ all stays. one_kept all cs leading stays s part Unknown x ns refl refl
       (group an_if [] o.cond (if_line (edited_opener (first_kept_verdict part) o)) ps) e p

@@ -33,7 +33,8 @@ module _ {L K M : Type 0} (f : L → M) (g : K → M) (v : World L) (w : World K
   Other p = R (g p.line) (w p.line)
 
   as_other : {m n : M} {a b : Bool} → m ≡ n → a ≡ b → R n b → R m a
-  as_other {m} {n} {a} e t h = subst (λ (k : M). R k a) (sym e) (subst (λ (c : Bool). R n c) (sym t) h)
+  as_other {m} {n} {a} e t h =
+      subst (λ (k : M). R k a) (sym e) (subst (λ (c : Bool). R n c) (sym t) h)
 
   -- No group is processed of the one if none is of the other.
   none_alike : (es : Elifs L) (ds : Elifs K) → elifs_with_lines f es ≡ elifs_with_lines g ds → map v (openers_of_elifs es) ≡ map w (openers_of_elifs ds) →

@@ -26,7 +26,9 @@ use Rattle.ud_simplified.proofs.SimplifiedReadings.{IsLeft, ReadingSimplified, r
 use Rattle.std.specs.List.{list_any}
 use Rattle.ud_simplified.specs.Sublists.{IsSublist, nothing, without, with_same}
 use Rattle.ud_model.specs.aids.ReadAs.{read_in, read_as}
-use Rattle.ud_laws.specs.output.LeftOperands.{IsReduced, IsSimplified, joins_line, not_understood, has_quote, decided, rest_decided, rest_misread, line_misread, HasNoUnit}
+use Rattle.ud_laws.specs.output.LeftOperands.{IsReduced, IsSimplified, joins_line, not_understood}
+use Rattle.ud_laws.specs.output.LeftOperands.{has_quote, decided, rest_decided, rest_misread}
+use Rattle.ud_laws.specs.output.LeftOperands.{line_misread, HasNoUnit}
 use Rattle.ud_model.specs.declared.kind.Kind.{Kind}
 use Rattle.ud_model.specs.declared.kind.Test.TheVariants.{Nonzero, Nothing}
 use Rattle.ud_model.specs.declared.kind.Mode.TheVariants.{C}
@@ -217,7 +219,8 @@ module _ (table : List Argument) (rules : Rules) where
               let f = is_some (sym w ∙ ap (λ (cs : List Cell). expression_of (map shown cs)) (sym b ∙ a ∙ cells_are) ∙ tree_is) in
               fixed_reduced table rules e f (and_parts (is_unknown (residual table rules e).cond) (is_unknown (tree_cond (residual table rules e).tree table rules)) u).0
 
-        by_text : may_go table rules e cells ≡ true → is_undecided table rules (residual table rules e) ≡ true →
+        by_text : may_go table rules e cells ≡ true →
+            is_undecided table rules (residual table rules e) ≡ true →
             (m z : Bool) → is_read table rules e rest ≡ m → is_read_alone table rules r.line d ≡ z → Reason
         by_text g u false z a b = inl (rest_misread e p a)
         by_text g u true false a b = inl (line_misread b)

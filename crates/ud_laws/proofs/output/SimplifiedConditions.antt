@@ -14,7 +14,8 @@ use Rattle.ud_model.specs.declared.kind.Test.TheVariants.{Nonzero, Nothing}
 use Rattle.ud_simplified.specs.SimplifiedTexts.{condition_cells, is_closing, left_line}
 use Rattle.ud_model.specs.declared.kind.Kind.{Kind}
 use Rattle.ud_model.specs.declared.kind.Mode.TheVariants.{C}
-use Rattle.ud_simplified.proofs.SimplifiedLines.{SameKind, both_if, both_elif, IsEdited, after_is, after_left}
+use Rattle.ud_simplified.proofs.SimplifiedLines.{SameKind, both_if, both_elif, IsEdited, after_is}
+use Rattle.ud_simplified.proofs.SimplifiedLines.{after_left}
 
 module _ (table : List Argument) (rules : Rules) where
   -- `k` has the condition of the line `l`, or the rest of it.

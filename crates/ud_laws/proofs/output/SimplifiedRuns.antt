@@ -43,7 +43,8 @@ use Rattle.ud_laws.proofs.output.InsertedText.{items_are}
 use Rattle.ud_simplified.proofs.SimplifiedLineTexts.{lines_left, line_bytes}
 use Rattle.ud_laws.proofs.output.SimplifiedTree.{Like, GroupsLike, ElifsLike, simplified_tree}
 use Rattle.ud_laws.proofs.output.InsertedTree.{items}
-use Rattle.ud_simplified.proofs.SimplifiedLines.{SameKind, both_if, both_elif, becomes, after_is, after_left}
+use Rattle.ud_simplified.proofs.SimplifiedLines.{SameKind, both_if, both_elif, becomes, after_is}
+use Rattle.ud_simplified.proofs.SimplifiedLines.{after_left}
 use Rattle.ud_simplified.proofs.SimplifiedReadings.{IsLeft, ReadingSimplified, reading_stays, reading_edited, readings_simplified}
 use Rattle.ud_laws.proofs.output.SimplifiedAgain.{lone, sub_fewer}
 use Rattle.ud_model.specs.conditions.Expressions.{Expression}

@@ -116,7 +116,8 @@ end_loose (one_open {h = k} {k = l} s t) a b h e =
 
 text_mark_in : {t u : Tree Reading} {x : Item Reading} → Adds t x u → (r : Reading) → x ≡ text_line r → (kept : Bool) →
     marks_so_far kept u ≡ marks_so_far kept t ++ marked (kept_at_end kept t) Keep ∷ []
-text_mark_in (adds_under {h = h} a) r e kept = simp (append_assoc, text_mark_in a r e (kept && is_inside_kept h))
+text_mark_in (adds_under {h = h} a) r e kept =
+    simp (append_assoc, text_mark_in a r e (kept && is_inside_kept h))
 text_mark_in h r g kept = grind arith
 
 -- A text line is kept if all groups around it are.
@@ -286,7 +287,8 @@ strict_keeps o input (judged_as {xs = ys} {t = u} b) (judged_as {xs = xs} {t = t
 -- The judged lines of a text without a fault are its lines.
 pub judged_are_all : (o : Options) (input : List ℕ) {js : List Judged} {r : Outcome} → JudgedAs o input js → HasOutcome o input r → r.fault ≡ None →
     map (λ (j : Judged). j.line) js ≡ lines_of input
-judged_are_all o input (judged_as a) run e = by_reading a (ap (λ (s : Outcome). s.fault) (one_run (ran_as a) run) ∙ e)
+judged_are_all o input (judged_as a) run e =
+    by_reading a (ap (λ (s : Outcome). s.fault) (one_run (ran_as a) run) ∙ e)
   where
     by_reading : {xs : List (Item Reading)} {t : Tree Reading} {f : Option Fault} → ReadsAs o input xs t f → f ≡ None →
         map (λ (j : Judged). j.line) (judged_lines xs (marks t)) ≡ lines_of input

@@ -1,8 +1,10 @@
 -- Both stacks: what a push and a pop do to the frames, and how much the frames weigh.
-use Rattle.std.proofs.Common.{◌≡◌, ℕ, ◌≤◌, ◌<◌, ◌+◌, ◌-◌, ◌==◌, List, [], ◌∷◌, length, reverse, take, set, Option, Some, None, refl, arith}
+use Rattle.std.proofs.Common.{◌≡◌, ℕ, ◌≤◌, ◌<◌, ◌+◌, ◌-◌, ◌==◌, List, [], ◌∷◌, length, reverse}
+use Rattle.std.proofs.Common.{take, set, Option, Some, None, refl, arith}
 use Rattle.std.specs.Prelude.{slice_get}
 use Rattle.std.proofs.lemmas.Option.{slice_get_within, get_or_from_slice_get}
-use Rattle.std.proofs.lemmas.List.{length-reverse, take_all, length-take-le, reverse-append, take_more, take_more_set}
+use Rattle.std.proofs.lemmas.List.{length-reverse, take_all, length-take-le, reverse-append}
+use Rattle.std.proofs.lemmas.List.{take_more, take_more_set}
 use Rattle.ud_model.specs.conditions.Tokens.{at_end, unreadable, next_token}
 use Rattle.ud_model.specs.conditions.Expressions.{precedence}
 use Rattle.ud_model.specs.conditions.Parsing.{Meaning, ParseState, finish, reads}
@@ -57,7 +59,8 @@ settled-top ws [] j o h l = grind (arith, top)
 settled-top ws (a ∷ vs) j o h l = grind (arith, top)
 
 -- no frame is pending if no operator is
-pub nothing : {A : Type 0} (ws : List PendingOp) (vs : List A) → AreMatched ws vs → (length ws == 0) ≡ is_empty (frames ws vs)
+pub nothing : {A : Type 0} (ws : List PendingOp) (vs : List A) → AreMatched ws vs →
+    (length ws == 0) ≡ is_empty (frames ws vs)
 nothing [] vs m = refl
 nothing (Binary o ∷ ws) [] m = absurd m
 nothing (Binary o ∷ ws) (a ∷ vs) m = grind arith
@@ -65,7 +68,8 @@ nothing (Prefix o ∷ ws) vs m = grind arith
 nothing (Opening ∷ ws) vs m = grind arith
 
 -- what an operation does to the stacks
-pub ruleset stack_steps = (heights, pushed, top, nothing, reverse-append, length-reverse, length-take-le)
+pub ruleset stack_steps =
+    (heights, pushed, top, nothing, reverse-append, length-reverse, length-take-le)
 
 module _ {A : Type 0} (m : Meaning A) where
   -- the meaning so far is that of the state if the text ends, and nothing if the text is unreadable

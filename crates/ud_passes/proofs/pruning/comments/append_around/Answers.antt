@@ -1,5 +1,6 @@
 -- By the scan of the text.
-use Rattle.std.proofs.Common.{arith, ◌≡◌, ℕ, List, [], ◌++◌, map, take, drop, sym, ◌∙◌, ap, ap₂, append_assoc}
+use Rattle.std.proofs.Common.{arith, ◌≡◌, ℕ, List, [], ◌++◌, map, take, drop, sym, ◌∙◌, ap, ap₂}
+use Rattle.std.proofs.Common.{append_assoc}
 use Rattle.ud_model.specs.text.Lexemes.{block_comment, shown, cells_in}
 use Rattle.ud_model.specs.text.Scanning.{scan_after}
 use Rattle.ud_model.specs.aids.LineViews.{as_scan}

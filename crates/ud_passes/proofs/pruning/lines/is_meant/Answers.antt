@@ -1,5 +1,6 @@
 -- By the scan of the line alone.
-use Rattle.std.proofs.Common.{◌≡◌, ℕ, List, [], length, arith, not, ◌&&◌, Bool, true, false, sym, ap}
+use Rattle.std.proofs.Common.{◌≡◌, ℕ, List, [], length, arith, not, ◌&&◌, Bool, true, false, sym}
+use Rattle.std.proofs.Common.{ap}
 use Rattle.ud_model.specs.text.Lines.{Line}
 use Rattle.ud_model.specs.text.Scans.{Scan}
 use Rattle.ud_model.specs.sections.Directives.{Directive, content_of}

@@ -9,7 +9,8 @@ use Rattle.ud_passes.proofs.pruning.texts.prune.Given as goal
 abbrev pub invariant-loop-walk : goal.invariant-loop-walk
 invariant-loop-walk l = record {
   room : l.edited + length l.walk.rest.now ≤ length l.text;
-  pruned : (calls : List Argument) → TableRepresents l.symbols calls → Pruned calls (as_rules l.rules) l.text [] l.edited l.walk l.left.items;
+  pruned : (calls : List Argument) → TableRepresents l.symbols calls →
+      Pruned calls (as_rules l.rules) l.text [] l.edited l.walk l.left.items;
 }
 
 abbrev pub decreases-loop-walk : goal.decreases-loop-walk

@@ -1,5 +1,6 @@
 -- A line more.
-use Rattle.std.proofs.Common.{arith, ◌<◌, ℕ, List, length, take, drop, length-append, append-nil, sym, ◌∙◌, ap}
+use Rattle.std.proofs.Common.{arith, ◌<◌, ℕ, List, length, take, drop, length-append, append-nil}
+use Rattle.std.proofs.Common.{sym, ◌∙◌, ap}
 use Rattle.ud_model.specs.text.Lines.{Line, text_of, split_lines}
 use Rattle.ud_model.specs.aids.LineViews.{as_line}
 use Rattle.ud_text.proofs.lemmas.scan.LongerTextLemmas.{some_left}
