@@ -3,8 +3,10 @@
 //! Each pending parenthesis or prefix operator takes up a byte of the text, and each left operand
 //! with its operator takes two. So as many operators as the text has bytes suffice, and half as
 //! many operands. A stack is cleared as a whole, which is costly for the longest line, so a short
-//! text gets short ones. Rejected: recursion, which needs much of the program's stack for a long
-//! line.
+//! text gets short ones.
+//!
+//! Rejected: recursion, which needs much of the program's stack for a long line; and an array of
+//! operands too, since an array of the parts that `-p` keeps is copied as it is made, twice.
 
 ghost use Rattle.std.specs.Prelude.{◌≡◌, ◌≤◌, ◌+◌, ◌∷◌, [], IfSome, IfNone, IsTrue, false};
 ghost use Rattle.ud_model.specs.conditions.Parsing.{left, before, paren};
