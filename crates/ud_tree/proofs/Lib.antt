@@ -31,3 +31,5 @@ pub mod MeetingLemmas
 pub mod ReadingLemmas
 pub mod EvidenceLemmas
 pub mod SamplingLemmas
+pub mod NamedLemmas
+pub mod EarlyLemmas

@@ -65,6 +65,7 @@ pub(crate) fn list_file<T: Tree>(
 ///
 /// # Errors
 /// `OutOfMemory` if memory can't be allocated. Then no condition was added.
+#[tactic(auto, using(crate::proofs::ShownLemmas::lists_nothing))]
 fn list_text(
     job: &Job<'_>,
     name: &[u8],

@@ -63,6 +63,7 @@ pub(crate) fn replace_file<T: Tree, W: Write, E: Write>(
 
 /// Returns the diff of a changed file, if the arguments ask for it; else nothing. If memory runs
 /// out, the report records that.
+#[tactic(auto, using(crate::specs::Changes::unwanted, crate::specs::Changes::unchanged, crate::specs::Changes::no_memory, crate::specs::Changes::change_shown))]
 fn change_of<E: Write>(
     job: &Job<'_>,
     name: &[u8],
@@ -124,6 +125,7 @@ fn is_change(update: Update) -> bool
 /// # Errors
 /// As `replace_keeping`. `OutOfMemory` also if memory for the new file's name can't be allocated;
 /// then nothing was read.
+#[tactic(auto, using(crate::specs::Runs::no_name))]
 fn replace_named<T: Tree>(
     job: &Job<'_>,
     tree: &mut T,

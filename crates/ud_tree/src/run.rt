@@ -42,6 +42,7 @@ use unifdef::{EXIT_TROUBLE, status_by};
 /// - A directory can't be read, or a file can't be replaced. The other files are.
 /// - The output can't be written.
 /// - A message can't be written. That has no message of its own.
+#[tactic(auto, using(crate::proofs::EarlyLemmas::stops_early))]
 pub fn run_tree<T: Tree, R: Read, W: Write, E: Write>(
     job: &Job<'_>,
     tree: &mut T,

@@ -25,6 +25,7 @@ pub(crate) struct Ran {
 /// # Errors
 /// - `Read` if the file can't be read.
 /// - `ChangedMeanwhile` if it isn't the file that the walk met.
+#[tactic(auto, using(crate::proofs::NamedLemmas::readings))]
 pub(crate) fn read_file<T: Tree>(
     tree: &mut T,
     file: FileAt<'_>,

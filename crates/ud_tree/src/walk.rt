@@ -106,6 +106,7 @@ impl<'w> Walk<'w> {
     ///
     /// # Errors
     /// Fails if memory runs out.
+    #[tactic(auto, using(crate::proofs::NamedLemmas::starts))]
     pub(crate) fn start<T: Tree, E: Write>(
         &mut self,
         tree: &mut T,
@@ -179,6 +180,7 @@ impl<'w> Walk<'w> {
     }
 
     /// Adds a node of the input, if it is a file.
+    #[tactic(auto, using(crate::proofs::NamedLemmas::gives))]
     fn add_given<E: Write>(
         &mut self,
         report: &mut Report<E>,
@@ -243,6 +245,7 @@ impl<'w> Walk<'w> {
 
     /// Adds what a name in a directory leads to. A name that vanished since the directory was
     /// listed is left out.
+    #[tactic(auto, using(crate::proofs::NamedLemmas::unmet))]
     fn visit<T: Tree, E: Write>(
         &mut self,
         tree: &mut T,
@@ -333,6 +336,7 @@ impl<'w> Walk<'w> {
     }
 
     /// Returns the names in a directory. After a fault, which was reported, some may be missing.
+    #[tactic(auto, using(crate::proofs::NamedLemmas::listed_whole))]
     fn list_directory<T: Tree, E: Write>(
         &self,
         tree: &mut T,

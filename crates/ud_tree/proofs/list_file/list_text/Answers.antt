@@ -1,16 +1,10 @@
 -- By the folded text, or by the text itself.
 use Rattle.std.proofs.Common.{List, ℕ, sym, ap, ◌∙◌, subst}
-use Rattle.std.proofs.lemmas.Result.{err_from_is_err_and}
 use Rattle.ud_tree.specs.Remainders.{mode_of}
 use Rattle.ud_tree.specs.Shown.{ListsFolded}
-use Rattle.ud_tree.proofs.ShownLemmas.{lists_folded, lists_itself, lists_nothing}
+use Rattle.ud_tree.proofs.ShownLemmas.{lists_folded, lists_itself}
 use Rattle.ud_tree.proofs.list_file.list_text.Goals as goal
 use Rattle.ud_tree.proofs.list_file.list_text.Goals.{in-Some, in-None}
-
-pub returns-in_err-folded : goal.returns-in_err-folded
-returns-in_err-folded c =
-    let e = err_from_is_err_and c.from_residual.result c.from_residual.ensures.1 in
-    rw (e.1, e.2) (lists_nothing c.args.job.now.arguments.now c.args.names.now)
 
 pub returns : goal.returns
 returns c = elim c.match-folded.branch [

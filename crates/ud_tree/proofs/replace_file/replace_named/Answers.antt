@@ -1,9 +1,6 @@
-use Rattle.std.proofs.Common.{refl, ◌∙◌}
-use Rattle.ud_tree.specs.Runs.{replaces, no_name}
+use Rattle.std.proofs.Common.{◌∙◌}
+use Rattle.ud_tree.specs.Runs.{replaces}
 use Rattle.ud_tree.proofs.replace_file.replace_named.Goals as goal
-
-pub returns-in-Err-clause-replaces : goal.returns-in-Err-clause-replaces
-returns-in-Err-clause-replaces g c = no_name c.requires refl
 
 pub returns-in-Ok-clause-replaces : goal.returns-in-Ok-clause-replaces
 returns-in-Ok-clause-replaces g c =

@@ -8,11 +8,6 @@ use Rattle.ud_tree.proofs.run.run_tree.Goals as goal
 pub returns-in-Err-clause-runs : goal.returns-in-Err-clause-runs
 returns-in-Err-clause-runs g c = no_files c.args.job.now _ c.new-report.ensures c.into_stream.ensures (stops_told (λ ms. no_memory refl) c.in-Err.ensures.no_memory c.line.ensures) refl
 
-pub returns-in-Ok-None-clause-runs : goal.returns-in-Ok-None-clause-runs
-returns-in-Ok-None-clause-runs g c =
-    no_files c.args.job.now _ c.new-report.ensures c.into_stream-in-Ok-None.ensures
-    (rw c.in-Ok-None.field-0-is at (c.in-Ok-None.ensures.ends (ap (λ (r : ReportState). r.faulty) c.new-report.ensures))).stops refl
-
 pub returns-in-Ok-Some-clause-runs : goal.returns-in-Ok-Some-clause-runs
 returns-in-Ok-Some-clause-runs g c =
     ran_from c.args.job.now c.new-report.ensures c.into_stream-in-Ok-Some.ensures

@@ -1,19 +1,12 @@
 -- By what was read.
 use Rattle.ud_tree.specs.Runs.{reads}
-use Rattle.ud_tree.specs.Shown.{unread, other_file}
 use Rattle.ud_tree.proofs.run_file.read_file.Goals as goal
 
 pub returns-in-None-clause-reads : goal.returns-in-None-clause-reads
 returns-in-None-clause-reads g c = reads _ c.in-None.ensures.noted
 
-pub returns-in-None-clause-read : goal.returns-in-None-clause-read
-returns-in-None-clause-read g c = unread _ c.in-None.ensures.noted
-
 pub returns-then-not-is_of-clause-reads : goal.returns-then-not-is_of-clause-reads
 returns-then-not-is_of-clause-reads g c = reads _ c.in-Some.ensures.noted
-
-pub returns-then-not-is_of-clause-read : goal.returns-then-not-is_of-clause-read
-returns-then-not-is_of-clause-read g c = other_file _ _ c.in-Some.ensures.noted
 
 pub returns-else-not-is_of-clause-reads : goal.returns-else-not-is_of-clause-reads
 returns-else-not-is_of-clause-reads g c = reads _ c.in-Some.ensures.noted

@@ -1,15 +1,6 @@
-use Rattle.std.proofs.Common.{true, false, refl}
-use Rattle.ud_tree.specs.WalkSteps.{is_cut, is_silent, is_told, is_whole}
+use Rattle.std.proofs.Common.{false}
+use Rattle.ud_tree.specs.WalkSteps.{is_cut, is_told}
 use Rattle.ud_tree.proofs.walk.Walk.list_directory.Goals as goal
-
-pub returns-then-listed : goal.returns-then-listed
-returns-then-listed g c = record {
-  answer = true;
-  messages = _;
-  called = c.if-listed.ensures.noted;
-  told = is_silent refl;
-  reads = is_whole;
-}
 
 pub returns : goal.returns
 returns g c = record {

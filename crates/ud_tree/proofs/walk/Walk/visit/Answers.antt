@@ -1,11 +1,11 @@
 use Rattle.std.proofs.Common.{◌≡◌, [], ◌∷◌, ◌++◌, refl, string_bytes}
 use Rattle.std.proofs.lemmas.Result.{on_ok_weaker}
-use Rattle.ud_replace.specs.declared.node.Lookup.TheVariants.{Present, Unknown}
+use Rattle.ud_replace.specs.declared.node.Lookup.TheVariants.{Present}
 use Rattle.ud_replace.specs.Calls.{met}
-use Rattle.ud_tree.specs.WalkSteps.{inside, is_bytes, is_silent, is_told, is_vanished}
+use Rattle.ud_tree.specs.WalkSteps.{inside, is_bytes, is_silent, is_told}
 use Rattle.ud_tree.specs.WalkSteps.{Meets, scope_of}
 use Rattle.ud_tree.proofs.CoverLemmas.{on_err_always}
-use Rattle.ud_tree.proofs.LookLemmas.{look_still, look_unmet, loses}
+use Rattle.ud_tree.proofs.LookLemmas.{look_still, loses}
 use Rattle.ud_tree.proofs.LookLemmas.{look_at, look_gained}
 use Rattle.ud_tree.proofs.walk.Walk.visit.Goals as goal
 
@@ -43,26 +43,3 @@ returns-in-Present-clause-look g c =
     (inside c.as_str-whole.result.now c.args.name.now) c.in-Present.node [] c.args.self.now
     c.add_node.new.self). look_at named (look_gained m.gains c.in-Present.ensures
     (is_silent refl) m.looks refl refl)) c.add_node.ensures
-
-pub returns-in-Absent-clause-look : goal.returns-in-Absent-clause-look
-returns-in-Absent-clause-look g c = look_at
-    {path = c.as_str-whole.result.now}
-    (cc (
-      c.as_str-whole.ensures.value,
-      c.in_ok-push_str.ensures.bytes,
-      c.in-Ok.ensures.cases.0,
-      c.in_ok-path.ensures.ok,
-    ))
-    (look_still refl c.in-Absent.ensures (is_silent refl) (is_vanished tt refl))
-
-pub returns-clause-look : goal.returns-clause-look
-returns-clause-look g c = look_at
-    {path = c.as_str-whole.result.now}
-    (cc (
-      c.as_str-whole.ensures.value,
-      c.in_ok-push_str.ensures.bytes,
-      c.in-Ok.ensures.cases.0,
-      c.in_ok-path.ensures.ok,
-    ))
-    (look_unmet Unknown _ refl c.in-Unknown.ensures tt c.as_bytes-in-Unknown.ensures.value
-    c.unknown.ensures)
