@@ -33,3 +33,4 @@ pub mod EvidenceLemmas
 pub mod SamplingLemmas
 pub mod NamedLemmas
 pub mod EarlyLemmas
+pub mod LineLemmas

@@ -187,6 +187,7 @@ fn report_remaining<E: Write>(arguments: &Arguments, report: &mut Report<E>)
 }
 
 /// Writes how many lines define a symbol, if any.
+#[tactic(auto, using(crate::proofs::LineLemmas::defined_steps))]
 fn report_defined<E: Write>(arguments: &Arguments, report: &mut Report<E>)
     ensures { report.old.is_shown ≡ false → Says report.old report.new
         (defined_line arguments.now.list_remaining report.old.remaining.defined) }
@@ -217,6 +218,7 @@ fn report_unnamed<E: Write>(job: &Job<'_>, report: &mut Report<E>, faults: usize
 }
 
 /// Writes how many files of other names name a symbol, if any, and the path of the first.
+#[tactic(auto, using(crate::proofs::LineLemmas::no_others))]
 fn report_others<E: Write>(report: &mut Report<E>, others: &[Found])
     ensures { report.old.is_shown ≡ false → Says report.old report.new
         (others_line (names_of others.now)) }
@@ -234,6 +236,7 @@ fn report_others<E: Write>(report: &mut Report<E>, others: &[Found])
 }
 
 /// Writes how many files of other names couldn't be searched, if any.
+#[tactic(auto, using(crate::proofs::LineLemmas::unsearched_steps))]
 fn report_unsearched<E: Write>(report: &mut Report<E>, count: usize)
     ensures { report.old.is_shown ≡ false →
         Says report.old report.new (unsearched_line count) }

@@ -113,6 +113,7 @@ impl<E: Write> Report<E> {
 
     /// Writes a line for each symbol that no condition names. If that is true of all of several
     /// symbols, one line says so.
+    #[tactic(auto, using(crate::proofs::LineLemmas::unnamed_steps))]
     pub(crate) fn report_unnamed(&mut self, job: &Job<'_>)
         ensures { self.old.is_shown ≡ false → Says self.old self.new
             (unnamed_text job.now.arguments.now

@@ -1,11 +1,7 @@
--- By whether there is a file.
-use Rattle.std.proofs.Common.{sym}
-use Rattle.ud_tree.proofs.ReportLemmas.{says_none, says_same}
-use Rattle.ud_tree.proofs.SummaryLemmas.{others_none, others_told}
+-- There is a file.
+use Rattle.ud_tree.proofs.ReportLemmas.{says_same}
+use Rattle.ud_tree.proofs.SummaryLemmas.{others_told}
 use Rattle.ud_tree.proofs.last_lines.report_others.Goals as goal
-
-pub returns-in_default : goal.returns-in_default
-returns-in_default g c = λ hidden. says_same (sym (others_none c.args.others.now (rw c.in_default.is at c.first.ensures.value))) (says_none _ hidden)
 
 pub returns : goal.returns
 returns g c = λ hidden.
