@@ -97,9 +97,21 @@ pub shows_part : {X : Type 0} (f : X → List ℕ) (xs : List X) (i : ℕ) (d : 
 shows_part f xs i d {h = h} {k = k} {a = a} {c = c} within s t = subst (λ (ys : List ℕ). Shows h ys k a c)
     (flat_map_more f [] (take i xs) (get_or xs i d) ∙ ap (flat_map f) (sym (take_more xs i d within))) (shows_then s t)
 
+-- None waited, and bytes were shown.
+pub shows_next : {h j : Bool} {xs : List ℕ} {a b : Stream} →
+    h ≡ false → Shows false xs j a b → Shows h xs j a b
+shows_next {j = j} {xs = xs} {a = a} {b = b} none s =
+    subst (λ (h : Bool). Shows h xs j a b) (sym none) s
+
 -- No bytes were shown.
 pub shows_none : (h : Bool) (s : Stream) → Shows h [] h s s
 shows_none h s = record { shown = []; sent = sends_none s; is = λ rest. refl }
+
+-- By one byte.
+pub ruleset byte_steps = (common_steps, shows_first, shows_plain, shows_control, shows_next)
+
+-- By the bytes before, and the next one.
+pub ruleset part_steps = (common_steps, shows_none, shows_then, take_more)
 
 -- The contents are all that was written to an empty buffer.
 pub written_all : {s t : Stream} {x y : List ℕ} → Sends s t x → s.failed ≡ false → t.failed ≡ false → s.contents ≡ Some [] → t.contents ≡ Some y → y ≡ x

@@ -168,6 +168,7 @@ fn leaves(rule: Rule<'_>, below: &[u8]) -> bool
 }
 
 /// Returns the effect of the last rule that a file matches, if it matches any.
+#[tactic(auto, using(crate::specs::Choices::undecided))]
 fn last_effect(patterns: &[String], below: &[u8]) -> Option<Effect>
     ensures { Decides below.now (map string_bytes patterns.now) result }
 {

@@ -32,6 +32,7 @@ fn send_shown<W: Write>(out: &mut Watched<W>, byte: u8)
 
 /// Writes a byte, as `\x` and two hexadecimal digits if it is a control character. Returns whether
 /// it is 0xc2, which waits, since the next byte tells whether a control character begins with it.
+#[tactic(auto, using(crate::proofs::VisibleLemmas::byte_steps))]
 fn send_first<W: Write>(out: &mut Watched<W>, byte: u8) -> bool
     ensures { Shows false (byte ∷ []) result (stream_of W.contents out.old)
         (stream_of W.contents out.new) }
@@ -53,6 +54,7 @@ fn send_first<W: Write>(out: &mut Watched<W>, byte: u8) -> bool
 
 /// Writes the byte 0xc2 that waits, if one does, and the next byte. Those of a control character
 /// are written as `\x` and two hexadecimal digits. Returns whether the next byte waits.
+#[tactic(auto, using(crate::proofs::VisibleLemmas::byte_steps))]
 fn send_next<W: Write>(out: &mut Watched<W>, held: bool, byte: u8) -> bool
     ensures { Shows held (byte ∷ []) result (stream_of W.contents out.old)
         (stream_of W.contents out.new) }
@@ -71,6 +73,7 @@ fn send_next<W: Write>(out: &mut Watched<W>, held: bool, byte: u8) -> bool
 
 /// Writes bytes with each byte of a control character as `\x` and two hexadecimal digits, and
 /// before them the byte 0xc2 that waits, if one does. Returns whether the last one waits.
+#[tactic(auto, using(crate::proofs::VisibleLemmas::part_steps))]
 fn send_part<W: Write>(out: &mut Watched<W>, held: bool, bytes: &[u8]) -> bool
     ensures { Shows held bytes.now result (stream_of W.contents out.old)
         (stream_of W.contents out.new) }

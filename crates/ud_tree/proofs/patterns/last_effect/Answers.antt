@@ -1,14 +1,11 @@
 -- By whether the next rule matches.
 use Rattle.std.proofs.Common.{◌≡◌, ◌+◌, ◌++◌, ◌∷◌, [], Option, map, take, string_bytes, sym, subst, ◌∙◌, true≢false}
 use Rattle.ud_tree.specs.declared.patterns.Effect.{Effect}
-use Rattle.ud_tree.specs.Choices.{Decides, undecided, as_rule}
+use Rattle.ud_tree.specs.Choices.{Decides, as_rule}
 use Rattle.ud_tree.proofs.CoverLemmas.{one_more}
 use Rattle.ud_tree.proofs.ChoiceLemmas.{decides_fits, decides_differs}
 use Rattle.ud_tree.proofs.patterns.last_effect.Goals.{then-fits_file, else-fits_file}
 use Rattle.ud_tree.proofs.patterns.last_effect.Goals as goal
-
-pub loop-text-init : goal.loop-text-init
-loop-text-init c = undecided
 
 pub loop-text-preserved : goal.loop-text-preserved
 loop-text-preserved c =

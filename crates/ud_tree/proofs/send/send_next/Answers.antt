@@ -4,9 +4,6 @@ use Rattle.ud_tree.specs.Visible.{begins_upper}
 use Rattle.ud_tree.proofs.VisibleLemmas.{shows_lone, shows_upper}
 use Rattle.ud_tree.proofs.send.send_next.Goals as goal
 
-pub returns-then-not-held : goal.returns-then-not-held
-returns-then-not-held g c = rw c.if-not-held.true c.send_first.ensures
-
 pub returns-then-contains : goal.returns-then-contains
 returns-then-contains g c =
     let is : begins_upper (c.args.byte ∷ []) ≡ true = grind (arith, common_steps) in
