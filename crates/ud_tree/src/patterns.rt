@@ -197,6 +197,7 @@ fn has_only(patterns: &[String]) -> bool
 /// Returns whether a file is chosen, by its path below the path that the command line names. The
 /// last rule that matches decides; the usual patterns come before all rules, unless one takes their
 /// place. A file that a run made beside another one is never chosen.
+#[tactic(auto, using(crate::specs::Choices::is_new))]
 pub(crate) fn chooses(patterns: &[String], below: &[u8]) -> bool
     ensures { Chooses (map string_bytes patterns.now) below.now result }
 {

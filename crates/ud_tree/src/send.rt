@@ -86,6 +86,7 @@ fn send_part<W: Write>(out: &mut Watched<W>, held: bool, bytes: &[u8]) -> bool
 }
 
 /// Writes parts in order, with each byte of a control character as `\x` and two hexadecimal digits.
+#[tactic(auto, using(crate::proofs::VisibleLemmas::part_steps))]
 pub(crate) fn send_visible_parts<W: Write>(out: &mut Watched<W>, parts: &[&[u8]])
     ensures { Sends (stream_of W.contents out.old) (stream_of W.contents out.new)
         (visible (flat_map (λ p. p.now) parts.now)) }

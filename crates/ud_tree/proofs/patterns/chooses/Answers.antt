@@ -1,11 +1,8 @@
 -- By the last rule that matches.
 use Rattle.std.proofs.Common.{ap, sym, ◌∙◌}
-use Rattle.ud_tree.specs.Choices.{is_fresh, is_new}
+use Rattle.ud_tree.specs.Choices.{is_fresh}
 use Rattle.ud_tree.proofs.ChoiceLemmas.{chooses_decided, chooses_usual}
 use Rattle.ud_tree.proofs.patterns.chooses.Goals as goal
-
-pub returns-then-is_fresh : goal.returns-then-is_fresh
-returns-then-is_fresh c = is_new (ap is_fresh (sym c.last_name-name.ensures) ∙ sym c.is_fresh.ensures ∙ c.if-is_fresh.true)
 
 pub returns-in-Some : goal.returns-in-Some
 returns-in-Some c = chooses_decided c.in-Some.effect (ap is_fresh (sym c.last_name-name.ensures) ∙ sym c.is_fresh.ensures ∙ c.if-is_fresh.false) c.in-Some.is c.last_effect.ensures c.chooses.ensures

@@ -1,11 +1,7 @@
-use Rattle.std.proofs.Common.{Bor, List, ℕ, [], false}
+use Rattle.std.proofs.Common.{Bor, List, ℕ, []}
 use Rattle.std.proofs.lemmas.List.{take_all}
-use Rattle.ud_io.specs.Streams.{stream_of}
-use Rattle.ud_tree.proofs.VisibleLemmas.{shows_none, shows_part, shows_rest, shows_whole}
+use Rattle.ud_tree.proofs.VisibleLemmas.{shows_part, shows_rest, shows_whole}
 use Rattle.ud_tree.proofs.send.send_visible_parts.Goals as goal
-
-pub loop-part-init : goal.loop-part-init
-loop-part-init g c = shows_none false (stream_of g.W.Write.contents c.args.out.now)
 
 pub loop-part-preserved : goal.loop-part-preserved
 loop-part-preserved g c = shows_part (λ (p : Bor (List ℕ)). p.now) c.args.parts.now c.loop-part.part-index (record { ref_ptr = (0, 0); now = [] }) c.loop-part-test.true
