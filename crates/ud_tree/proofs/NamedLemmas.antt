@@ -10,6 +10,7 @@ use Rattle.ud_replace.specs.declared.node.NodeKind.TheVariants.{File, Directory,
 use Rattle.ud_replace.specs.declared.stat.FileStat.{FileStat}
 use Rattle.ud_replace.specs.Calls.{Call, was_read, walked, met, followed, listed}
 use Rattle.ud_tree.specs.declared.walk.Walk.{Walk}
+use Rattle.ud_tree.specs.Changes.{unwanted, unchanged, no_memory, change_shown}
 use Rattle.ud_tree.specs.Reports.{ReportState, ReportsOf}
 use Rattle.ud_tree.specs.Shown.{IsUnread, unread, other_file}
 use Rattle.ud_tree.specs.WalkMessages.{IsRefusal}
@@ -110,8 +111,15 @@ pub loses_followed : (path : List ℕ) (node : Node) (answer : Bool) (calls : Li
 loses_followed path node answer calls r =
     loses (followed path answer ∷ met path (Present node) ∷ []) (refl, (refl, tt)) refl refl
 
-pub ruleset starts = (looks_absent, looks_unknown, looks_file, looks_directory, looks_in,
-    loses_met, loses_followed)
+pub ruleset starts = (
+  looks_absent,
+  looks_unknown,
+  looks_file,
+  looks_directory,
+  looks_in,
+  loses_met,
+  loses_followed,
+)
 
 -- 5. Something was met at a path of the input.
 
@@ -152,3 +160,7 @@ given_link path node w r is =
     given_left path node w r (subst (Leaves nowhere (given path)) (sym is) tt)
 
 pub ruleset gives = (given_file, given_directory, given_link)
+
+-- 6. A change is shown or not.
+
+pub ruleset changes = (unwanted, unchanged, no_memory, change_shown)

@@ -63,7 +63,7 @@ pub(crate) fn replace_file<T: Tree, W: Write, E: Write>(
 
 /// Returns the diff of a changed file, if the arguments ask for it; else nothing. If memory runs
 /// out, the report records that.
-#[tactic(auto, using(crate::specs::Changes::unwanted, crate::specs::Changes::unchanged, crate::specs::Changes::no_memory, crate::specs::Changes::change_shown))]
+#[tactic(auto, using(crate::proofs::NamedLemmas::changes))]
 fn change_of<E: Write>(
     job: &Job<'_>,
     name: &[u8],
