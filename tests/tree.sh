@@ -1,6 +1,7 @@
 #!/usr/bin/env bash
 # Runs unifdef-tree over trees with every trap that its manual names, and kills it at each system
-# call: in $TMPDIR and, if they are there, in /dev/shm and in file systems of other kinds.
+# call on the tree: in $TMPDIR and, if they are there, in /dev/shm and in file systems of other
+# kinds.
 #
 #   tests/tree.sh                     all tests
 #   tests/tree.sh SUBJECT|TEST ..     those of tests/tree/SUBJECT.sh, or one function there
