@@ -95,6 +95,8 @@ class Trouble(ValueError):
 def run(text: ReadableBuffer, *arguments: Word) -> Answer:
     """Returns the answer of unifdef(1) to `text` and these arguments, even if it is a fault.
 
+    Raises `ValueError` if an argument has a zero byte.
+
     >>> run(b"#if A\\nx\\n#endif\\n", "-DA=1")
     Answer(output=b'x\\n', message='', status=1)
     >>> run(b"x\\n#endif\\n", "-DA", "a.c")
