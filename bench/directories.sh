@@ -24,8 +24,9 @@ for other in 'rg -uuu -j1 -l NOFILEHASIT .' "$released" "$cat"; do
   ! command -v "${other%% *}" > /dev/null || commands+=(-n "$other" "$other")
 done
 find . -type f -printf '%s\n' | awk '{ n += $1 } END { print NR " files, " n " bytes" }'
-hyperfine "${commands[@]}" 2> /dev/null
+# Before the released program, which makes files of symbolic links.
 { "$program" -n $nowhere -- . 2>&1 > /dev/null || true; } | grep 'would change'
+hyperfine "${commands[@]}" 2> /dev/null
 printf '\n| command, in that directory | seconds | times `cat` |\n| --- | --- | --- |\n'
 python3 -c 'import json, sys
 rows = [(it["command"], it["user"] + it["system"]) for it in json.load(sys.stdin)["results"]]
