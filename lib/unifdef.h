@@ -27,7 +27,7 @@ extern "C" {
 #endif
 
 /* The version of this header, as text and as a number: major * 10000 + minor * 100. */
-#define UNIFDEF_VERSION_STRING "1.0-dev"
+#define UNIFDEF_VERSION_STRING "1.0"
 #define UNIFDEF_VERSION 10000
 
 /*

@@ -27,7 +27,7 @@ use ud_tree::{
 };
 
 /// The version that `-V` prints.
-const VERSION: &str = "unifdef-tree 1.0-dev";
+const VERSION: &str = "unifdef-tree 1.0";
 
 /// The number of the last standard stream.
 const STDERR: i32 = 2;

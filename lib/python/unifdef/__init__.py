@@ -51,7 +51,7 @@ __all__ = [
     "strip_chunks",
     "version",
 ]
-__version__ = "1.0-dev"
+__version__ = "1.0"
 
 
 def __dir__() -> list[str]:
